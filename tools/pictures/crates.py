@@ -5,9 +5,9 @@ BOX, ROW, STEP, TEXT, CHARACTER = 22, 34, 160, 11, 6.9
 SWEEPS, POINTS = 24, 12
 # What a crate is coloured by: the first of its parts that stands on these, or it is one of them.
 GROUPS = [({"silc_main", "silc_tests", "silc_show", "silc"}, SKY, "the commands"),
-          ({"planner", "plan_core", "microcode_asm", "plan_run"}, GREEN, "plans"),
+          ({"planner", "plan_core", "microcode_asm", "plan_soundness"}, GREEN, "plans"),
           ({"micro_image"}, YELLOW, "the machine"),
-          ({"silage_lex", "ranked_faults"}, AMBER, "sources")]
+          ({"silage_lex", "fault_order"}, AMBER, "sources")]
 PLAIN = "#ffffff"
 
 

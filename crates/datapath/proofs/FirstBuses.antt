@@ -13,9 +13,9 @@ use Rattle.std.proofs.lemmas.Slice.Eq.{bytes_eq-Decides}
 use Rattle.lists.proofs.Places.{some_is as some_same}
 use Rattle.lists.proofs.Zips.{zip_push, zip_length}
 use Rattle.toml.specs.Data.{Members}
-use Rattle.ranked_faults.specs.Rules.{parts, each_from}
-use Rattle.ranked_faults.specs.Private.FirstMet.{first}
-use Rattle.ranked_faults.proofs.TableFaults.{then_ok}
+use Rattle.fault_order.specs.Rules.{parts, each_from}
+use Rattle.fault_order.specs.Private.FirstMet.{first}
+use Rattle.fault_order.proofs.TableFaults.{then_ok}
 use Rattle.datapath.specs.declared.fault.Section.{Section}
 use Rattle.datapath.specs.declared.fault.Section.TheVariants as section
 use Rattle.datapath.specs.declared.fault.PathFault.TheVariants.{UnknownUnit, UnknownPort, Twice}

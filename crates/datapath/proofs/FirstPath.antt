@@ -4,10 +4,10 @@ use Rattle.std.proofs.Common.{nat_le, refl, ap, sym, ◌∙◌, subst, inl, inr,
 use Rattle.std.proofs.lemmas.Bool.{cases_lt}
 use Rattle.std.proofs.lemmas.Bool.Decides.{nat_tests}
 use Rattle.toml.specs.Data.{Members}
-use Rattle.ranked_faults.specs.Rules.{none, ◌▸◌, faults}
-use Rattle.ranked_faults.specs.Private.FirstMet.{first, first_in}
-use Rattle.ranked_faults.proofs.FirstFaults.{Answers, one_first}
-use Rattle.ranked_faults.proofs.TableFaults.{then_ok, first_answers, single_faults}
+use Rattle.fault_order.specs.Rules.{none, ◌▸◌, faults}
+use Rattle.fault_order.specs.Private.FirstMet.{first, first_in}
+use Rattle.fault_order.proofs.FirstFaults.{Answers, one_first}
+use Rattle.fault_order.proofs.TableFaults.{then_ok, first_answers, single_faults}
 use Rattle.datapath.specs.declared.fault.Section.TheVariants as section
 use Rattle.datapath.specs.declared.fault.PathFault.{PathFault}
 use Rattle.datapath.specs.declared.types.Datapath.{Datapath}

@@ -4,8 +4,8 @@ use Rattle.std.proofs.Common.{if◌then◌else◌, Result, Ok, Err, refl, ap, sy
 use Rattle.std.specs.Prelude.{unwrap_or}
 use Rattle.std.proofs.lemmas.List.{length_push}
 use Rattle.toml.specs.Data.{Members}
-use Rattle.ranked_faults.specs.Rules.{Rules, parts, unless, each_from}
-use Rattle.ranked_faults.specs.Private.FirstMet.{first, first_in, ◌>>◌}
+use Rattle.fault_order.specs.Rules.{Rules, parts, unless, each_from}
+use Rattle.fault_order.specs.Private.FirstMet.{first, first_in, ◌>>◌}
 use Rattle.datapath.specs.declared.fault.Section.{Section}
 use Rattle.datapath.specs.declared.fault.Misfit.{Misfit}
 use Rattle.datapath.specs.declared.fault.Misfit.TheVariants as misfit

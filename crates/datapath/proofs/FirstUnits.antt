@@ -7,8 +7,8 @@ use Rattle.std.specs.Option.{ok_or}
 use Rattle.std.specs.Str.{bytes_eq}
 use Rattle.std.proofs.lemmas.List.{take_at, length-map, length_push}
 use Rattle.toml.specs.Data.{Members}
-use Rattle.ranked_faults.specs.Rules.{RuleRow, parts, unless, each_from}
-use Rattle.ranked_faults.specs.Private.FirstMet.{first, first_in}
+use Rattle.fault_order.specs.Rules.{RuleRow, parts, unless, each_from}
+use Rattle.fault_order.specs.Private.FirstMet.{first, first_in}
 use Rattle.datapath.specs.declared.fault.Section.{Section}
 use Rattle.datapath.specs.declared.fault.Section.TheVariants as section
 use Rattle.datapath.specs.declared.fault.PathFault.{PathFault}

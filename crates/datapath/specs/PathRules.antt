@@ -6,8 +6,8 @@ use Rattle.std.specs.Result.{result_ok}
 use Rattle.std.specs.Str.{bytes_eq, is_utf8}
 use Rattle.toml.specs.Data.{Members, get_member}
 use Rattle.toml.specs.Parse.{parse_document}
-use Rattle.ranked_faults.specs.Ranked.{IsFirst}
-use Rattle.ranked_faults.specs.Rules.{Rules, RuleRow, parts, own, none, ◌▸◌, unless, each_from, faults}
+use Rattle.fault_order.specs.Ranked.{IsFirst}
+use Rattle.fault_order.specs.Rules.{Rules, RuleRow, parts, own, none, ◌▸◌, unless, each_from, faults}
 use Rattle.datapath.specs.declared.fault.Section.{Section}
 use Rattle.datapath.specs.declared.fault.Section.TheVariants as section
 use Rattle.datapath.specs.declared.fault.Misfit.{Misfit}

@@ -8,7 +8,7 @@ use Rattle.signal_graph.specs.GraphRules.{IsGraph}
 use Rattle.signal_graph.specs.declared.graph.Graph.{Graph}
 use Rattle.plan_core.specs.Operands.{no_edge}
 use Rattle.plan_core.specs.Lowered.{IsReadAgo}
-use Rattle.plan_run.proofs.Elements.{nth_past}
+use Rattle.plan_soundness.proofs.Elements.{nth_past}
 use Rattle.delay_memory.specs.Private.Delays.{delays_at, AreDelays, AreFew}
 use Rattle.delay_memory.proofs.ReadSteps.{reader}
 

@@ -12,7 +12,7 @@ use Rattle.std.specs.List.Sorted.{IsStrictlyIncreasing}
 use Rattle.datapath.specs.declared.types.Datapath.{Datapath}
 use Rattle.plan_core.specs.Lowered.{own, IsNumber, used, HasRoom, IsNextLine, AreLines, line_of, no_line, stored}
 use Rattle.plan_core.specs.declared.delay_lines.Line.{Line}
-use Rattle.plan_run.proofs.Elements.{default_any}
+use Rattle.plan_soundness.proofs.Elements.{default_any}
 use Rattle.delay_memory.specs.Private.Delays.{delays_at}
 use Rattle.delay_memory.specs.Private.Lines.{AreUsed, IsLongest, IsPlacedLine, IsNoRoom, IsPlaceFault, Places}
 use Rattle.delay_memory.specs.Private.Lines.{AreLinesBefore, IsStop}

@@ -19,9 +19,9 @@ use Rattle.plan_core.specs.Heights.{ReadsNow}
 use Rattle.plan_core.specs.Lowered.{Origin, own, address, store, load, origins, IsNumber, IsLoweredEdge, IsOwnOver}
 use Rattle.plan_core.specs.Lowered.{IsMadeOver, IsLoweredOver, edge_now}
 use Rattle.plan_core.specs.declared.delay_lines.Lowered.{Lowered}
-use Rattle.plan_run.proofs.Elements.{nth_past, default_any}
-use Rattle.plan_run.proofs.FromLowered.{zip_edge, same_operands}
-use Rattle.plan_run.proofs.Origins.{numbered}
+use Rattle.plan_soundness.proofs.Elements.{nth_past, default_any}
+use Rattle.plan_soundness.proofs.FromLowered.{zip_edge, same_operands}
+use Rattle.plan_soundness.proofs.Origins.{numbered}
 use Rattle.delay_memory.specs.Private.Delays.{AreDelays}
 use Rattle.delay_memory.proofs.Counts.{delays_few}
 use Rattle.delay_memory.proofs.NumberSteps.{origins_few}

@@ -27,8 +27,8 @@ use Rattle.plan_core.specs.Lowered.{Origin, own, address, load, origins_of, IsNu
 use Rattle.plan_core.specs.Lowered.{no_line, IsLoweredEdge, IsLineOf, IsOwnOver, IsMadeOver, address_node, load_node}
 use Rattle.plan_core.specs.declared.delay_lines.Line.{Line}
 use Rattle.plan_core.specs.declared.delay_lines.Lowered.{Lowered}
-use Rattle.plan_run.proofs.Elements.{default_any}
-use Rattle.plan_run.proofs.FromLowered.{none_past}
+use Rattle.plan_soundness.proofs.Elements.{default_any}
+use Rattle.plan_soundness.proofs.FromLowered.{none_past}
 use Rattle.delay_memory.specs.Private.Delays.{delays_at, AreDelays}
 use Rattle.delay_memory.specs.Private.Lines.{lines_before}
 use Rattle.delay_memory.specs.Private.Nodes.{load_nodes, line_nodes, IsLayout, IsLaid, IsCopy, AreLaidOut}

@@ -12,8 +12,8 @@ use Rattle.std.proofs.lemmas.List.Concat.{length-flat_map}
 use Rattle.std.proofs.lemmas.List.Sums.{sum_by-le}
 use Rattle.std.proofs.lemmas.Grind.{flat_map-append}
 use Rattle.plan_core.specs.Lowered.{Origin, own, address, store, load, origins_of, origins, IsNumber}
-use Rattle.plan_run.proofs.Elements.{default_any}
-use Rattle.plan_run.proofs.Origins.{first_of, own_number, number_of, own_once, piece}
+use Rattle.plan_soundness.proofs.Elements.{default_any}
+use Rattle.plan_soundness.proofs.Origins.{first_of, own_number, number_of, own_once, piece}
 use Rattle.delay_memory.specs.Private.Delays.{delays_at, AreFew}
 use Rattle.delay_memory.proofs.Stored.{entry}
 use Rattle.delay_memory.specs.Private.Numbers.{number_in, AreNumbers}

@@ -27,7 +27,7 @@ use Rattle.delay_memory.specs.Private.Nodes.{AreLaidOut, AreMadeBefore}
 use Rattle.delay_memory.proofs.NumberSteps.{origins_all}
 use Rattle.delay_memory.specs.declared.fault.LineFault.{LineFault}
 use Rattle.delay_memory.specs.declared.fault.LineFault.TheVariants.{NoRam, LinesFull, NoAcu, Memory}
-use Rattle.plan_run.proofs.Elements.{default_any}
+use Rattle.plan_soundness.proofs.Elements.{default_any}
 use Rattle.delay_memory.proofs.Stored.{stored_once}
 use Rattle.delay_memory.proofs.OneLine.{stands_once, one_lines, goes_on}
 

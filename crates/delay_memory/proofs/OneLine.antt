@@ -15,7 +15,7 @@ use Rattle.plan_core.specs.Lowered.{Origin, own, address, store, load, origins_o
 use Rattle.plan_core.specs.Lowered.{AreLines, line_of, no_line}
 use Rattle.plan_core.specs.declared.delay_lines.Line.{Line}
 use Rattle.plan_core.proofs.OneLowered.{StandsOnce, one_next}
-use Rattle.plan_run.proofs.Origins.{at_piece, piece, first_of, belongs}
+use Rattle.plan_soundness.proofs.Origins.{at_piece, piece, first_of, belongs}
 use Rattle.delay_memory.specs.Private.Delays.{delays_at}
 use Rattle.delay_memory.proofs.Stored.{entry}
 use Rattle.delay_memory.proofs.NumberSteps.{loads}

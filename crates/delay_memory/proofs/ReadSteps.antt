@@ -22,8 +22,8 @@ use Rattle.signal_graph.specs.GraphRules.{IsGraph, IsEdge}
 use Rattle.signal_graph.specs.GraphSolves.{no_node}
 use Rattle.plan_core.specs.Operands.{node_of, edge_of, no_edge, delay_at}
 use Rattle.plan_core.specs.Lowered.{IsReadAgo, AreLongDelays}
-use Rattle.plan_run.proofs.Elements.{nth_past, default_any}
-use Rattle.plan_run.proofs.FromLowered.{none_past}
+use Rattle.plan_soundness.proofs.Elements.{nth_past, default_any}
+use Rattle.plan_soundness.proofs.FromLowered.{none_past}
 use Rattle.delay_memory.specs.Private.Delays.{delays_at, IsLongRead, AddsRead, AreReadsBefore, AreDelays}
 use Rattle.delay_memory.specs.Private.Delays.{AreRisenBefore}
 

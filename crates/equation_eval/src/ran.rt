@@ -2,7 +2,7 @@
 
 ghost use Rattle.std.specs.Prelude.{◌≡◌};
 
-use past::Past;
+use ghost_lists::Past;
 
 /// The words of a row.
 #[inline(always)]

@@ -3,18 +3,18 @@ use Rattle.std.proofs.Common.{◌≡◌, ◌≢◌, ◌∙◌, ◌+◌, ◌<◌,
 use Rattle.std.proofs.Common.{drop, length, get_or, sym, ap, subst, append-nil}
 use Rattle.std.specs.Global.{Global}
 use Rattle.std.proofs.lemmas.List.{drop_more, drop_all}
-use Rattle.ranked_faults.specs.Rules.{parts}
-use Rattle.ranked_faults.specs.Private.FirstMet.{first, ◌>>◌}
+use Rattle.fault_order.specs.Rules.{parts}
+use Rattle.fault_order.specs.Private.FirstMet.{first, ◌>>◌}
 use Rattle.fix_word.specs.declared.types.SigType.{SigType}
 use Rattle.fix_word.specs.declared.types.SigType.TheVariants.{Bool as Truths}
 use Rattle.silage_syntax.specs.declared.tree.Expr.{Expr as RustExpr, Choose}
 use Rattle.silage_syntax.specs.Tree.{Func, Program, choose, view_expr, view_arms}
-use Rattle.typed_source.specs.TypeRules.{expr_rules, branch_rules}
-use Rattle.typed_source.specs.TypedTree.{TypedExpr, view_expr as view_typed}
-use Rattle.typed_source.specs.Translation.{typed_expr, chosen}
-use Rattle.typed_source.specs.declared.fault.TypeFault.{TypeFault}
-use Rattle.typed_source.specs.declared.fault.TypeFault.TheVariants.{Memory}
-use Rattle.typed_source.specs.declared.typed.TypedExpr.{TypedExpr as RustTyped}
+use Rattle.type_rules.specs.TypeRules.{expr_rules, branch_rules}
+use Rattle.type_rules.specs.TypedTree.{TypedExpr, view_expr as view_typed}
+use Rattle.type_rules.specs.Translation.{typed_expr, chosen}
+use Rattle.type_rules.specs.declared.fault.TypeFault.{TypeFault}
+use Rattle.type_rules.specs.declared.fault.TypeFault.TheVariants.{Memory}
+use Rattle.type_rules.specs.declared.typed.TypedExpr.{TypedExpr as RustTyped}
 use Rattle.fix_types.specs.Private.Answers.{Types, TypesPairs}
 use Rattle.fix_types.specs.Private.Choosing.{nested, view_pairs, typed_pairs}
 use Rattle.fix_types.proofs.Choices.{choice_is}

@@ -9,10 +9,10 @@ use Rattle.silage_syntax.specs.declared.tree.Expr.{Expr as RustExpr, Choose}
 use Rattle.silage_syntax.specs.Tree.{Func, Program, choose, view_expr, view_arms}
 use Rattle.silage_syntax.proofs.Rows.{view_Choose}
 use Rattle.silage_meaning.specs.Types.{own_type, branches_type}
-use Rattle.typed_source.specs.declared.fault.TypeFault.{TypeFault}
-use Rattle.typed_source.specs.declared.typed.TypedExpr.{TypedExpr as RustTyped}
+use Rattle.type_rules.specs.declared.fault.TypeFault.{TypeFault}
+use Rattle.type_rules.specs.declared.typed.TypedExpr.{TypedExpr as RustTyped}
 use Rattle.fix_types.specs.Private.Answers.{Types}
-use Rattle.typed_source.specs.Private.Sound.{IsSound, AreSound, HasTypedReads, HaveTypedReads}
+use Rattle.type_rules.specs.Private.Sound.{IsSound, AreSound, HasTypedReads, HaveTypedReads}
 
 module _ (e : RustExpr) (at : ℕ) (v : Vec (RustExpr × RustExpr) Global) (b : Box RustExpr Global)
     (is : e ≡ Choose at v b) (arms : List (RustExpr × RustExpr)) (last : RustExpr) (a : arms ≡ v.items)

@@ -1,20 +1,20 @@
 -- How the answer of a call follows from those of the calls in it.
 use Rattle.std.proofs.Common.{◌≡◌, ◌≢◌, ◌∙◌, ℕ, List, [], ◌∷◌, ◌++◌, None, Result, Ok, Err, IsErrAnd, refl, sym, ap}
 use Rattle.std.proofs.lemmas.List.{map-append}
-use Rattle.ranked_faults.specs.Rules.{Rules, parts}
-use Rattle.ranked_faults.specs.Private.FirstMet.{first, ◌>>◌}
+use Rattle.fault_order.specs.Rules.{Rules, parts}
+use Rattle.fault_order.specs.Private.FirstMet.{first, ◌>>◌}
 use Rattle.fix_word.specs.declared.types.Format.{Format}
 use Rattle.fix_word.specs.declared.types.SigType.{SigType}
 use Rattle.fix_word.specs.declared.types.SigType.TheVariants.{Bool as Truths}
 use Rattle.fix_word.specs.declared.operation.Op.TheVariants as does
 use Rattle.silage_syntax.specs.Tree.{Expr, Branches, no_branch, branch, choose, Func, Program}
-use Rattle.typed_source.specs.TypeRules.{expr_rules, branch_rules}
-use Rattle.typed_source.specs.TypedTree.{TypedExpr, node, view_expr}
-use Rattle.typed_source.specs.Translation.{typed_expr, typed_choice, chosen, three}
-use Rattle.typed_source.specs.declared.fault.TypeFault.{TypeFault}
-use Rattle.typed_source.specs.declared.fault.TypeFault.TheVariants.{Memory}
+use Rattle.type_rules.specs.TypeRules.{expr_rules, branch_rules}
+use Rattle.type_rules.specs.TypedTree.{TypedExpr, node, view_expr}
+use Rattle.type_rules.specs.Translation.{typed_expr, typed_choice, chosen, three}
+use Rattle.type_rules.specs.declared.fault.TypeFault.{TypeFault}
+use Rattle.type_rules.specs.declared.fault.TypeFault.TheVariants.{Memory}
 use Rattle.fix_types.specs.declared.plans.Plan.{Plan}
-use Rattle.typed_source.specs.declared.typed.TypedExpr.{TypedExpr as RustExpr}
+use Rattle.type_rules.specs.declared.typed.TypedExpr.{TypedExpr as RustExpr}
 use Rattle.fix_types.specs.Private.Answers.{GivesAs, Gives, Types}
 use Rattle.fix_types.specs.Private.Choosing.{nested, view_pairs, typed_pairs}
 use Rattle.fix_types.specs.Private.Plans.{IsPlan, joined}

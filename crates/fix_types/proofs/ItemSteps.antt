@@ -5,8 +5,8 @@ use Rattle.std.specs.Prelude.{All}
 use Rattle.std.specs.Global.{Global}
 use Rattle.std.proofs.lemmas.Bool.{cases_lt}
 use Rattle.std.proofs.lemmas.List.{drop_more, drop_all, get_or-map, length-map}
-use Rattle.ranked_faults.specs.Rules.{parts, none}
-use Rattle.ranked_faults.specs.Private.FirstMet.{first}
+use Rattle.fault_order.specs.Rules.{parts, none}
+use Rattle.fault_order.specs.Private.FirstMet.{first}
 use Rattle.silage_syntax.specs.declared.tree.Decl.{Decl}
 use Rattle.silage_syntax.specs.declared.tree.Expr.{Expr as RustExpr}
 use Rattle.silage_syntax.specs.declared.tree.Item.{Item as RustItem, Loop}
@@ -15,17 +15,17 @@ use Rattle.silage_syntax.specs.declared.tree.Place.{Place as RustPlace}
 use Rattle.silage_syntax.specs.Tree.{Items, no_item, item, loop, Place, Expr, Func, Program, view_expr, view_place}
 use Rattle.silage_syntax.specs.Tree.{view_manifest, view_item, view_items}
 use Rattle.silage_syntax.proofs.Rows.{view_Loop}
-use Rattle.typed_source.specs.TypeRules.{item_rules, items_rules, argument_rules, place_rules}
-use Rattle.typed_source.specs.TypedTree.{TypedItem, TypedExpr, items_of, view_expr as view_typed}
-use Rattle.typed_source.specs.TypedTree.{view_item as view_typed_item, view_items as view_typed_items}
-use Rattle.typed_source.specs.TypedTree as typed
-use Rattle.typed_source.specs.Translation.{typed_item, typed_items, typed_arguments}
-use Rattle.typed_source.specs.declared.fault.TypeFault.{TypeFault}
-use Rattle.typed_source.specs.declared.fault.TypeFault.TheVariants.{Memory}
-use Rattle.typed_source.specs.declared.typed.TypedItem.{TypedItem as RustTypedItem}
+use Rattle.type_rules.specs.TypeRules.{item_rules, items_rules, argument_rules, place_rules}
+use Rattle.type_rules.specs.TypedTree.{TypedItem, TypedExpr, items_of, view_expr as view_typed}
+use Rattle.type_rules.specs.TypedTree.{view_item as view_typed_item, view_items as view_typed_items}
+use Rattle.type_rules.specs.TypedTree as typed
+use Rattle.type_rules.specs.Translation.{typed_item, typed_items, typed_arguments}
+use Rattle.type_rules.specs.declared.fault.TypeFault.{TypeFault}
+use Rattle.type_rules.specs.declared.fault.TypeFault.TheVariants.{Memory}
+use Rattle.type_rules.specs.declared.typed.TypedItem.{TypedItem as RustTypedItem}
 use Rattle.fix_types.specs.Private.Answers.{GivesItem, GivesItems}
 use Rattle.fix_types.specs.Private.ItemLists.{typed_list}
-use Rattle.typed_source.specs.Private.Sound.{IsSoundItem, AreSoundItems, HasTypedNames, HaveTypedNames}
+use Rattle.type_rules.specs.Private.Sound.{IsSoundItem, AreSoundItems, HasTypedNames, HaveTypedNames}
 use Rattle.fix_types.proofs.Given.{first_fails, fault_given}
 
 loop_is : (x : RustItem) (index : List ℕ) (lo hi : RustManifest) (v : Vec RustItem Global) (at : ℕ)

@@ -6,8 +6,8 @@ use Rattle.silage_syntax.specs.declared.tree.ConstDef.{ConstDef}
 use Rattle.silage_syntax.specs.Tree.{Func, Program}
 use Rattle.silage_syntax.specs.Names.{table_named}
 use Rattle.silage_meaning.specs.Types.{name_type, table_type}
-use Rattle.typed_source.specs.Private.Signals.{signal_type}
-use Rattle.typed_source.specs.Private.Sound.{IsSoundType, HasSoundTypes}
+use Rattle.type_rules.specs.Private.Signals.{signal_type}
+use Rattle.type_rules.specs.Private.Sound.{IsSoundType, HasSoundTypes}
 
 module _ (p : Program) (f : Func) (name : List ℕ) where
   pub signal_found : (o : Option SigType) (ty : SigType)

@@ -4,18 +4,18 @@ use Rattle.std.proofs.Common.{get_or, Result, Ok, Err, IsErrAnd, refl, sym, ap, 
 use Rattle.std.proofs.Common.{arith}
 use Rattle.std.specs.Prelude.{All}
 use Rattle.std.proofs.lemmas.List.{drop_more, drop_all, drop-map, get_or-map, length-map}
-use Rattle.ranked_faults.specs.Rules.{parts, each}
-use Rattle.ranked_faults.specs.Private.FirstMet.{first, ◌>>◌}
+use Rattle.fault_order.specs.Rules.{parts, each}
+use Rattle.fault_order.specs.Private.FirstMet.{first, ◌>>◌}
 use Rattle.silage_syntax.specs.declared.tree.Top.{Top as RustTop}
 use Rattle.silage_syntax.specs.Tree.{Top, table, function, Program, view_top}
 use Rattle.silage_syntax.specs.Names.{as_table}
-use Rattle.typed_source.specs.TypeRules.{top_rules, type_rules}
-use Rattle.typed_source.specs.TypedTree.{Typed, TypedFunc, view_typed}
-use Rattle.typed_source.specs.Translation.{typed_table, typed_func, typed_funcs, typed_program}
-use Rattle.typed_source.specs.declared.fault.TypeFault.{TypeFault}
-use Rattle.typed_source.specs.declared.fault.TypeFault.TheVariants.{Memory}
-use Rattle.typed_source.specs.declared.typed.Typed.{Typed as RustTyped}
-use Rattle.typed_source.specs.declared.typed.TypedConst.{TypedConst}
+use Rattle.type_rules.specs.TypeRules.{top_rules, type_rules}
+use Rattle.type_rules.specs.TypedTree.{Typed, TypedFunc, view_typed}
+use Rattle.type_rules.specs.Translation.{typed_table, typed_func, typed_funcs, typed_program}
+use Rattle.type_rules.specs.declared.fault.TypeFault.{TypeFault}
+use Rattle.type_rules.specs.declared.fault.TypeFault.TheVariants.{Memory}
+use Rattle.type_rules.specs.declared.typed.Typed.{Typed as RustTyped}
+use Rattle.type_rules.specs.declared.typed.TypedConst.{TypedConst}
 use Rattle.fix_types.specs.Private.Answers.{GivesAs, with_top}
 use Rattle.fix_types.proofs.Given.{first_fails, fault_given}
 

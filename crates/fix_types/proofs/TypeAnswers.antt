@@ -2,25 +2,25 @@
 use Rattle.std.proofs.Common.{◌≡◌, ◌≢◌, ◌⊎◌, refl, subst, inl, inr, Result, Ok, Err}
 use Rattle.std.specs.Prelude.{All, IfOk, OnOk, IfErr}
 use Rattle.std.proofs.lemmas.Option.{slice_get-get_or}
-use Rattle.ranked_faults.specs.Ranked.{IsClear, IsFirst, AnswersOk, AnswersFault}
-use Rattle.ranked_faults.specs.Private.FirstMet.{first}
-use Rattle.ranked_faults.proofs.FirstFaults.{Answers, one_first}
-use Rattle.ranked_faults.proofs.TableFaults.{first_answers, single_faults}
+use Rattle.fault_order.specs.Ranked.{IsClear, IsFirst, AnswersOk, AnswersFault}
+use Rattle.fault_order.specs.Private.FirstMet.{first}
+use Rattle.fault_order.proofs.FirstFaults.{Answers, one_first}
+use Rattle.fault_order.proofs.TableFaults.{first_answers, single_faults}
 use Rattle.silage_syntax.specs.Tree.{Program}
-use Rattle.source_names.specs.NameFaults.{name_faults}
-use Rattle.typed_source.specs.Boundary.{KeepsValues}
-use Rattle.typed_source.specs.Numbers.{AreNumbersShort}
-use Rattle.typed_source.specs.TypeFaults.{type_faults}
-use Rattle.typed_source.specs.TypeRules.{type_rules}
-use Rattle.typed_source.specs.TypedTree.{view_typed}
-use Rattle.typed_source.specs.Translation.{typed_program}
-use Rattle.typed_source.specs.declared.fault.TypeFault.{TypeFault}
-use Rattle.typed_source.specs.declared.fault.TypeFault.TheVariants.{Mismatch, NeedsCast, Literal, NotBool, Memory}
-use Rattle.typed_source.specs.declared.typed.Typed.{Typed as RustTyped}
+use Rattle.name_rules.specs.NameFaults.{name_faults}
+use Rattle.type_rules.specs.Boundary.{KeepsValues}
+use Rattle.type_rules.specs.Numbers.{AreNumbersShort}
+use Rattle.type_rules.specs.TypeFaults.{type_faults}
+use Rattle.type_rules.specs.TypeRules.{type_rules}
+use Rattle.type_rules.specs.TypedTree.{view_typed}
+use Rattle.type_rules.specs.Translation.{typed_program}
+use Rattle.type_rules.specs.declared.fault.TypeFault.{TypeFault}
+use Rattle.type_rules.specs.declared.fault.TypeFault.TheVariants.{Mismatch, NeedsCast, Literal, NotBool, Memory}
+use Rattle.type_rules.specs.declared.typed.Typed.{Typed as RustTyped}
 use Rattle.fix_types.specs.Private.Answers.{GivesAs}
-use Rattle.typed_source.specs.Private.Sound.{IsSoundTop}
-use Rattle.typed_source.proofs.Kept.{keeps_values}
-use Rattle.typed_source.proofs.SoundNames.{top_sound}
+use Rattle.type_rules.specs.Private.Sound.{IsSoundTop}
+use Rattle.type_rules.proofs.Kept.{keeps_values}
+use Rattle.type_rules.proofs.SoundNames.{top_sound}
 
 pub all_sound : (p : Program) → IsClear (name_faults p) → AreNumbersShort p → All (IsSoundTop p) p.tops
 all_sound p clear short k d within = top_sound p clear k _ (slice_get-get_or p.tops k d within) (short k d within)

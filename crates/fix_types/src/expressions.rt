@@ -5,7 +5,7 @@ ghost use Rattle.silage_syntax.specs.Tree.{view_expr, view_place, view_delay, vi
 ghost use Rattle.fix_word.specs.declared.types.SigType.TheVariants.{Fix, Bool as Truths};
 ghost use Rattle.fix_types.specs.Private.Answers.{Types};
 ghost use Rattle.fix_types.specs.Private.Scopes.{program_of, function_of};
-ghost use Rattle.typed_source.specs.Private.Sound.{IsSound, HasType, HasTypedReads, IsSoundType};
+ghost use Rattle.type_rules.specs.Private.Sound.{IsSound, HasType, HasTypedReads, IsSoundType};
 
 use crate::copies;
 use crate::lookups::type_of;
@@ -16,7 +16,7 @@ use crate::scope::Scope;
 use crate::synthesis::own_type;
 use fix_word::{FixType, Op, SigType};
 use silage_syntax::{Expr, Manifest, Place};
-use typed_source::{TypeFault, TypedExpr};
+use type_rules::{TypeFault, TypedExpr};
 
 /// A name is typed as it stands.
 fn read(

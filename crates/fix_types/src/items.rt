@@ -1,23 +1,23 @@
 //! Items: equations, calls, loops and initial values.
 
 ghost use Rattle.std.specs.Prelude.{◌≡◌, ℕ, List, All, Some, map, slice_get, min, IfOk, IsSome};
-ghost use Rattle.ranked_faults.specs.Rules.{parts};
-ghost use Rattle.ranked_faults.specs.Private.FirstMet.{first};
+ghost use Rattle.fault_order.specs.Rules.{parts};
+ghost use Rattle.fault_order.specs.Private.FirstMet.{first};
 ghost use Rattle.silage_syntax.specs.Tree as tree;
 ghost use Rattle.silage_syntax.specs.Tree.{view_expr, view_place, view_manifest, view_func};
 ghost use Rattle.silage_syntax.specs.declared.tree.Decl.{Decl as DeclOf};
 ghost use Rattle.silage_meaning.specs.Types as meaning;
 ghost use Rattle.silage_syntax.specs.Names.{function_named};
-ghost use Rattle.typed_source.specs.TypeRules.{against, literal_rules, expr_rules};
-ghost use Rattle.typed_source.specs.TypeRules.{argument_rules, place_rules, call_rules};
-ghost use Rattle.typed_source.specs.Translation as typed;
-ghost use Rattle.typed_source.specs.Translation.{typed_against, initial_word, typed_arguments};
-ghost use Rattle.typed_source.specs.TypedTree.{view_item, view_items};
-ghost use Rattle.typed_source.specs.TypedTree as typed_tree;
-ghost use Rattle.typed_source.specs.Numbers.{IsShort};
+ghost use Rattle.type_rules.specs.TypeRules.{against, literal_rules, expr_rules};
+ghost use Rattle.type_rules.specs.TypeRules.{argument_rules, place_rules, call_rules};
+ghost use Rattle.type_rules.specs.Translation as typed;
+ghost use Rattle.type_rules.specs.Translation.{typed_against, initial_word, typed_arguments};
+ghost use Rattle.type_rules.specs.TypedTree.{view_item, view_items};
+ghost use Rattle.type_rules.specs.TypedTree as typed_tree;
+ghost use Rattle.type_rules.specs.Numbers.{IsShort};
 ghost use Rattle.fix_types.specs.Private.Answers.{Gives, GivesAs, GivesItem, GivesItems};
 ghost use Rattle.fix_types.specs.Private.Scopes.{program_of, function_of};
-ghost use Rattle.typed_source.specs.Private.Sound.{IsSound, IsSoundItem, AreSoundItems, HasType, HasTypedReads, HasTypedNames, HaveTypedNames, IsSoundType};
+ghost use Rattle.type_rules.specs.Private.Sound.{IsSound, IsSoundItem, AreSoundItems, HasType, HasTypedReads, HasTypedNames, HaveTypedNames, IsSoundType};
 
 use crate::copies;
 use crate::expressions::typed;
@@ -27,7 +27,7 @@ use crate::scope::Scope;
 use lists::Name;
 use silage_syntax::{Decl, Expr, Func, Item, Lit, Manifest, Place};
 use std::alloc::AllocError;
-use typed_source::{TypeFault, TypedExpr, TypedItem};
+use type_rules::{TypeFault, TypedExpr, TypedItem};
 
 /// A right side against the type of the place.
 fn right_side(scope: &Scope, place: &Place, value: &Expr) -> Result<TypedExpr, TypeFault>

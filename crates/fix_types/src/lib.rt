@@ -14,22 +14,22 @@ mod synthesis;
 mod tops;
 
 ghost use Rattle.std.specs.Prelude.{◌≡◌, ◌≢◌, ◌<◌, ◌^◌, length, IfOk, OnOk, IfErr};
-ghost use Rattle.ranked_faults.specs.Ranked.{IsClear, IsFirst, AnswersOk, AnswersFault};
+ghost use Rattle.fault_order.specs.Ranked.{IsClear, IsFirst, AnswersOk, AnswersFault};
 ghost use Rattle.silage_syntax.specs.Tree.{view};
-ghost use Rattle.source_names.specs.TopNames.{top_names};
-ghost use Rattle.source_names.specs.NameFaults.{name_faults};
-ghost use Rattle.typed_source.specs.Boundary.{KeepsValues};
-ghost use Rattle.typed_source.specs.Numbers.{AreNumbersShort};
-ghost use Rattle.typed_source.specs.Translation.{typed_program};
-ghost use Rattle.typed_source.specs.TypedTree.{view_typed};
-ghost use Rattle.typed_source.specs.TypeFaults.{type_faults};
-ghost use Rattle.typed_source.specs.declared.fault.TypeFault.{TypeFault as FaultType};
+ghost use Rattle.name_rules.specs.TopNames.{top_names};
+ghost use Rattle.name_rules.specs.NameFaults.{name_faults};
+ghost use Rattle.type_rules.specs.Boundary.{KeepsValues};
+ghost use Rattle.type_rules.specs.Numbers.{AreNumbersShort};
+ghost use Rattle.type_rules.specs.Translation.{typed_program};
+ghost use Rattle.type_rules.specs.TypedTree.{view_typed};
+ghost use Rattle.type_rules.specs.TypeFaults.{type_faults};
+ghost use Rattle.type_rules.specs.declared.fault.TypeFault.{TypeFault as FaultType};
 
+use name_rules::{Names, Tops};
 use silage_syntax::Program;
-use source_names::{Names, Tops};
 use std::alloc::Global;
 use tops::typed_tops;
-use typed_source::{TypeFault, Typed};
+use type_rules::{TypeFault, Typed};
 
 /// The typed program, or the first fault of types in source order: an expression's own before those of its parts, and
 /// at a call the arguments before the places. `docs/LANGUAGE.md`, "Equations", has the typing table.

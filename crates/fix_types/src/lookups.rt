@@ -3,7 +3,7 @@
 ghost use Rattle.std.specs.Prelude.{◌≡◌, IfSome, IsSome, Some};
 ghost use Rattle.silage_meaning.specs.Types as meaning;
 ghost use Rattle.fix_types.specs.Private.Scopes.{program_of, function_of};
-ghost use Rattle.typed_source.specs.Private.Sound.{IsSoundType};
+ghost use Rattle.type_rules.specs.Private.Sound.{IsSoundType};
 
 use crate::scope::Scope;
 use fix_word::SigType;

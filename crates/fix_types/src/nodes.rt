@@ -2,9 +2,9 @@
 
 ghost use Rattle.std.specs.Prelude.{◌≡◌, ◌≤◌, ◌-ℤ◌, ◌≤ℤ◌, ℤ, pos, negsuc, None, Some, map, IfOk};
 ghost use Rattle.silage_syntax.specs.Tree.{view_manifest, view_delay};
-ghost use Rattle.typed_source.specs.TypedTree.{view_expr, node as node_of, parts_of};
-ghost use Rattle.typed_source.specs.Translation as typed;
-ghost use Rattle.typed_source.specs.Translation.{one, two, three};
+ghost use Rattle.type_rules.specs.TypedTree.{view_expr, node as node_of, parts_of};
+ghost use Rattle.type_rules.specs.Translation as typed;
+ghost use Rattle.type_rules.specs.Translation.{one, two, three};
 ghost use Rattle.fix_types.specs.Private.Plans as plans;
 ghost use Rattle.fix_types.specs.Private.Choosing as choosing;
 ghost use Rattle.fix_types.specs.Private.Choosing.{view_pairs};
@@ -13,7 +13,7 @@ use crate::plans::Plan;
 use fix_word::{FixType, Format, Mode, Op, SigType};
 use silage_syntax::Manifest;
 use std::alloc::{AllocError, Global};
-use typed_source::TypedExpr;
+use type_rules::TypedExpr;
 
 /// The width of a truth value: that of 0 and 1 as signed words.
 const TRUTH_WIDTH: u8 = 2;

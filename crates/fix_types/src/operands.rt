@@ -1,18 +1,18 @@
 //! The rules of an expression's own: on literals, names, and the types of operands.
 
 ghost use Rattle.std.specs.Prelude.{◌≡◌, ◌≢◌, Some, IfOk};
-ghost use Rattle.ranked_faults.specs.Private.FirstMet.{first, MeetsOr};
-ghost use Rattle.typed_source.specs.TypeRules as rules;
-ghost use Rattle.typed_source.specs.TypeRules.{literal_rules, name_rules, operand_rules, misfit};
-ghost use Rattle.typed_source.specs.Translation as typed;
-ghost use Rattle.typed_source.specs.Numbers.{IsShort};
-ghost use Rattle.typed_source.specs.Private.Sound.{IsSoundType};
+ghost use Rattle.fault_order.specs.Private.FirstMet.{first, MeetsOr};
+ghost use Rattle.type_rules.specs.TypeRules as rules;
+ghost use Rattle.type_rules.specs.TypeRules.{literal_rules, name_rules, operand_rules, misfit};
+ghost use Rattle.type_rules.specs.Translation as typed;
+ghost use Rattle.type_rules.specs.Numbers.{IsShort};
+ghost use Rattle.type_rules.specs.Private.Sound.{IsSoundType};
 ghost use Rattle.fix_types.specs.Private.Answers.{Meets};
 ghost use Rattle.fix_word.specs.declared.types.SigType.TheVariants.{Fix};
 
 use fix_word::{FixType, LitFault, SigType, literal};
 use silage_syntax::Lit;
-use typed_source::TypeFault;
+use type_rules::TypeFault;
 
 /// Whether two types have one shape, or both are `bool`.
 pub(crate) fn is_same_shape(a: SigType, b: SigType) -> bool

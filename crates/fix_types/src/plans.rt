@@ -7,7 +7,7 @@ ghost use Rattle.fix_word.specs.declared.types.SigType.TheVariants.{Fix, Bool as
 ghost use Rattle.fix_types.specs.Private.Answers.{IsComparing};
 ghost use Rattle.fix_types.specs.Private.Plans.{Plans, plan_of, comparing};
 ghost use Rattle.fix_types.specs.Private.Scopes.{program_of, function_of};
-ghost use Rattle.typed_source.specs.Private.Sound.{IsSound, IsSoundType};
+ghost use Rattle.type_rules.specs.Private.Sound.{IsSound, IsSoundType};
 
 use crate::nodes::{NO_FORMAT, fitted, rounded};
 use crate::operands::operand_type;
@@ -15,7 +15,7 @@ use crate::scope::Scope;
 use crate::synthesis::{common_type, factor_type};
 use fix_word::{FixType, Format, Op, SigType};
 use silage_syntax::{BinOp, Expr};
-use typed_source::TypeFault;
+use type_rules::TypeFault;
 
 /// An operation on two parts, each against a type. A turned one has the right part first.
 #[derive(Clone, Copy)]

@@ -2,12 +2,12 @@
 
 ghost use Rattle.std.specs.Prelude.{◌≡◌, ℕ, List};
 ghost use Rattle.silage_syntax.specs.Tree.{view, view_func};
-ghost use Rattle.typed_source.specs.Private.Signals.{signal_type, type_in};
-ghost use Rattle.typed_source.specs.Private.Sound.{HasSoundTypes};
+ghost use Rattle.type_rules.specs.Private.Signals.{signal_type, type_in};
+ghost use Rattle.type_rules.specs.Private.Sound.{HasSoundTypes};
 
 use crate::signals::Signals;
+use name_rules::Tops;
 use silage_syntax::Func;
-use source_names::Tops;
 use std::alloc::Global;
 
 /// A function of a program without a fault of names.

@@ -3,7 +3,7 @@
 ghost use Rattle.std.specs.Prelude.{◌≡◌, ℕ, List, [], IfOk, OnOk};
 ghost use Rattle.std.specs.Option.{option_or};
 ghost use Rattle.silage_syntax.specs.Tree.{view_func};
-ghost use Rattle.typed_source.specs.Private.Signals.{signal_type, gives_type, decl_type, type_in};
+ghost use Rattle.type_rules.specs.Private.Signals.{signal_type, gives_type, decl_type, type_in};
 
 use fix_word::SigType;
 use indexmap::IndexMap;

@@ -5,7 +5,7 @@ ghost use Rattle.std.specs.Prelude.{◌≡◌, IfSome};
 ghost use Rattle.silage_syntax.specs.Tree.{view_expr};
 ghost use Rattle.silage_meaning.specs.Types as meaning;
 ghost use Rattle.fix_types.specs.Private.Scopes.{program_of, function_of};
-ghost use Rattle.typed_source.specs.Private.Sound.{IsSound, IsSoundType};
+ghost use Rattle.type_rules.specs.Private.Sound.{IsSound, IsSoundType};
 
 use crate::lookups::name_type;
 use crate::scope::Scope;

@@ -1,19 +1,19 @@
 //! Tables and functions, and all of them in order.
 
 ghost use Rattle.std.specs.Prelude.{◌≡◌, ◌≢◌, ◌<◌, ◌^◌, All, IfErr, IfOk, OnOk, length, map};
-ghost use Rattle.ranked_faults.specs.Rules.{parts, each};
-ghost use Rattle.ranked_faults.specs.Private.FirstMet.{first, MeetsOr};
+ghost use Rattle.fault_order.specs.Rules.{parts, each};
+ghost use Rattle.fault_order.specs.Private.FirstMet.{first, MeetsOr};
 ghost use Rattle.fix_word.specs.declared.types.SigType.TheVariants.{Fix};
 ghost use Rattle.silage_syntax.specs.Tree as tree;
 ghost use Rattle.silage_syntax.specs.Tree.{view, view_top};
-ghost use Rattle.typed_source.specs.TypeRules.{literal_rules, table_rules, top_rules, type_rules};
-ghost use Rattle.typed_source.specs.Translation as translation;
-ghost use Rattle.typed_source.specs.Translation.{word_of, typed_func, typed_program};
-ghost use Rattle.typed_source.specs.TypedTree.{view_func, view_items, view_typed};
-ghost use Rattle.typed_source.specs.Numbers.{IsShort};
+ghost use Rattle.type_rules.specs.TypeRules.{literal_rules, table_rules, top_rules, type_rules};
+ghost use Rattle.type_rules.specs.Translation as translation;
+ghost use Rattle.type_rules.specs.Translation.{word_of, typed_func, typed_program};
+ghost use Rattle.type_rules.specs.TypedTree.{view_func, view_items, view_typed};
+ghost use Rattle.type_rules.specs.Numbers.{IsShort};
 ghost use Rattle.fix_types.specs.Private.Answers.{GivesAs, GivesItems, AddsTop};
 ghost use Rattle.fix_types.specs.Private.FunctionParts.{func_with};
-ghost use Rattle.typed_source.specs.Private.Sound.{IsSoundType, IsSoundTop};
+ghost use Rattle.type_rules.specs.Private.Sound.{IsSoundType, IsSoundTop};
 
 use crate::copies;
 use crate::items::typed_items;
@@ -22,10 +22,10 @@ use crate::scope::Scope;
 use crate::signals::Signals;
 use fix_word::{FixType, SigType};
 use lists::List;
+use name_rules::Tops;
 use silage_syntax::{ConstDef, Func, Lit, Top};
-use source_names::Tops;
 use std::alloc::{AllocError, Global};
-use typed_source::{TypeFault, Typed, TypedConst, TypedFunc, TypedItem};
+use type_rules::{TypeFault, Typed, TypedConst, TypedFunc, TypedItem};
 
 /// The raw words of the numbers of a table.
 fn words(alloc: Global, ty: FixType, numbers: &[Lit]) -> Result<List<i64>, TypeFault>

@@ -1,12 +1,12 @@
 -- What is so of a program that a source is: it has no more tables and functions than the source has bytes, its numbers
 -- are short, its functions have results, and it is a checked one where it has no fault.
 use Rattle.std.proofs.Common.{arith, ℕ, ◌≤◌, List, length}
-use Rattle.typed_source.specs.Numbers.{AreNumbersShort}
-use Rattle.typed_source.proofs.ShortNumbers.{short_numbers as short_numbers_of_tokens}
+use Rattle.type_rules.specs.Numbers.{AreNumbersShort}
+use Rattle.type_rules.proofs.ShortNumbers.{short_numbers as short_numbers_of_tokens}
 use Rattle.name_check.proofs.FewTops.{few_tops as few_tops_of_tokens}
 use Rattle.silage_lex.proofs.FewTokens.{few_tokens}
 use Rattle.silage_syntax.specs.Tree.{Program}
-use Rattle.source_elements.specs.Signatures.{HaveResults}
+use Rattle.element_rules.specs.Signatures.{HaveResults}
 use Rattle.loop_expand.specs.Checked.{IsChecked}
 use Rattle.loop_expand.proofs.SomeSignals.{parameters_and_results}
 use Rattle.loop_expand.proofs.SourceChecked.{source_checked}

@@ -1,6 +1,6 @@
 -- Where the fault of a source is: its line, and the element that it is about.
 use Rattle.std.proofs.Common.{◌≡◌, ◌≢◌, ℕ, List, Option, Some, None, option_map, IfSome, refl, ap, subst}
-use Rattle.ranked_faults.specs.Ranked.{IsFirst}
+use Rattle.fault_order.specs.Ranked.{IsFirst}
 use Rattle.silage_lex.specs.Tokens.{line_at}
 use Rattle.silage_lex.specs.declared.LexFault.{LexFault}
 use Rattle.silage_lex.specs.declared.LexFault.TheVariants as lex
@@ -8,13 +8,13 @@ use Rattle.silage_parse.specs.declared.ParseFault.{ParseFault}
 use Rattle.silage_parse.specs.declared.ParseFault.TheVariants as parse
 use Rattle.silage_syntax.specs.declared.tree.Program.{Program as RustProgram}
 use Rattle.silage_syntax.specs.Tree.{Program, view}
-use Rattle.source_names.specs.declared.fault.NameFault.{NameFault}
-use Rattle.source_names.specs.declared.fault.NameFault.TheVariants as name
-use Rattle.source_elements.specs.ElementFaults.{placed_faults, without_place}
-use Rattle.source_elements.specs.declared.fault.PlacedFault.{PlacedFault}
-use Rattle.source_elements.specs.declared.fault.PlacedFault.TheVariants as placed
-use Rattle.typed_source.specs.declared.fault.TypeFault.{TypeFault}
-use Rattle.typed_source.specs.declared.fault.TypeFault.TheVariants as kind
+use Rattle.name_rules.specs.declared.fault.NameFault.{NameFault}
+use Rattle.name_rules.specs.declared.fault.NameFault.TheVariants as name
+use Rattle.element_rules.specs.ElementFaults.{placed_faults, without_place}
+use Rattle.element_rules.specs.declared.fault.PlacedFault.{PlacedFault}
+use Rattle.element_rules.specs.declared.fault.PlacedFault.TheVariants as placed
+use Rattle.type_rules.specs.declared.fault.TypeFault.{TypeFault}
+use Rattle.type_rules.specs.declared.fault.TypeFault.TheVariants as kind
 use Rattle.source_faults.specs.Faults.{IsRead}
 use Rattle.front_end.specs.Places.{byte_of, byte_of_lex, IsLineOf, IsNumbered, IsAbout}
 use Rattle.front_end.specs.Rejections.{HasLine, HasElement}

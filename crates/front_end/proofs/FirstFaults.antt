@@ -1,17 +1,17 @@
 -- The first fault of a phase is the first of its program, and then the first of the source.
 use Rattle.std.proofs.Common.{◌≢◌, ℕ, List}
-use Rattle.ranked_faults.specs.Ranked.{IsClear, IsFirst}
+use Rattle.fault_order.specs.Ranked.{IsClear, IsFirst}
 use Rattle.silage_syntax.specs.Tree.{Program}
-use Rattle.source_names.specs.NameFaults.{name_faults}
-use Rattle.source_names.specs.declared.fault.NameFault.{NameFault}
-use Rattle.source_names.specs.declared.fault.NameFault.TheVariants as name
-use Rattle.source_elements.specs.ElementFaults.{placed_faults, without_place, element_faults}
-use Rattle.source_elements.specs.declared.fault.PlacedFault.{PlacedFault}
-use Rattle.source_elements.specs.declared.fault.PlacedFault.TheVariants as placed
-use Rattle.source_elements.proofs.PlacedFaults.{element_first}
-use Rattle.typed_source.specs.TypeFaults.{type_faults}
-use Rattle.typed_source.specs.declared.fault.TypeFault.{TypeFault}
-use Rattle.typed_source.specs.declared.fault.TypeFault.TheVariants as kind
+use Rattle.name_rules.specs.NameFaults.{name_faults}
+use Rattle.name_rules.specs.declared.fault.NameFault.{NameFault}
+use Rattle.name_rules.specs.declared.fault.NameFault.TheVariants as name
+use Rattle.element_rules.specs.ElementFaults.{placed_faults, without_place, element_faults}
+use Rattle.element_rules.specs.declared.fault.PlacedFault.{PlacedFault}
+use Rattle.element_rules.specs.declared.fault.PlacedFault.TheVariants as placed
+use Rattle.element_rules.proofs.PlacedFaults.{element_first}
+use Rattle.type_rules.specs.TypeFaults.{type_faults}
+use Rattle.type_rules.specs.declared.fault.TypeFault.{TypeFault}
+use Rattle.type_rules.specs.declared.fault.TypeFault.TheVariants as kind
 use Rattle.front_end.specs.Answers.{IsFrontError}
 use Rattle.source_faults.specs.Faults.{IsRead}
 use Rattle.front_end.specs.Private.Checks.{HasNoFault, IsCheckError, IsGraphError}

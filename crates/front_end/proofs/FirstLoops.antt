@@ -3,17 +3,17 @@ use Rattle.std.proofs.Common.{◌≡◌, sym, subst, ◌∙◌, ap, ap₂, arith
 use Rattle.silage_syntax.specs.Tree.{Program}
 use Rattle.silage_meaning.specs.Instances.{IsElement}
 use Rattle.silage_meaning.specs.Rules.{HasNoDelaylessLoop}
-use Rattle.source_elements.specs.declared.elements.Element.{Element as Entry}
-use Rattle.source_elements.specs.declared.elements.Elements.{Elements}
-use Rattle.source_elements.specs.declared.elements.Instance.{Instance}
-use Rattle.source_elements.specs.Expansion.{elements_in, IsExpansion}
+use Rattle.element_rules.specs.declared.elements.Element.{Element as Entry}
+use Rattle.element_rules.specs.declared.elements.Elements.{Elements}
+use Rattle.element_rules.specs.declared.elements.Instance.{Instance}
+use Rattle.element_rules.specs.Expansion.{elements_in, IsExpansion}
 use Rattle.signal_graph.specs.Flat as flat
 use Rattle.loop_expand.specs.Checked.{IsChecked}
-use Rattle.source_elements.specs.Numbers.{IsNumberOf}
+use Rattle.element_rules.specs.Numbers.{IsNumberOf}
 use Rattle.loop_expand.specs.FlatOf.{IsFlatOf}
 use Rattle.loop_expand.proofs.Expanded.{numbering}
 use Rattle.loop_expand.proofs.Numbers.{stands, below, element_once}
-use Rattle.element_facts.proofs.OnceTables.{distinct_numbers}
+use Rattle.element_rules.proofs.OnceTables.{distinct_numbers}
 use Rattle.flow_graph.specs.Loops as graph
 use Rattle.source_faults.specs.Loops.{IsInLoop, IsFirstLoop}
 use Rattle.loop_expand.proofs.FlatLoops.{depends_back, depends_on}

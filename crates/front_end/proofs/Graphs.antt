@@ -1,8 +1,8 @@
 -- The pruned graph of a program without a delay-free loop, and the first loop of one that has one.
 use Rattle.std.proofs.Common.{◌≡◌, refl, ℕ}
 use Rattle.silage_syntax.specs.Tree.{Program}
-use Rattle.typed_source.specs.declared.typed.Typed.{Typed}
-use Rattle.source_elements.specs.declared.elements.Elements.{Elements}
+use Rattle.type_rules.specs.declared.typed.Typed.{Typed}
+use Rattle.element_rules.specs.declared.elements.Elements.{Elements}
 use Rattle.signal_graph.specs.Flat as flat
 use Rattle.signal_graph.specs.FlatRules.{IsFlat}
 use Rattle.signal_graph.specs.FlatSolves.{IsFlatLoopless}

@@ -1,8 +1,8 @@
 -- A source has one program, or one first fault, and not both.
 use Rattle.std.proofs.Common.{◌≡◌, refl, subst, ap, arith, ◌⊎◌, ℕ, ◌<◌, ◌≤◌, inl, inr, List, length}
-use Rattle.ranked_faults.specs.Ranked.{FaultSet, IsClear, IsFirst}
-use Rattle.ranked_faults.proofs.FirstFaults.{one_first}
-use Rattle.ranked_faults.proofs.TableFaults.{single_faults}
+use Rattle.fault_order.specs.Ranked.{FaultSet, IsClear, IsFirst}
+use Rattle.fault_order.proofs.FirstFaults.{one_first}
+use Rattle.fault_order.proofs.TableFaults.{single_faults}
 use Rattle.silage_lex.specs.Faults.{HasFault as HasLexFault}
 use Rattle.silage_lex.specs.Tokens.{HasTokens}
 use Rattle.silage_lex.specs.declared.LexFault.{LexFault}
@@ -13,12 +13,12 @@ use Rattle.silage_syntax.specs.Tree.{Program}
 use Rattle.silage_parse.specs.Answers.{IsWithin, HasFault as HasParseFault}
 use Rattle.silage_parse.specs.declared.ParseFault.{ParseFault}
 use Rattle.silage_parse.proofs.OneAnswer.{one_fault, within_no_fault}
-use Rattle.source_names.specs.NameFaults.{name_faults}
+use Rattle.name_rules.specs.NameFaults.{name_faults}
 use Rattle.name_check.proofs.NameAnswers.{names_single}
-use Rattle.source_elements.specs.ElementFaults.{element_faults}
-use Rattle.source_elements.proofs.PlacedFaults.{single_elements}
-use Rattle.typed_source.specs.TypeFaults.{type_faults}
-use Rattle.typed_source.specs.TypeRules.{type_rules}
+use Rattle.element_rules.specs.ElementFaults.{element_faults}
+use Rattle.element_rules.proofs.PlacedFaults.{single_elements}
+use Rattle.type_rules.specs.TypeFaults.{type_faults}
+use Rattle.type_rules.specs.TypeRules.{type_rules}
 use Rattle.front_end.specs.Answers.{IsFrontError}
 use Rattle.source_faults.specs.Faults.{source_limit, IsRead, HasProgram, IsFrontFault}
 use Rattle.source_faults.specs.Loops.{IsFirstLoop}

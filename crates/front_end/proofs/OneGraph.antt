@@ -1,7 +1,7 @@
 -- The program of a source has one graph at most.
 use Rattle.std.proofs.Common.{◌≡◌, sym, subst, ◌∙◌, ℕ, List}
 use Rattle.silage_syntax.specs.Tree.{Program}
-use Rattle.source_elements.specs.declared.elements.Elements.{Elements}
+use Rattle.element_rules.specs.declared.elements.Elements.{Elements}
 use Rattle.signal_graph.specs.Flat as flat
 use Rattle.signal_graph.specs.GraphOf.{IsGraphOf}
 use Rattle.signal_graph.specs.Pruned.{IsPruned}

@@ -1,7 +1,7 @@
 -- The graph of a program.
 use Rattle.silage_syntax.specs.Tree.{Program}
-use Rattle.source_elements.specs.Expansion.{IsExpansion}
-use Rattle.source_elements.specs.declared.elements.Elements.{Elements}
+use Rattle.element_rules.specs.Expansion.{IsExpansion}
+use Rattle.element_rules.specs.declared.elements.Elements.{Elements}
 use Rattle.signal_graph.specs.Flat as flat
 use Rattle.signal_graph.specs.GraphOf.{IsGraphOf}
 use Rattle.signal_graph.specs.Pruned.{IsPruned}

@@ -1,7 +1,7 @@
 -- Where in a source a fault is: the line that an error has, and the element that it is about.
 use Rattle.std.specs.Prelude.{◌≡◌, ℕ, List, length, slice_get, Option, Some, None, option_map, IfSome}
 use Rattle.std.specs.Option.{option_map_or}
-use Rattle.ranked_faults.specs.Ranked.{IsFirst}
+use Rattle.fault_order.specs.Ranked.{IsFirst}
 use Rattle.silage_lex.specs.Tokens.{HasTokens, line_at}
 use Rattle.silage_lex.specs.declared.LexFault.{LexFault}
 use Rattle.silage_lex.specs.declared.LexFault.TheVariants as lex
@@ -9,18 +9,18 @@ use Rattle.silage_lex.specs.declared.Token.{Token}
 use Rattle.silage_parse.specs.declared.ParseFault.TheVariants as parse
 use Rattle.silage_syntax.specs.declared.tree.Decl.{Decl}
 use Rattle.silage_syntax.specs.Tree.{Program}
-use Rattle.source_names.specs.declared.fault.NameFault.{NameFault}
-use Rattle.source_names.specs.declared.fault.NameFault.TheVariants as name
-use Rattle.source_elements.specs.ElementFaults.{placed_faults}
-use Rattle.source_elements.specs.Expansion.{IsExpansion, signals_of}
-use Rattle.source_elements.specs.declared.elements.Element.{Element}
-use Rattle.source_elements.specs.declared.elements.Elements.{Elements}
-use Rattle.source_elements.specs.declared.elements.Instance.{Instance}
-use Rattle.source_elements.specs.declared.fault.DefFault.{DefFault}
-use Rattle.source_elements.specs.declared.fault.DefFault.TheVariants as def
-use Rattle.source_elements.specs.declared.fault.PlacedFault.TheVariants as placed
-use Rattle.typed_source.specs.declared.fault.TypeFault.{TypeFault}
-use Rattle.typed_source.specs.declared.fault.TypeFault.TheVariants as kind
+use Rattle.name_rules.specs.declared.fault.NameFault.{NameFault}
+use Rattle.name_rules.specs.declared.fault.NameFault.TheVariants as name
+use Rattle.element_rules.specs.ElementFaults.{placed_faults}
+use Rattle.element_rules.specs.Expansion.{IsExpansion, signals_of}
+use Rattle.element_rules.specs.declared.elements.Element.{Element}
+use Rattle.element_rules.specs.declared.elements.Elements.{Elements}
+use Rattle.element_rules.specs.declared.elements.Instance.{Instance}
+use Rattle.element_rules.specs.declared.fault.DefFault.{DefFault}
+use Rattle.element_rules.specs.declared.fault.DefFault.TheVariants as def
+use Rattle.element_rules.specs.declared.fault.PlacedFault.TheVariants as placed
+use Rattle.type_rules.specs.declared.fault.TypeFault.{TypeFault}
+use Rattle.type_rules.specs.declared.fault.TypeFault.TheVariants as kind
 use Rattle.source_faults.specs.declared.fault.FrontError.{FrontError}
 use Rattle.source_faults.specs.declared.fault.FrontError.TheVariants.{Fault}
 use Rattle.source_faults.specs.declared.fault.FrontFault.TheVariants.{Lex, Parse, Name, Def, Kind, Loop}

@@ -2,9 +2,9 @@
 
 ghost use Rattle.std.specs.Prelude.{◌≡◌, ℕ, None, IfSome, IfOk, IfErr, OnOk};
 ghost use Rattle.silage_syntax.specs.Tree.{view};
-ghost use Rattle.source_elements.specs.Expansion.{IsExpansion};
-ghost use Rattle.typed_source.specs.Translation.{typed_program};
-ghost use Rattle.typed_source.specs.TypedTree.{view_typed};
+ghost use Rattle.element_rules.specs.Expansion.{IsExpansion};
+ghost use Rattle.type_rules.specs.Translation.{typed_program};
+ghost use Rattle.type_rules.specs.TypedTree.{view_typed};
 ghost use Rattle.front_end.specs.Places.{IsNumbered, IsAbout};
 ghost use Rattle.source_faults.specs.declared.fault.FrontError.TheVariants.{Fault, Memory};
 ghost use Rattle.source_faults.specs.declared.fault.FrontFault.TheVariants.{Loop};
@@ -14,16 +14,16 @@ ghost use Rattle.front_end.specs.Private.Findings.{element_of, without_element, 
 
 use crate::graph::graph_of;
 use crate::names::{ElementPlace, numbered_element};
+use element_rules::{DefFault, Elements, PlacedFault};
 use fix_types::check_types;
 use name_check::check_names;
+use name_rules::NameFault;
 use signal_graph::Graph;
 use silage_syntax::Program;
 use single_def::check_elements;
-use source_elements::{DefFault, Elements, PlacedFault};
 use source_faults::{FrontError, FrontFault};
-use source_names::NameFault;
 use std::alloc::Global;
-use typed_source::{TypeFault, Typed};
+use type_rules::{TypeFault, Typed};
 
 /// What the checks give of a program.
 #[derive(Drop)]

@@ -8,13 +8,13 @@ ghost use Rattle.loop_expand.specs.FlatOf.{IsFlatOf};
 ghost use Rattle.source_faults.specs.declared.fault.FrontError.TheVariants.{Memory};
 ghost use Rattle.front_end.specs.Private.Checks.{IsGraphFor, IsGraphError};
 
+use element_rules::Elements;
 use flow_graph::{build, prune};
 use loop_expand::expand;
 use signal_graph::{FlatProgram, Graph};
-use source_elements::Elements;
 use source_faults::FrontError;
 use std::alloc::Global;
-use typed_source::Typed;
+use type_rules::Typed;
 
 /// The flat program of a program.
 fn flat_of(alloc: Global, typed: &Typed, elements: &Elements) -> Result<FlatProgram, FrontError>

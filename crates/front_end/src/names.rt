@@ -3,11 +3,11 @@
 ghost use Rattle.std.specs.Prelude.{◌≡◌, IfSome, option_copied, slice_get};
 ghost use Rattle.silage_syntax.specs.Names.{decls};
 ghost use Rattle.silage_syntax.specs.Tree.{view, view_func};
-ghost use Rattle.source_elements.specs.Expansion.{IsExpansion};
+ghost use Rattle.element_rules.specs.Expansion.{IsExpansion};
 ghost use Rattle.front_end.specs.Places.{IsNumbered};
 
+use element_rules::Elements;
 use silage_syntax::{Decl, Func, Program, Top};
-use source_elements::Elements;
 
 /// An element: the byte at which its declaration stands, and its row-major place in that.
 #[derive(Clone, Copy)]

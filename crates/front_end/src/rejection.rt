@@ -9,13 +9,13 @@ ghost use Rattle.front_end.specs.Private.Findings.{byte_of_finding};
 use crate::checks::Finding;
 use crate::lines::{line_of, token_line};
 use crate::names::ElementPlace;
+use element_rules::DefFault;
+use name_rules::NameFault;
 use silage_lex::{LexFault, Tokens};
 use silage_parse::ParseFault;
 use silage_syntax::Program;
-use source_elements::DefFault;
 use source_faults::{FrontError, FrontFault, NamedElement, Rejection};
-use source_names::NameFault;
-use typed_source::TypeFault;
+use type_rules::TypeFault;
 
 pub(crate) fn lex_rejection(source: &[u8], fault: LexFault) -> Rejection
     ensures { result ≡ record {

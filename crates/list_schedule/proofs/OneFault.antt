@@ -10,12 +10,12 @@ use Rattle.plan_core.specs.declared.schedule.Assigned.{Assigned}
 use Rattle.plan_core.specs.declared.schedule.Schedule.{Schedule}
 use Rattle.plan_core.proofs.OneHeight.{live_of}
 use Rattle.plan_core.proofs.OneSchedule.{one_schedule}
-use Rattle.schedule_order.specs.Problem.{IsProblem}
+use Rattle.schedule_priority.specs.Problem.{IsProblem}
 use Rattle.list_schedule.specs.Faults.{IsPeriodFault}
 use Rattle.list_schedule.specs.declared.fault.PeriodFault.{PeriodFault}
 use Rattle.list_schedule.specs.declared.fault.PeriodFault.TheVariants.{Period, Memory}
 use Rattle.plan_core.proofs.Agreeing.{earlier_trans, one_first, earlier_same, can_same, one_slot}
-use Rattle.schedule_order.proofs.Problems.{operand_in}
+use Rattle.schedule_priority.proofs.Problems.{operand_in}
 
 module _ (d : Datapath) (a : Assigned) (is : IsProblem d a) where
   live : (u : ℕ) → 1 ≤ latency_on d u

@@ -22,8 +22,8 @@ use Rattle.plan_core.specs.declared.schedule.Slot.{Slot}
 use Rattle.plan_core.specs.declared.schedule.Schedule.{Schedule}
 use Rattle.plan_core.proofs.OneHeight.{live_of}
 use Rattle.bus_alloc.specs.Table.{Placed, Reservations, IsTaken, HasPort, FitsAt, IsFirstFit, AreTransfers}
-use Rattle.schedule_order.specs.Problem.{IsProblem}
-use Rattle.schedule_order.specs.Order.{nth}
+use Rattle.schedule_priority.specs.Problem.{IsProblem}
+use Rattle.schedule_priority.specs.Order.{nth}
 use Rattle.list_schedule.specs.Private.Placing.{slot_at, of_slots, IsReadyAt, IsFirstReady, HasTable, IsOpenAt}
 use Rattle.list_schedule.specs.Private.Placing.{IsShutAt, IsFirstOpen, Places, HasNoCycle, ArePlaced}
 use Rattle.list_schedule.specs.declared.placing.Placing.{Placing}
@@ -32,7 +32,7 @@ use Rattle.list_schedule.specs.declared.fault.PeriodFault.{PeriodFault}
 use Rattle.list_schedule.specs.declared.fault.PeriodFault.TheVariants.{Period, Memory}
 use Rattle.plan_core.proofs.Agreeing.{operand_earlier, placed_same, placed_in}
 use Rattle.plan_core.proofs.Readers.{reader_there}
-use Rattle.schedule_order.proofs.Problems.{operand_in, edges_few, unit_there}
+use Rattle.schedule_priority.proofs.Problems.{operand_in, edges_few, unit_there}
 
 -- the first cycle at which the operands at the first k ports are there
 pub record IsReadyUpTo (d : Datapath) (a : Assigned) (slots : List Slot) (v k t : ℕ) : Type 0 where

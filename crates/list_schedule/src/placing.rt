@@ -3,8 +3,8 @@
 ghost use Rattle.std.specs.Prelude.{◌≡◌, ◌<◌, ◌≤◌, ◌⊎◌, ℕ, length, replicate, IfOk, IfErr, OnOk};
 ghost use Rattle.plan_core.specs.ListSchedule.{no_slot, AreDestinations, IsListSchedule};
 ghost use Rattle.list_schedule.specs.Faults.{IsPeriodFault};
-ghost use Rattle.schedule_order.specs.Parts.{nodes_of, IsSound};
-ghost use Rattle.schedule_order.specs.Order.{IsOrderOf};
+ghost use Rattle.schedule_priority.specs.Parts.{nodes_of, IsSound};
+ghost use Rattle.schedule_priority.specs.Order.{IsOrderOf};
 ghost use Rattle.list_schedule.specs.Private.Placing.{slot_at, of_slots, IsFirstReady, HasTable, IsFirstOpen, Places, HasNoCycle, ArePlaced};
 ghost use Rattle.list_schedule.specs.declared.fault.PeriodFault.TheVariants.{Period, Memory};
 
@@ -13,7 +13,7 @@ use bus_alloc::Table;
 use datapath::PortRef;
 use lists::List;
 use plan_core::{Slot, Transfers};
-use schedule_order::{Destinations, Problem};
+use schedule_priority::{Destinations, Problem};
 use std::alloc::{AllocError, Global};
 
 /// The slots of the nodes that are placed, and the reservation table that has them.

@@ -4,7 +4,7 @@ ghost use Rattle.std.specs.Prelude.{◌≡◌, ◌⊎◌, IfOk, IfErr, Ok, Err};
 ghost use Rattle.datapath.specs.Allowed.{IsDatapath};
 ghost use Rattle.plan_core.specs.ListSchedule.{IsListSchedule};
 ghost use Rattle.plan_core.specs.declared.schedule.Schedule as of_schedule;
-ghost use Rattle.schedule_order.specs.Schedulable.{IsSchedulable};
+ghost use Rattle.schedule_priority.specs.Schedulable.{IsSchedulable};
 ghost use Rattle.list_schedule.specs.Faults.{IsPeriodFault};
 ghost use Rattle.list_schedule.specs.declared.fault.PeriodFault as of_fault;
 ghost use Rattle.list_schedule.specs.declared.fault.PeriodFault.TheVariants.{Memory};
@@ -13,7 +13,7 @@ use crate::fault::PeriodFault;
 use crate::placing::slots_of;
 use datapath::Datapath;
 use plan_core::{Assigned, Schedule};
-use schedule_order::{Destinations, Problem, placing_order};
+use schedule_priority::{Destinations, Problem, placing_order};
 use std::alloc::Global;
 
 /// Places the nodes by falling height, then by number, each at the least cycle at which it can be issued. Cycles count

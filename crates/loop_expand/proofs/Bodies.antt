@@ -14,16 +14,16 @@ use Rattle.silage_meaning.specs.Solves.{Source, same, number, IsDefined, input, 
 use Rattle.silage_meaning.specs.Solves.{array_result, Gives, IsStream}
 use Rattle.silage_meaning.proofs.InputRows.{row_length}
 use Rattle.silage_meaning.specs.Types.{HasShapeOf}
-use Rattle.source_elements.specs.declared.elements.Elements.{Elements}
-use Rattle.typed_source.specs.Boundary.{IsExpression, right_side, argument as an_argument, KeepsValues}
-use Rattle.typed_source.specs.Translation.{typed_expr}
-use Rattle.typed_source.proofs.Kept.{keeps_values}
+use Rattle.element_rules.specs.declared.elements.Elements.{Elements}
+use Rattle.type_rules.specs.Boundary.{IsExpression, right_side, argument as an_argument, KeepsValues}
+use Rattle.type_rules.specs.Translation.{typed_expr}
+use Rattle.type_rules.proofs.Kept.{keeps_values}
 use Rattle.signal_graph.specs.Flat as flat
 use Rattle.signal_graph.specs.FlatRules.{IsExpr}
 use Rattle.signal_graph.specs.Values as flat_words
 use Rattle.signal_graph.specs.Values.{value_of, body_value}
 use Rattle.loop_expand.specs.Checked.{IsChecked}
-use Rattle.source_elements.specs.Numbers.{IsNumberOf}
+use Rattle.element_rules.specs.Numbers.{IsNumberOf}
 use Rattle.loop_expand.specs.FlatOf.{IsBodyOf, IsFlatExpr}
 use Rattle.loop_expand.specs.Kept.{HaveSameWords}
 use Rattle.loop_expand.proofs.Items.{has_item, instance_top, all_pass}

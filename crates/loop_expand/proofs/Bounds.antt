@@ -5,35 +5,35 @@ use Rattle.std.specs.Prelude.{is_some, nat_eq, IsTrue}
 use Rattle.std.specs.List.{range_with_len}
 use Rattle.std.proofs.lemmas.Bool.Decides.{eqb_tells}
 use Rattle.lists.proofs.Places.{some_once}
-use Rattle.ranked_faults.specs.Private.FirstMet.{first, first_in}
-use Rattle.ranked_faults.proofs.TableFaults.{rule_holds}
+use Rattle.fault_order.specs.Private.FirstMet.{first, first_in}
+use Rattle.fault_order.proofs.TableFaults.{rule_holds}
 use Rattle.silage_syntax.specs.Tree.{Manifest, Item, equation, call, loop, initial, Items, no_item, item, Func, Top}
 use Rattle.silage_syntax.specs.Tree.{table, function, Program}
 use Rattle.silage_syntax.specs.Manifests.{Indices, manifest_value}
 use Rattle.silage_syntax.specs.Names.{decls}
 use Rattle.silage_meaning.specs.Instances.{IsInstance}
-use Rattle.source_elements.specs.declared.elements.Instance.{Instance}
-use Rattle.source_elements.specs.declared.elements.Elements.{Elements}
-use Rattle.source_elements.specs.Expansion.{IsExpansion, signals_of}
-use Rattle.source_elements.specs.Tables.{Table, rules, mark, in_order, nothing, ◌▹◌, each, counts, Context, after}
-use Rattle.source_elements.specs.Tables.{table_rules, row_rules}
-use Rattle.source_elements.specs.ElementRules.{elements_of, value_rules, item_table, items_row, loop_turns}
-use Rattle.source_elements.specs.ElementRules.{instance_table}
-use Rattle.source_elements.specs.Sizes.{top_is_sized}
+use Rattle.element_rules.specs.declared.elements.Instance.{Instance}
+use Rattle.element_rules.specs.declared.elements.Elements.{Elements}
+use Rattle.element_rules.specs.Expansion.{IsExpansion, signals_of}
+use Rattle.element_rules.specs.Tables.{Table, rules, mark, in_order, nothing, ◌▹◌, each, counts, Context, after}
+use Rattle.element_rules.specs.Tables.{table_rules, row_rules}
+use Rattle.element_rules.specs.ElementRules.{elements_of, value_rules, item_table, items_row, loop_turns}
+use Rattle.element_rules.specs.ElementRules.{instance_table}
+use Rattle.element_rules.specs.Sizes.{top_is_sized}
 use Rattle.lists.proofs.Each.{all_pass}
-use Rattle.source_elements.proofs.SoundNames.{all_sized}
-use Rattle.source_elements.proofs.LoopTurns.{turn_among, among_turn}
-use Rattle.source_elements.proofs.CheckedInstances.{items_ok, checked as checked_instance}
-use Rattle.typed_source.specs.TypedTree as typed
-use Rattle.typed_source.specs.declared.typed.TypedItem.{TypedItem as RustItem}
-use Rattle.typed_source.specs.Translation.{typed_item, typed_items, typed_func, typed_funcs, typed_program}
+use Rattle.element_rules.proofs.SoundNames.{all_sized}
+use Rattle.element_rules.proofs.LoopTurns.{turn_among, among_turn}
+use Rattle.element_rules.proofs.CheckedInstances.{items_ok, checked as checked_instance}
+use Rattle.type_rules.specs.TypedTree as typed
+use Rattle.type_rules.specs.declared.typed.TypedItem.{TypedItem as RustItem}
+use Rattle.type_rules.specs.Translation.{typed_item, typed_items, typed_func, typed_funcs, typed_program}
 use Rattle.loop_expand.specs.Checked.{IsChecked}
 use Rattle.loop_expand.specs.declared.columns.Turns.{Turns}
 use Rattle.loop_expand.specs.Private.Groups.{HasBounds, HaveBounds, HaveBoundsIn}
 use Rattle.loop_expand.specs.Private.Scopes.{has_instance, IsBounded, AreBounded}
 use Rattle.loop_expand.specs.Private.Turns.{indices_at, view_turns, turns_within}
 use Rattle.loop_expand.proofs.Expanded.{numbering}
-use Rattle.element_facts.proofs.LoadedElements.{instance_small}
+use Rattle.element_rules.proofs.LoadedElements.{instance_small}
 use Rattle.loop_expand.proofs.PassedItems.{front_passes, back_passes, each_passed}
 use Rattle.loop_expand.proofs.ProgramFacts.{IsIn, of_within}
 

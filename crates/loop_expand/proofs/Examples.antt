@@ -11,16 +11,16 @@ use Rattle.silage_syntax.specs.Tree.{Func, function, Program}
 use Rattle.silage_syntax.specs.Manifests.{no_delay, delay}
 use Rattle.silage_meaning.specs.Instances.{Instance as Path, main, inside, element, Site}
 use Rattle.silage_meaning.specs.Solves.{value, same}
-use Rattle.source_elements.specs.declared.elements.Instance.{Instance}
-use Rattle.source_elements.specs.declared.elements.Element.{Element as Entry}
-use Rattle.source_elements.specs.declared.elements.Elements.{Elements}
-use Rattle.source_elements.specs.Expansion.{IsExpansion}
-use Rattle.source_elements.specs.Numbering.{HasPath, of_main, of_call}
-use Rattle.typed_source.specs.TypedValue.{as_it_is, by_amount}
-use Rattle.typed_source.specs.Translation.{typed_expr}
+use Rattle.element_rules.specs.declared.elements.Instance.{Instance}
+use Rattle.element_rules.specs.declared.elements.Element.{Element as Entry}
+use Rattle.element_rules.specs.declared.elements.Elements.{Elements}
+use Rattle.element_rules.specs.Expansion.{IsExpansion}
+use Rattle.element_rules.specs.Numbering.{HasPath, of_main, of_call}
+use Rattle.type_rules.specs.TypedValue.{as_it_is, by_amount}
+use Rattle.type_rules.specs.Translation.{typed_expr}
 use Rattle.signal_graph.specs.Flat as flat
 use Rattle.signal_graph.specs.Rules.{plain}
-use Rattle.source_elements.specs.Numbers.{IsNumberOf}
+use Rattle.element_rules.specs.Numbers.{IsNumberOf}
 use Rattle.loop_expand.specs.FlatOf.{of_signal, IsFlatExpr, IsBodyOf}
 
 -- Parts of trees.

@@ -4,20 +4,20 @@ use Rattle.std.specs.Prelude.{pos, negsuc}
 use Rattle.std.proofs.lemmas.Int.{ints}
 use Rattle.lists.specs.Rows.{Rows}
 use Rattle.recurrences.specs.Systems as systems
-use Rattle.ranked_faults.specs.Private.FirstMet.{first}
-use Rattle.ranked_faults.proofs.TableFaults.{then_parts}
+use Rattle.fault_order.specs.Private.FirstMet.{first}
+use Rattle.fault_order.proofs.TableFaults.{then_parts}
 use Rattle.silage_syntax.specs.Tree.{Func, Program}
 use Rattle.silage_syntax.specs.Names.{main_of}
 use Rattle.silage_meaning.specs.Value.{Words}
 use Rattle.silage_meaning.specs.Solves.{Solves, IsSample, AreSame, IsStream, IsOneSolution}
-use Rattle.source_elements.specs.declared.elements.Elements.{Elements}
-use Rattle.source_elements.specs.Tables.{at_entry, table_rules}
-use Rattle.source_elements.specs.Expansion.{IsExpansion}
-use Rattle.source_elements.specs.Numbering.{IsNumbering}
-use Rattle.source_elements.specs.ElementRules.{word_rules, instance_table, max_nested, main_table, element_rules}
-use Rattle.source_elements.proofs.SoundNames.{names_apart}
-use Rattle.source_elements.proofs.PlacedFaults.{elements_pass}
-use Rattle.source_elements.proofs.NumberedElements.{is_numbering}
+use Rattle.element_rules.specs.declared.elements.Elements.{Elements}
+use Rattle.element_rules.specs.Tables.{at_entry, table_rules}
+use Rattle.element_rules.specs.Expansion.{IsExpansion}
+use Rattle.element_rules.specs.Numbering.{IsNumbering}
+use Rattle.element_rules.specs.ElementRules.{word_rules, instance_table, max_nested, main_table, element_rules}
+use Rattle.element_rules.proofs.SoundNames.{names_apart}
+use Rattle.element_rules.proofs.PlacedFaults.{elements_pass}
+use Rattle.element_rules.proofs.NumberedElements.{is_numbering}
 use Rattle.signal_graph.specs.Flat as flat
 use Rattle.signal_graph.specs.FlatRules.{IsFlat}
 use Rattle.signal_graph.specs.Values as flat_words
@@ -27,8 +27,8 @@ use Rattle.loop_expand.specs.Checked.{IsChecked}
 use Rattle.loop_expand.specs.FlatOf.{IsFlatOf}
 use Rattle.loop_expand.specs.Kept.{HaveSameWords, KeepsSolutions}
 use Rattle.loop_expand.proofs.Numbers.{number_of, is_number_of, below}
-use Rattle.element_facts.proofs.LoadedElements.{main_there as names_main}
-use Rattle.element_facts.proofs.OnceTables.{distinct_numbers}
+use Rattle.element_rules.proofs.LoadedElements.{main_there as names_main}
+use Rattle.element_rules.proofs.OnceTables.{distinct_numbers}
 use Rattle.loop_expand.proofs.Kept.{keeps_solutions}
 
 module _ (p : Program) (checked : IsChecked p) where

@@ -10,15 +10,15 @@ use Rattle.std.proofs.lemmas.List.Sums.{sum_by-cons}
 use Rattle.std.proofs.lemmas.Option.{slice_get_within}
 use Rattle.std.specs.List.{range_with_len}
 use Rattle.lists.proofs.Places.{drop_end}
-use Rattle.source_elements.specs.ElementRules.{elements_of}
+use Rattle.element_rules.specs.ElementRules.{elements_of}
 use Rattle.lists.proofs.Ranges.{range_next}
 use Rattle.silage_syntax.specs.declared.tree.Decl.{Decl}
 use Rattle.silage_syntax.specs.Names.{element_count}
-use Rattle.typed_source.specs.TypedTree as typed
+use Rattle.type_rules.specs.TypedTree as typed
 use Rattle.signal_graph.specs.Flat as flat
-use Rattle.typed_source.specs.declared.typed.TypedConst.{TypedConst}
-use Rattle.typed_source.specs.declared.typed.TypedExpr.{TypedExpr}
-use Rattle.source_elements.specs.declared.elements.Instance.{Instance}
+use Rattle.type_rules.specs.declared.typed.TypedConst.{TypedConst}
+use Rattle.type_rules.specs.declared.typed.TypedExpr.{TypedExpr}
+use Rattle.element_rules.specs.declared.elements.Instance.{Instance}
 use Rattle.signal_graph.specs.declared.flat.FlatElem.{FlatElem}
 use Rattle.signal_graph.specs.declared.flat.FlatExpr.{FlatExpr}
 use Rattle.silage_syntax.specs.Manifests.{Indices}

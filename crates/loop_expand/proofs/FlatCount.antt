@@ -1,9 +1,9 @@
 -- A flat program has at most as many elements as the load of its program.
 use Rattle.std.proofs.Common.{◌≤◌, length, arith}
 use Rattle.silage_syntax.specs.Tree.{Program}
-use Rattle.source_elements.specs.declared.elements.Elements.{Elements}
-use Rattle.source_elements.specs.Expansion.{IsExpansion}
-use Rattle.element_facts.proofs.LoadedElements.{few_elements}
+use Rattle.element_rules.specs.declared.elements.Elements.{Elements}
+use Rattle.element_rules.specs.Expansion.{IsExpansion}
+use Rattle.element_rules.proofs.LoadedElements.{few_elements}
 use Rattle.signal_graph.specs.Flat as flat
 use Rattle.loop_expand.specs.Checked.{IsChecked}
 use Rattle.loop_expand.specs.FlatOf.{IsFlatOf}

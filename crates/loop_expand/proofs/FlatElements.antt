@@ -7,8 +7,8 @@ use Rattle.silage_syntax.specs.Tree.{Program}
 use Rattle.silage_meaning.specs.Instances.{Element, IsElement}
 use Rattle.silage_meaning.specs.Solves.{Source, IsDefined, input_types, input, equated, argument, array, table, result}
 use Rattle.silage_meaning.specs.Solves.{array_result}
-use Rattle.source_elements.specs.declared.elements.Elements.{Elements}
-use Rattle.source_elements.specs.Numbering.{IsNumbering}
+use Rattle.element_rules.specs.declared.elements.Elements.{Elements}
+use Rattle.element_rules.specs.Numbering.{IsNumbering}
 use Rattle.signal_graph.specs.Flat as flat
 use Rattle.signal_graph.specs.Rules.{width_of, IsType, IsInType, AreInits}
 use Rattle.signal_graph.specs.FlatRules as rules

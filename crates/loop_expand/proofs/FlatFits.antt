@@ -21,11 +21,11 @@ use Rattle.silage_meaning.specs.Solves.{result, array_result}
 use Rattle.silage_meaning.proofs.Elements.{declared_at, made_is}
 use Rattle.silage_meaning.proofs.Instances.{instance_once}
 use Rattle.silage_meaning.proofs.Outputs.{in_first, in_second}
-use Rattle.source_elements.specs.declared.elements.Elements.{Elements}
+use Rattle.element_rules.specs.declared.elements.Elements.{Elements}
 use Rattle.silage_syntax.specs.Manifests.{Indices}
-use Rattle.typed_source.specs.TypedTree as typed
-use Rattle.typed_source.specs.TypedValue.{HasFormat, as_it_is, by_amount}
-use Rattle.typed_source.specs.Translation.{typed_expr}
+use Rattle.type_rules.specs.TypedTree as typed
+use Rattle.type_rules.specs.TypedValue.{HasFormat, as_it_is, by_amount}
+use Rattle.type_rules.specs.Translation.{typed_expr}
 use Rattle.signal_graph.specs.Flat as flat
 use Rattle.signal_graph.specs.Operations.{Class, quantised, truth, choice, class_of, input as an_input}
 use Rattle.signal_graph.specs.Operations.{output as an_output, constant, memory}
@@ -33,7 +33,7 @@ use Rattle.signal_graph.specs.Rules.{width_of}
 use Rattle.signal_graph.specs.FlatSolves.{no_element, element_of}
 use Rattle.signal_graph.specs.FlatRules.{Fits, ChoicesFit, AllFit, GivesWidth}
 use Rattle.loop_expand.specs.Checked.{IsChecked}
-use Rattle.source_elements.specs.Numbers.{IsNumberOf}
+use Rattle.element_rules.specs.Numbers.{IsNumberOf}
 use Rattle.loop_expand.specs.FlatOf.{IsTableWord, IsFlatRead, of_signal, of_table, IsFlatExpr, AreFlatParts, IsBodyOf}
 use Rattle.loop_expand.specs.FlatOf.{IsFlatOf}
 use Rattle.loop_expand.proofs.Shapes.{declared_type, table_type_is, table_entry, source_fits}

@@ -15,18 +15,18 @@ use Rattle.silage_meaning.specs.Rules.{HasSingleDefinitions, ReadsAt, reads_at, 
 use Rattle.silage_meaning.specs.Rules.{direct, by_way_of, HasNoDelaylessLoop}
 use Rattle.silage_meaning.proofs.Values.{place_once, looks_back_once}
 use Rattle.silage_meaning.proofs.Elements.{source_there}
-use Rattle.source_elements.specs.declared.elements.Elements.{Elements}
-use Rattle.source_elements.specs.Numbering.{IsNumbering}
-use Rattle.source_elements.proofs.SingleDefinitions.{single_definitions}
-use Rattle.typed_source.specs.TypedTree as typed
-use Rattle.typed_source.specs.TypeRules.{against, expr_rules}
-use Rattle.typed_source.specs.Translation.{typed_expr}
-use Rattle.typed_source.proofs.Literals.{Passes}
+use Rattle.element_rules.specs.declared.elements.Elements.{Elements}
+use Rattle.element_rules.specs.Numbering.{IsNumbering}
+use Rattle.element_rules.proofs.SingleDefinitions.{single_definitions}
+use Rattle.type_rules.specs.TypedTree as typed
+use Rattle.type_rules.specs.TypeRules.{against, expr_rules}
+use Rattle.type_rules.specs.Translation.{typed_expr}
+use Rattle.type_rules.proofs.Literals.{Passes}
 use Rattle.signal_graph.specs.Flat as flat
 use Rattle.signal_graph.specs.Values.{Reads as FlatReads, PartsRead, BodyReads}
 use Rattle.signal_graph.specs.FlatSolves.{no_element, element_of, ElementReads, IsFlatLoopless}
 use Rattle.loop_expand.specs.Checked.{IsChecked}
-use Rattle.source_elements.specs.Numbers.{IsNumberOf, HasDistinctNumbers}
+use Rattle.element_rules.specs.Numbers.{IsNumberOf, HasDistinctNumbers}
 use Rattle.loop_expand.specs.FlatOf.{IsFlatRead, of_signal, of_table, IsFlatExpr, AreFlatParts, IsBodyOf, IsFlatElement}
 use Rattle.loop_expand.specs.FlatOf.{IsFlatOf}
 use Rattle.loop_expand.proofs.Items.{site_passes}

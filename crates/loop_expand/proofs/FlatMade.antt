@@ -21,20 +21,20 @@ use Rattle.silage_meaning.specs.Instances.{elements_from as signals_of_path, inp
 use Rattle.silage_meaning.specs.Solves.{Source, IsDefined, IsPreset, input_types, types_of as types_of_part}
 use Rattle.silage_meaning.specs.Rules.{IsDefinedOnce}
 use Rattle.silage_meaning.specs.Types.{IsRawWord, word_types}
-use Rattle.source_elements.specs.declared.elements.Instance.{Instance}
-use Rattle.source_elements.specs.declared.elements.Element.{Element as Entry}
-use Rattle.source_elements.specs.declared.elements.Elements.{Elements}
-use Rattle.source_elements.specs.ElementRules.{elements_of}
-use Rattle.source_elements.specs.Expansion.{IsExpansion, elements_from, signals_of, elements_in}
-use Rattle.source_elements.specs.Numbering.{HasPath, of_main, of_call, IsNumbering}
-use Rattle.source_elements.specs.Sizes.{first_of}
-use Rattle.source_elements.proofs.InputWords.{from_word, word_once}
-use Rattle.source_elements.proofs.SingleDefinitions.{single_definitions}
-use Rattle.typed_source.specs.TypedTree as typed
-use Rattle.typed_source.specs.Translation.{typed_program, typed_func}
+use Rattle.element_rules.specs.declared.elements.Instance.{Instance}
+use Rattle.element_rules.specs.declared.elements.Element.{Element as Entry}
+use Rattle.element_rules.specs.declared.elements.Elements.{Elements}
+use Rattle.element_rules.specs.ElementRules.{elements_of}
+use Rattle.element_rules.specs.Expansion.{IsExpansion, elements_from, signals_of, elements_in}
+use Rattle.element_rules.specs.Numbering.{HasPath, of_main, of_call, IsNumbering}
+use Rattle.element_rules.specs.Sizes.{first_of}
+use Rattle.element_rules.proofs.InputWords.{from_word, word_once}
+use Rattle.element_rules.proofs.SingleDefinitions.{single_definitions}
+use Rattle.type_rules.specs.TypedTree as typed
+use Rattle.type_rules.specs.Translation.{typed_program, typed_func}
 use Rattle.signal_graph.specs.Flat as flat
 use Rattle.loop_expand.specs.Checked.{IsChecked}
-use Rattle.source_elements.specs.Numbers.{IsNumberOf}
+use Rattle.element_rules.specs.Numbers.{IsNumberOf}
 use Rattle.loop_expand.specs.FlatOf.{IsBodyOf, AreInitsOf, IsFlatElement, IsFlatOf}
 use Rattle.loop_expand.specs.Private.Scopes.{Body, body_of, body_at, body_for, size_in, firsts_from}
 use Rattle.loop_expand.specs.Private.Sizes.{decls_of}
@@ -48,7 +48,7 @@ use Rattle.loop_expand.proofs.FactsPut.{facts_length}
 use Rattle.loop_expand.proofs.FlatWords.{input_count}
 use Rattle.loop_expand.proofs.InstanceNumbers.{Bodies, Firsts, body_at_top, element_number, instance_body}
 use Rattle.loop_expand.proofs.Numbers.{numbered, element_once, path_once}
-use Rattle.element_facts.proofs.PresetsOnce.{presets_once}
+use Rattle.element_rules.proofs.PresetsOnce.{presets_once}
 use Rattle.loop_expand.proofs.ProgramFacts.{AllFacts, facts_true, IsInput, defined_has, preset_has}
 use Rattle.loop_expand.proofs.SiteFacts.{IsTrueFact, AreTrue}
 

@@ -12,14 +12,14 @@ use Rattle.silage_syntax.specs.Tree.{Manifest, Place, Func, Program}
 use Rattle.silage_syntax.specs.Manifests.{Indices, HasValue, LooksBack, no_delay, delay as by_delay}
 use Rattle.silage_syntax.specs.Names.{decls, declared, as_table, table_named, element_count, IsOffset}
 use Rattle.silage_meaning.specs.Instances.{Instance as Path, element, IsInstance, Site, IsSignal}
-use Rattle.source_elements.specs.Sizes.{first_of}
-use Rattle.source_elements.specs.declared.elements.Elements.{Elements}
-use Rattle.typed_source.specs.TypedTree as typed
-use Rattle.typed_source.specs.TypedValue.{HasFormat, as_it_is, by_amount}
-use Rattle.typed_source.specs.Translation.{typed_table, typed_program}
-use Rattle.typed_source.specs.declared.typed.TypedConst.{TypedConst}
+use Rattle.element_rules.specs.Sizes.{first_of}
+use Rattle.element_rules.specs.declared.elements.Elements.{Elements}
+use Rattle.type_rules.specs.TypedTree as typed
+use Rattle.type_rules.specs.TypedValue.{HasFormat, as_it_is, by_amount}
+use Rattle.type_rules.specs.Translation.{typed_table, typed_program}
+use Rattle.type_rules.specs.declared.typed.TypedConst.{TypedConst}
 use Rattle.signal_graph.specs.Flat as flat
-use Rattle.source_elements.specs.Numbers.{IsNumberOf}
+use Rattle.element_rules.specs.Numbers.{IsNumberOf}
 use Rattle.loop_expand.specs.FlatOf.{IsTableWord, IsFlatRead, of_signal, of_table, IsFlatExpr, AreFlatParts}
 use Rattle.loop_expand.specs.Private.Scopes.{Signal, Scope, signals_from}
 use Rattle.loop_expand.specs.Private.Facts.{at_least_0, natural, offset, delay_of, format_of, signal_named, typed_named}

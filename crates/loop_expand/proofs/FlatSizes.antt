@@ -10,12 +10,12 @@ use Rattle.silage_syntax.specs.Tree.{Branches, no_branch, branch, Func, Program}
 use Rattle.silage_meaning.specs.Instances.{Site}
 use Rattle.silage_meaning.specs.Solves.{Source, word, value, same, number}
 use Rattle.silage_meaning.specs.Types.{own_type, factor_type, common_type}
-use Rattle.source_elements.specs.declared.elements.Elements.{Elements}
-use Rattle.source_elements.specs.ElementRules.{weight, branches_weight}
-use Rattle.typed_source.specs.TypedTree as typed
-use Rattle.typed_source.specs.TypedTree.{TypedExpr}
-use Rattle.typed_source.specs.Translation.{typed_against, typed_product, typed_cast, typed_number, typed_truth}
-use Rattle.typed_source.specs.Translation.{typed_expr, typed_choice}
+use Rattle.element_rules.specs.declared.elements.Elements.{Elements}
+use Rattle.element_rules.specs.ElementRules.{weight, branches_weight}
+use Rattle.type_rules.specs.TypedTree as typed
+use Rattle.type_rules.specs.TypedTree.{TypedExpr}
+use Rattle.type_rules.specs.Translation.{typed_against, typed_product, typed_cast, typed_number, typed_truth}
+use Rattle.type_rules.specs.Translation.{typed_expr, typed_choice}
 use Rattle.signal_graph.specs.Flat as flat
 use Rattle.signal_graph.specs.Flat.{size, size_of_parts, size_of_body}
 use Rattle.loop_expand.specs.FlatOf.{IsFlatRead, of_signal, of_table, IsFlatExpr, AreFlatParts, IsBodyOf}

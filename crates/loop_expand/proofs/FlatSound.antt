@@ -19,21 +19,21 @@ use Rattle.silage_meaning.specs.Types.{IsRawWord, name_type}
 use Rattle.silage_meaning.specs.Solves.{Source, same, IsDefined, input, equated, argument, array, table as by_table}
 use Rattle.silage_meaning.specs.Solves.{result, array_result}
 use Rattle.silage_meaning.proofs.Elements.{looks_back_most}
-use Rattle.source_elements.specs.declared.elements.Elements.{Elements}
-use Rattle.typed_source.specs.Boundary.{HasItem, HasItemIn}
-use Rattle.typed_source.specs.Numbers.{IsTopShort}
-use Rattle.typed_source.specs.Private.Sound.{IsSoundType, IsSound, IsSoundItem, AreSoundItems, HasSoundTypes}
-use Rattle.typed_source.specs.Private.Sound.{IsSoundTop}
-use Rattle.typed_source.specs.TypedTree as typed
-use Rattle.typed_source.specs.TypeRules.{against, expr_rules}
-use Rattle.typed_source.specs.Translation.{typed_expr}
-use Rattle.typed_source.proofs.Literals.{Passes}
-use Rattle.typed_source.proofs.Tests.{sound_shape}
-use Rattle.typed_source.proofs.SoundNames.{table_found, top_sound}
+use Rattle.element_rules.specs.declared.elements.Elements.{Elements}
+use Rattle.type_rules.specs.Boundary.{HasItem, HasItemIn}
+use Rattle.type_rules.specs.Numbers.{IsTopShort}
+use Rattle.type_rules.specs.Private.Sound.{IsSoundType, IsSound, IsSoundItem, AreSoundItems, HasSoundTypes}
+use Rattle.type_rules.specs.Private.Sound.{IsSoundTop}
+use Rattle.type_rules.specs.TypedTree as typed
+use Rattle.type_rules.specs.TypeRules.{against, expr_rules}
+use Rattle.type_rules.specs.Translation.{typed_expr}
+use Rattle.type_rules.proofs.Literals.{Passes}
+use Rattle.type_rules.proofs.Tests.{sound_shape}
+use Rattle.type_rules.proofs.SoundNames.{table_found, top_sound}
 use Rattle.signal_graph.specs.Flat as flat
 use Rattle.signal_graph.specs.FlatRules.{IsRead, IsExpr, AreExprs}
 use Rattle.loop_expand.specs.Checked.{IsChecked}
-use Rattle.source_elements.specs.Numbers.{IsNumberOf}
+use Rattle.element_rules.specs.Numbers.{IsNumberOf}
 use Rattle.loop_expand.specs.FlatOf.{IsTableWord, IsFlatRead, of_signal, of_table, IsFlatExpr, AreFlatParts, IsBodyOf}
 use Rattle.loop_expand.proofs.Items.{has_item, instance_top, site_passes}
 use Rattle.loop_expand.proofs.Shapes.{declared_type, argument_fits, table_entry}

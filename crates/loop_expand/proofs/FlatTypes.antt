@@ -7,10 +7,10 @@ use Rattle.std.proofs.lemmas.List.{length-replicate}
 use Rattle.std.proofs.lemmas.List.FromFn.{length-map-range_with_len}
 use Rattle.lists.proofs.Bools.{both_true}
 use Rattle.lists.proofs.Places.{some_once, at_left, at_right, at_append}
-use Rattle.ranked_faults.specs.Ranked.{IsClear}
-use Rattle.ranked_faults.specs.Rules.{each}
-use Rattle.ranked_faults.specs.Private.FirstMet.{first, first_in}
-use Rattle.ranked_faults.proofs.TableFaults.{then_parts, rule_holds}
+use Rattle.fault_order.specs.Ranked.{IsClear}
+use Rattle.fault_order.specs.Rules.{each}
+use Rattle.fault_order.specs.Private.FirstMet.{first, first_in}
+use Rattle.fault_order.proofs.TableFaults.{then_parts, rule_holds}
 use Rattle.fix_word.specs.declared.types.SigType.{SigType}
 use Rattle.fix_word.specs.declared.types.SigType.TheVariants.{Fix, Bool as Truths}
 use Rattle.silage_syntax.specs.declared.tree.Decl.{Decl}
@@ -22,13 +22,13 @@ use Rattle.silage_meaning.specs.Types.{word_types}
 use Rattle.silage_meaning.specs.Solves.{input_types, types_of}
 use Rattle.silage_meaning.proofs.Instances.{instance_once}
 use Rattle.silage_meaning.proofs.Outputs.{in_first}
-use Rattle.source_names.specs.TopNames.{top_names}
-use Rattle.source_names.specs.Meanings.{are_dims, is_signal_type}
-use Rattle.source_names.specs.NameRules.{decl_rules, signal_rules, top_rules, all_top_rules}
-use Rattle.source_names.specs.NameFaults.{name_faults}
-use Rattle.source_elements.proofs.SoundNames.{clear_first}
-use Rattle.typed_source.specs.Private.Sound.{IsSoundType}
-use Rattle.typed_source.proofs.Tests.{sound_shape}
+use Rattle.name_rules.specs.TopNames.{top_names}
+use Rattle.name_rules.specs.Meanings.{are_dims, is_signal_type}
+use Rattle.name_rules.specs.NameRules.{decl_rules, signal_rules, top_rules, all_top_rules}
+use Rattle.name_rules.specs.NameFaults.{name_faults}
+use Rattle.element_rules.proofs.SoundNames.{clear_first}
+use Rattle.type_rules.specs.Private.Sound.{IsSoundType}
+use Rattle.type_rules.proofs.Tests.{sound_shape}
 use Rattle.signal_graph.specs.Rules.{IsType}
 use Rattle.loop_expand.specs.Checked.{IsChecked}
 use Rattle.loop_expand.proofs.Items.{instance_top}

@@ -8,10 +8,10 @@ use Rattle.silage_meaning.specs.Instances.{element, Site}
 use Rattle.silage_meaning.specs.Value.{Words}
 use Rattle.silage_meaning.specs.Solves.{IsSample}
 use Rattle.silage_meaning.proofs.Elements.{looks_back_most}
-use Rattle.source_elements.specs.declared.elements.Elements.{Elements}
-use Rattle.typed_source.specs.TypedTree as typed
-use Rattle.typed_source.specs.TypedValue.{HasTypedValue, HaveTypedValues, HasRead}
-use Rattle.typed_source.specs.TypedValue as value
+use Rattle.element_rules.specs.declared.elements.Elements.{Elements}
+use Rattle.type_rules.specs.TypedTree as typed
+use Rattle.type_rules.specs.TypedValue.{HasTypedValue, HaveTypedValues, HasRead}
+use Rattle.type_rules.specs.TypedValue as value
 use Rattle.signal_graph.specs.Flat as flat
 use Rattle.signal_graph.specs.FlatRules.{IsExpr, AreExprs}
 use Rattle.signal_graph.specs.Values as flat_words

@@ -10,8 +10,8 @@ use Rattle.std.proofs.lemmas.List.Sums.{sum_by-cons}
 use Rattle.std.proofs.lemmas.Nat.{column_fits}
 use Rattle.std.proofs.lemmas.Option.{slice_get_within}
 use Rattle.lists.proofs.Bools.{both_true as both_hold}
-use Rattle.ranked_faults.specs.Private.FirstMet.{first}
-use Rattle.ranked_faults.proofs.TableFaults.{then_parts, rule_holds}
+use Rattle.fault_order.specs.Private.FirstMet.{first}
+use Rattle.fault_order.proofs.TableFaults.{then_parts, rule_holds}
 use Rattle.silage_syntax.specs.declared.tree.Decl.{Decl}
 use Rattle.silage_syntax.specs.Tree.{Func, Program}
 use Rattle.silage_syntax.specs.Names.{element_count, main_of}
@@ -20,16 +20,16 @@ use Rattle.silage_meaning.specs.Types.{word_types}
 use Rattle.silage_meaning.specs.Solves.{input_types, output_types, types_of}
 use Rattle.silage_meaning.proofs.InputRows.{outputs_length}
 use Rattle.silage_meaning.proofs.Outputs.{in_first, in_second}
-use Rattle.source_names.specs.Meanings.{is_dim, most_elements}
-use Rattle.source_elements.specs.declared.fault.PlacedFault.TheVariants.{TooLarge}
-use Rattle.source_elements.specs.declared.elements.Elements.{Elements}
-use Rattle.source_elements.specs.Tables.{at_entry, table_rules}
-use Rattle.source_elements.specs.ElementRules.{elements_of, word_rules, main_table, element_rules}
-use Rattle.source_elements.proofs.PlacedFaults.{elements_pass}
+use Rattle.name_rules.specs.Meanings.{is_dim, most_elements}
+use Rattle.element_rules.specs.declared.fault.PlacedFault.TheVariants.{TooLarge}
+use Rattle.element_rules.specs.declared.elements.Elements.{Elements}
+use Rattle.element_rules.specs.Tables.{at_entry, table_rules}
+use Rattle.element_rules.specs.ElementRules.{elements_of, word_rules, main_table, element_rules}
+use Rattle.element_rules.proofs.PlacedFaults.{elements_pass}
 use Rattle.signal_graph.specs.Flat as flat
 use Rattle.signal_graph.specs.Rules.{IsWithin, IsType}
 use Rattle.loop_expand.specs.Checked.{IsChecked}
-use Rattle.source_elements.specs.Numbers.{IsNumberOf}
+use Rattle.element_rules.specs.Numbers.{IsNumberOf}
 use Rattle.loop_expand.specs.FlatOf.{IsFlatOf}
 use Rattle.loop_expand.proofs.Items.{instance_top}
 use Rattle.loop_expand.proofs.Expanded.{main_there}

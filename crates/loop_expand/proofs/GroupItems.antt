@@ -6,9 +6,9 @@ use Rattle.lists.proofs.Places.{some_once}
 use Rattle.silage_syntax.specs.Tree.{Manifest, Item, equation, call, loop, initial, Items, no_item, item, Func, Program}
 use Rattle.silage_syntax.specs.Manifests.{Indices}
 use Rattle.silage_meaning.specs.Instances.{Occurs, OccursIn}
-use Rattle.source_elements.proofs.LoopTurns.{among_turn}
-use Rattle.typed_source.specs.Translation.{typed_item, typed_items}
-use Rattle.typed_source.specs.TypedTree as typed
+use Rattle.element_rules.proofs.LoopTurns.{among_turn}
+use Rattle.type_rules.specs.Translation.{typed_item, typed_items}
+use Rattle.type_rules.specs.TypedTree as typed
 use Rattle.loop_expand.specs.declared.columns.Turns.{Turns}
 use Rattle.loop_expand.specs.Private.Turns.{indices_at, view_turns, turns_within}
 use Rattle.loop_expand.specs.Private.Groups.{Group, plain_items, grouped, loop_groups, loops_groups, groups_of}

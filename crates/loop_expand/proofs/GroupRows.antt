@@ -4,8 +4,8 @@ use Rattle.std.proofs.Common.{append_assoc, append-nil}
 use Rattle.std.specs.List.{range_with_len}
 use Rattle.lists.proofs.Places.{drop_end}
 use Rattle.silage_syntax.specs.Manifests.{Indices}
-use Rattle.typed_source.specs.TypedTree as typed
-use Rattle.typed_source.specs.declared.typed.TypedItem.{TypedItem}
+use Rattle.type_rules.specs.TypedTree as typed
+use Rattle.type_rules.specs.declared.typed.TypedItem.{TypedItem}
 use Rattle.loop_expand.specs.Private.Groups.{Group, plain_items, loops_groups, groups_in}
 use Rattle.loop_expand.specs.declared.columns.Turns.{Turns}
 use Rattle.loop_expand.specs.Private.Turns.{indices_at, view_turns}

@@ -16,23 +16,23 @@ use Rattle.silage_syntax.specs.Tree.{Func, Top, table, function, Program}
 use Rattle.silage_syntax.specs.Names.{decls, element_count, main_of}
 use Rattle.silage_meaning.specs.Instances.{Instance as Path, element, IsInstance, IsElement}
 use Rattle.silage_meaning.proofs.Instances.{instance_once}
-use Rattle.source_elements.specs.declared.elements.Instance.{Instance}
-use Rattle.source_elements.specs.declared.elements.Element.{Element as Entry}
-use Rattle.source_elements.specs.declared.elements.Elements.{Elements}
-use Rattle.source_elements.specs.ElementRules.{elements_of}
-use Rattle.source_elements.specs.Expansion.{IsExpansion, elements_from, signals_of, elements_in}
-use Rattle.source_elements.specs.Numbering.{HasPath, of_main, of_call, IsNumbering}
-use Rattle.source_elements.specs.Sizes.{first_of}
-use Rattle.typed_source.specs.TypedTree as typed
-use Rattle.typed_source.specs.Translation.{typed_program, typed_func, typed_funcs}
+use Rattle.element_rules.specs.declared.elements.Instance.{Instance}
+use Rattle.element_rules.specs.declared.elements.Element.{Element as Entry}
+use Rattle.element_rules.specs.declared.elements.Elements.{Elements}
+use Rattle.element_rules.specs.ElementRules.{elements_of}
+use Rattle.element_rules.specs.Expansion.{IsExpansion, elements_from, signals_of, elements_in}
+use Rattle.element_rules.specs.Numbering.{HasPath, of_main, of_call, IsNumbering}
+use Rattle.element_rules.specs.Sizes.{first_of}
+use Rattle.type_rules.specs.TypedTree as typed
+use Rattle.type_rules.specs.Translation.{typed_program, typed_func, typed_funcs}
 use Rattle.loop_expand.specs.Checked.{IsChecked}
-use Rattle.source_elements.specs.Numbers.{IsNumberOf}
+use Rattle.element_rules.specs.Numbers.{IsNumberOf}
 use Rattle.loop_expand.specs.Private.Children.{AreApart, same_turns, is_child, child_from, child_of}
 use Rattle.loop_expand.specs.Private.Scopes.{Body, body_of, body_for, has_instance, bodies_for, size_in, firsts_from}
 use Rattle.loop_expand.proofs.Expanded.{numbering}
 use Rattle.loop_expand.proofs.Numbers.{path_once}
-use Rattle.element_facts.proofs.OncePaths.{number_once}
-use Rattle.element_facts.proofs.OnceTables.{spread, distinct_numbers}
+use Rattle.element_rules.proofs.OncePaths.{number_once}
+use Rattle.element_rules.proofs.OnceTables.{spread, distinct_numbers}
 
 -- A declaration's elements among those of an instance.
 abbrev places : (n d a count : ℕ) → List Entry

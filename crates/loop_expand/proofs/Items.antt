@@ -2,27 +2,27 @@
 use Rattle.std.proofs.Common.{◌≡◌, refl, sym, subst, ℕ, zero, suc, List, [], ◌∷◌, slice_get, codes, Some, inl, inr}
 use Rattle.std.proofs.Common.{Result, Ok, Err}
 use Rattle.lists.proofs.Places.{some_once}
-use Rattle.ranked_faults.specs.Ranked.{IsClear}
-use Rattle.ranked_faults.specs.Rules.{Rules, RuleRow, ◌▸◌, each, faults}
-use Rattle.ranked_faults.specs.Private.FirstMet.{first, first_in}
-use Rattle.ranked_faults.proofs.FirstFaults.{Answers}
-use Rattle.ranked_faults.proofs.TableFaults.{then_parts, first_answers}
+use Rattle.fault_order.specs.Ranked.{IsClear}
+use Rattle.fault_order.specs.Rules.{Rules, RuleRow, ◌▸◌, each, faults}
+use Rattle.fault_order.specs.Private.FirstMet.{first, first_in}
+use Rattle.fault_order.proofs.FirstFaults.{Answers}
+use Rattle.fault_order.proofs.TableFaults.{then_parts, first_answers}
 use Rattle.silage_syntax.specs.declared.tree.Decl.{Decl}
 use Rattle.silage_syntax.specs.Tree.{Place, Expr, Item, equation, call, loop, initial, Items, no_item, item, Func, Top}
 use Rattle.silage_syntax.specs.Tree.{function, Program}
 use Rattle.silage_syntax.specs.Manifests.{Indices}
 use Rattle.silage_meaning.specs.Instances.{Instance, Occurs, OccursIn, IsInstance, main_is, inside_is, Site, IsItemAt}
 use Rattle.silage_meaning.specs.Types.{name_type}
-use Rattle.source_names.specs.NameFaults.{name_faults}
-use Rattle.source_names.specs.TopNames.{position_of}
-use Rattle.source_elements.proofs.NamedTops.{top_named}
-use Rattle.source_elements.proofs.SoundNames.{names_apart}
-use Rattle.typed_source.specs.Boundary.{HasItem, HasItemIn}
-use Rattle.typed_source.specs.TypeFaults.{type_faults}
-use Rattle.typed_source.specs.TypeRules.{name_rules, expr_rules, argument_rules, place_rules, item_rules, items_rules}
-use Rattle.typed_source.specs.TypeRules.{top_rules, type_rules}
-use Rattle.typed_source.specs.declared.fault.TypeFault.{TypeFault}
-use Rattle.typed_source.proofs.Literals.{Passes}
+use Rattle.name_rules.specs.NameFaults.{name_faults}
+use Rattle.name_rules.specs.TopNames.{position_of}
+use Rattle.element_rules.proofs.NamedTops.{top_named}
+use Rattle.element_rules.proofs.SoundNames.{names_apart}
+use Rattle.type_rules.specs.Boundary.{HasItem, HasItemIn}
+use Rattle.type_rules.specs.TypeFaults.{type_faults}
+use Rattle.type_rules.specs.TypeRules.{name_rules, expr_rules, argument_rules, place_rules, item_rules, items_rules}
+use Rattle.type_rules.specs.TypeRules.{top_rules, type_rules}
+use Rattle.type_rules.specs.declared.fault.TypeFault.{TypeFault}
+use Rattle.type_rules.proofs.Literals.{Passes}
 
 mutual
   -- an item that occurs is one of the items, or is inside a loop there

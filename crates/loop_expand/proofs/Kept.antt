@@ -14,16 +14,16 @@ use Rattle.silage_meaning.specs.Solves.{Source, IsDefined, Gives, IsInitial, Sol
 use Rattle.silage_meaning.specs.Rules.{IsDefinedOnce, HasSingleDefinitions}
 use Rattle.silage_meaning.proofs.Sources.{gives_once}
 use Rattle.silage_meaning.proofs.Unique.{initial_once}
-use Rattle.source_elements.specs.declared.elements.Elements.{Elements}
-use Rattle.source_elements.specs.Numbering.{IsNumbering}
-use Rattle.source_elements.proofs.SingleDefinitions.{single_definitions}
+use Rattle.element_rules.specs.declared.elements.Elements.{Elements}
+use Rattle.element_rules.specs.Numbering.{IsNumbering}
+use Rattle.element_rules.proofs.SingleDefinitions.{single_definitions}
 use Rattle.signal_graph.specs.Flat as flat
 use Rattle.signal_graph.specs.Rules.{word_before}
 use Rattle.signal_graph.specs.Values as flat_words
 use Rattle.signal_graph.specs.Values.{body_value}
 use Rattle.signal_graph.specs.FlatSolves.{no_element, element_of, FlatSolves, flat_out}
 use Rattle.loop_expand.specs.Checked.{IsChecked}
-use Rattle.source_elements.specs.Numbers.{IsNumberOf, HasDistinctNumbers}
+use Rattle.element_rules.specs.Numbers.{IsNumberOf, HasDistinctNumbers}
 use Rattle.loop_expand.specs.FlatOf.{IsFlatElement, IsFlatOf}
 use Rattle.loop_expand.specs.Kept.{HaveSameWords, KeepsSolutions}
 use Rattle.loop_expand.proofs.Bodies.{source_given}

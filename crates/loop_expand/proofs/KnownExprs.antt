@@ -5,24 +5,24 @@ use Rattle.std.specs.Prelude.{is_some}
 use Rattle.std.proofs.lemmas.Int.{ints}
 use Rattle.std.proofs.lemmas.Option.{slice_get_within}
 use Rattle.silage_syntax.specs.Names.{decls, declared, IsOffset}
-use Rattle.source_elements.specs.Sizes.{first_of}
+use Rattle.element_rules.specs.Sizes.{first_of}
 use Rattle.fix_word.specs.declared.types.Format.{Format}
 use Rattle.fix_word.specs.declared.operation.Op.{Op}
 use Rattle.signal_graph.specs.Operations.{Class, input, output, constant, quantised, truth, choice, memory, class_of}
 use Rattle.signal_graph.specs.FlatRules.{IsFlatFormat}
-use Rattle.typed_source.specs.TypedValue.{HasFormat, as_it_is, by_amount}
-use Rattle.typed_source.specs.declared.typed.TypedConst.{TypedConst}
+use Rattle.type_rules.specs.TypedValue.{HasFormat, as_it_is, by_amount}
+use Rattle.type_rules.specs.declared.typed.TypedConst.{TypedConst}
 use Rattle.lists.proofs.Places.{some_once}
 use Rattle.loop_expand.specs.Private.Amounts.{IsShift, IsKnownAmount}
 use Rattle.silage_syntax.specs.declared.tree.Decl.{Decl}
 use Rattle.silage_meaning.specs.Instances.{element, Site, IsSignal}
 use Rattle.silage_syntax.specs.Manifests.{Indices, LooksBack, no_delay}
 use Rattle.silage_syntax.specs.Tree.{Manifest, Place, Program}
-use Rattle.source_elements.specs.declared.elements.Elements.{Elements}
-use Rattle.typed_source.specs.TypedTree as typed
-use Rattle.typed_source.specs.declared.typed.TypedExpr.{TypedExpr}
+use Rattle.element_rules.specs.declared.elements.Elements.{Elements}
+use Rattle.type_rules.specs.TypedTree as typed
+use Rattle.type_rules.specs.declared.typed.TypedExpr.{TypedExpr}
 use Rattle.signal_graph.specs.Flat as flat
-use Rattle.source_elements.specs.Numbers.{IsNumberOf}
+use Rattle.element_rules.specs.Numbers.{IsNumberOf}
 use Rattle.loop_expand.specs.FlatOf.{IsFlatExpr, AreFlatParts, of_signal, of_table, IsFlatRead}
 use Rattle.loop_expand.specs.Private.Facts.{signal_named}
 use Rattle.loop_expand.specs.Private.Known.{IsKnown, IsPlaced, IsKnownRead, IsKnownExpr, AreKnownParts}

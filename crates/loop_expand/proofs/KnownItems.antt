@@ -21,19 +21,19 @@ use Rattle.silage_meaning.specs.Types.{name_type}
 use Rattle.silage_meaning.specs.Instances.{Element, element, Occurs, Site, made, turns_of, IsArray, IsArgument}
 use Rattle.silage_meaning.specs.Instances.{IsResult, parameter_of, result_of}
 use Rattle.silage_meaning.proofs.Elements.{made_is}
-use Rattle.source_names.specs.Meanings.{are_dims, read_dims}
-use Rattle.source_elements.specs.declared.elements.Elements.{Elements}
-use Rattle.source_elements.specs.Sizes.{AreSized, top_is_sized, first_of}
+use Rattle.name_rules.specs.Meanings.{are_dims, read_dims}
+use Rattle.element_rules.specs.declared.elements.Elements.{Elements}
+use Rattle.element_rules.specs.Sizes.{AreSized, top_is_sized, first_of}
 use Rattle.lists.proofs.Each.{all_pass}
-use Rattle.source_elements.proofs.NamedItems.{within, IsWhole, IsCallNamed}
-use Rattle.source_elements.proofs.SomeElements.{no_more}
-use Rattle.source_elements.proofs.SoundNames.{all_sized}
-use Rattle.source_elements.specs.ElementRules.{elements_of}
-use Rattle.typed_source.specs.TypedTree as typed
-use Rattle.typed_source.specs.declared.typed.TypedConst.{TypedConst}
-use Rattle.typed_source.specs.Translation.{word_of, typed_table, typed_expr, typed_against, typed_item, typed_arguments}
-use Rattle.typed_source.specs.Translation.{typed_func}
-use Rattle.source_elements.specs.Numbers.{IsNumberOf}
+use Rattle.element_rules.proofs.NamedItems.{within, IsWhole, IsCallNamed}
+use Rattle.element_rules.proofs.SomeElements.{no_more}
+use Rattle.element_rules.proofs.SoundNames.{all_sized}
+use Rattle.element_rules.specs.ElementRules.{elements_of}
+use Rattle.type_rules.specs.TypedTree as typed
+use Rattle.type_rules.specs.declared.typed.TypedConst.{TypedConst}
+use Rattle.type_rules.specs.Translation.{word_of, typed_table, typed_expr, typed_against, typed_item, typed_arguments}
+use Rattle.type_rules.specs.Translation.{typed_func}
+use Rattle.element_rules.specs.Numbers.{IsNumberOf}
 use Rattle.loop_expand.specs.Private.Children.{child_of}
 use Rattle.loop_expand.specs.Private.Facts.{signal_named}
 use Rattle.loop_expand.specs.Private.Known.{HasElements, IsNamedArray, IsKnownExpr, IsKnownArray, IsKnownTarget}

@@ -10,11 +10,11 @@ use Rattle.std.proofs.lemmas.Option.{slice_get_within}
 use Rattle.lists.proofs.Places.{some_once, contains_at, place_of}
 use Rattle.silage_syntax.specs.Tree.{Program}
 use Rattle.silage_meaning.specs.Instances.{Step, Instance as Path, main, inside, Element, element, IsElement}
-use Rattle.source_elements.specs.declared.elements.Instance.{Instance}
-use Rattle.source_elements.specs.declared.elements.Element.{Element as Entry}
-use Rattle.source_elements.specs.declared.elements.Elements.{Elements}
-use Rattle.source_elements.specs.Numbering.{HasPath, of_main, of_call, IsNumbering}
-use Rattle.source_elements.specs.Numbers.{IsNumberOf}
+use Rattle.element_rules.specs.declared.elements.Instance.{Instance}
+use Rattle.element_rules.specs.declared.elements.Element.{Element as Entry}
+use Rattle.element_rules.specs.declared.elements.Elements.{Elements}
+use Rattle.element_rules.specs.Numbering.{HasPath, of_main, of_call, IsNumbering}
+use Rattle.element_rules.specs.Numbers.{IsNumberOf}
 
 -- the steps that lead to a number are one list
 pub path_once : (is : List Instance) (n : ℕ) (a b : Path) → HasPath is n a → HasPath is n b → a ≡ b

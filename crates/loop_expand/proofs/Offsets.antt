@@ -11,7 +11,7 @@ use Rattle.silage_syntax.specs.Manifests.{Indices}
 use Rattle.silage_syntax.specs.Names.{element_count, IsOffset}
 use Rattle.silage_syntax.specs.Tree.{Manifest as Tree, view_manifest}
 use Rattle.silage_meaning.proofs.Elements.{place_below}
-use Rattle.source_names.specs.Meanings.{is_dim, are_dims, most_elements}
+use Rattle.name_rules.specs.Meanings.{is_dim, are_dims, most_elements}
 use Rattle.loop_expand.specs.Private.Facts.{natural, offset}
 use Rattle.loop_expand.proofs.FlatReads.{offset_is}
 

@@ -20,20 +20,20 @@ use Rattle.signal_graph.specs.Flat as flat
 use Rattle.signal_graph.specs.FlatSolves.{no_element}
 use Rattle.signal_graph.proofs.OnePruned.{zip_once}
 use Rattle.signal_graph.proofs.OneRising.{rise_by, same_rising}
-use Rattle.source_elements.specs.declared.elements.Elements.{Elements}
-use Rattle.source_elements.specs.Expansion.{IsExpansion}
-use Rattle.source_elements.proofs.SingleDefinitions.{single_definitions}
-use Rattle.typed_source.specs.TypedTree as typed
-use Rattle.typed_source.specs.TypedValue.{HasFormat, as_it_is, by_amount}
-use Rattle.typed_source.specs.Translation.{typed_expr}
+use Rattle.element_rules.specs.declared.elements.Elements.{Elements}
+use Rattle.element_rules.specs.Expansion.{IsExpansion}
+use Rattle.element_rules.proofs.SingleDefinitions.{single_definitions}
+use Rattle.type_rules.specs.TypedTree as typed
+use Rattle.type_rules.specs.TypedValue.{HasFormat, as_it_is, by_amount}
+use Rattle.type_rules.specs.Translation.{typed_expr}
 use Rattle.loop_expand.specs.Checked.{IsChecked}
-use Rattle.source_elements.specs.Numbers.{IsNumberOf, HasDistinctNumbers}
+use Rattle.element_rules.specs.Numbers.{IsNumberOf, HasDistinctNumbers}
 use Rattle.loop_expand.specs.FlatOf.{IsTableWord, IsFlatRead, of_signal, of_table, IsFlatExpr, AreFlatParts, AreInitsOf}
 use Rattle.loop_expand.specs.FlatOf.{IsBodyOf, IsFlatElement, IsFlatOf}
 use Rattle.loop_expand.proofs.Expanded.{numbering}
 use Rattle.loop_expand.proofs.FlatTypes.{decl_once}
 use Rattle.loop_expand.proofs.Numbers.{stands}
-use Rattle.element_facts.proofs.OnceTables.{distinct_numbers}
+use Rattle.element_rules.proofs.OnceTables.{distinct_numbers}
 
 format_once : (indices : Indices) (fmt : Format) (amount : Option Manifest) (a b : Format)
     → HasFormat indices fmt amount a

@@ -10,7 +10,7 @@ use Rattle.silage_syntax.specs.Grammar.{kind_of, from_of, from_at, IsName, Role,
 use Rattle.silage_syntax.specs.Tree.{Item, Items, no_item, Func, Top, table, function, Program}
 use Rattle.silage_syntax.proofs.Rising.{target_rises, targets_rise, args_rise, manifest_rises, item_rises, items_rise}
 use Rattle.silage_meaning.proofs.Apart.{AreRising, tokens_rise}
-use Rattle.element_facts.specs.CallPositions.{calls_of, calls_in, AreDistinct, HasOwnPositions}
+use Rattle.element_rules.specs.CallPositions.{calls_of, calls_in, AreDistinct, HasOwnPositions}
 
 abbrev top_items : Top → Items
 top_items (table c) = no_item

@@ -4,10 +4,10 @@ use Rattle.std.proofs.Common.{[], ◌∷◌, ◌++◌, Option, Some, None, Ok, �
 use Rattle.std.specs.Prelude.{pos, ◌≤ℤ◌, int_le}
 use Rattle.std.specs.Option.{option_map_or}
 use Rattle.std.proofs.lemmas.Int.{ints}
-use Rattle.ranked_faults.specs.Ranked.{IsClear}
-use Rattle.ranked_faults.specs.Rules.{parts, none, ◌▸◌, unless}
-use Rattle.ranked_faults.specs.Private.FirstMet.{first, first_in}
-use Rattle.ranked_faults.proofs.TableFaults.{then_parts, rule_holds}
+use Rattle.fault_order.specs.Ranked.{IsClear}
+use Rattle.fault_order.specs.Rules.{parts, none, ◌▸◌, unless}
+use Rattle.fault_order.specs.Private.FirstMet.{first, first_in}
+use Rattle.fault_order.proofs.TableFaults.{then_parts, rule_holds}
 use Rattle.silage_syntax.specs.declared.tree.Decl.{Decl}
 use Rattle.silage_syntax.specs.declared.tree.Lit.{Lit}
 use Rattle.silage_syntax.specs.Tree.{Manifest, Place, Item, equation, call, loop, initial, Items, no_item, item, Func}
@@ -15,15 +15,15 @@ use Rattle.silage_syntax.specs.Tree.{Program}
 use Rattle.silage_syntax.specs.Manifests.{Indices, manifest_value}
 use Rattle.silage_syntax.specs.Names.{declared}
 use Rattle.silage_meaning.specs.Instances.{Occurs, OccursIn, Site, IsItemAt, IsSignal}
-use Rattle.source_elements.specs.declared.fault.PlacedFault.TheVariants.{Delay}
-use Rattle.source_elements.specs.ElementFaults.{element_faults}
-use Rattle.source_elements.specs.Tables.{Table, rules, mark, in_order, Row, nothing, ◌▹◌, each, counts, Context, after}
-use Rattle.source_elements.specs.Tables.{table_rules, row_rules}
-use Rattle.source_elements.specs.ElementRules.{manifest_at, value_rules, subscript_rules, number_rules, samples, is_in}
-use Rattle.source_elements.specs.ElementRules.{picked, initial_value, initial_table, item_table, items_row, loop_turns}
-use Rattle.source_elements.specs.ElementRules.{instance_table}
-use Rattle.source_elements.proofs.LoopTurns.{IsAmong, turn_among}
-use Rattle.source_elements.proofs.CheckedInstances.{items_ok, checked}
+use Rattle.element_rules.specs.declared.fault.PlacedFault.TheVariants.{Delay}
+use Rattle.element_rules.specs.ElementFaults.{element_faults}
+use Rattle.element_rules.specs.Tables.{Table, rules, mark, in_order, Row, nothing, ◌▹◌, each, counts, Context, after}
+use Rattle.element_rules.specs.Tables.{table_rules, row_rules}
+use Rattle.element_rules.specs.ElementRules.{manifest_at, value_rules, subscript_rules, number_rules, samples, is_in}
+use Rattle.element_rules.specs.ElementRules.{picked, initial_value, initial_table, item_table, items_row, loop_turns}
+use Rattle.element_rules.specs.ElementRules.{instance_table}
+use Rattle.element_rules.proofs.LoopTurns.{IsAmong, turn_among}
+use Rattle.element_rules.proofs.CheckedInstances.{items_ok, checked}
 
 pub front_passes : (context : Context) (T : Table) (row : Row)
     → first_in (row_rules context (T ▹ row)) ≡ Ok tt

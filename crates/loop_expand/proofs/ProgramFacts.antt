@@ -1,9 +1,9 @@
 -- The facts of all instances: each is true, and each definition and each initial value of the program has one.
 use Rattle.std.proofs.Common.{◌≡◌, refl, sym, subst, ap, ◌∙◌, append_assoc, map, arith, ℕ, zero, suc, ◌+◌, ◌<◌, ◌⊎◌}
 use Rattle.std.proofs.Common.{◌++◌, inl, inr, false, true, List, [], ◌∷◌, slice_get, Option, Some, None, Ok, ℤ}
-use Rattle.ranked_faults.specs.Rules.{none, ◌▸◌, unless}
-use Rattle.ranked_faults.specs.Private.FirstMet.{first, first_in}
-use Rattle.ranked_faults.proofs.TableFaults.{then_parts, rule_holds}
+use Rattle.fault_order.specs.Rules.{none, ◌▸◌, unless}
+use Rattle.fault_order.specs.Private.FirstMet.{first, first_in}
+use Rattle.fault_order.proofs.TableFaults.{then_parts, rule_holds}
 use Rattle.fix_word.specs.declared.types.SigType.{SigType}
 use Rattle.silage_syntax.specs.declared.tree.Lit.{Lit}
 use Rattle.silage_syntax.specs.Tree.{Manifest, Place, Expr, read, Item, equation, call, loop, initial, Items, no_item}
@@ -14,20 +14,20 @@ use Rattle.silage_meaning.specs.Instances.{Instance as Path, Element, IsInstance
 use Rattle.silage_meaning.specs.Instances.{inputs}
 use Rattle.silage_meaning.specs.Solves.{Source, word, IsDefined, input, equated, argument, array, table as by_table}
 use Rattle.silage_meaning.specs.Solves.{result, array_result, IsPreset}
-use Rattle.source_names.specs.NameRules as name
-use Rattle.source_names.specs.declared.fault.NameFault.TheVariants.{Unknown}
-use Rattle.source_elements.specs.declared.elements.Instance.{Instance}
-use Rattle.source_elements.specs.declared.elements.Elements.{Elements}
-use Rattle.source_elements.specs.ElementRules.{loop_turns}
-use Rattle.source_elements.specs.Expansion.{IsExpansion}
-use Rattle.source_elements.specs.Numbering.{HasPath, of_main, of_call, IsNumbering}
-use Rattle.source_elements.proofs.LoopTurns.{IsAmong, turn_among, among_turn}
-use Rattle.source_elements.proofs.NamedItems.{within, instance_named}
-use Rattle.typed_source.specs.Translation.{typed_item, typed_items, typed_func, typed_program, word_of}
-use Rattle.typed_source.specs.TypedTree as typed
+use Rattle.name_rules.specs.NameRules as name
+use Rattle.name_rules.specs.declared.fault.NameFault.TheVariants.{Unknown}
+use Rattle.element_rules.specs.declared.elements.Instance.{Instance}
+use Rattle.element_rules.specs.declared.elements.Elements.{Elements}
+use Rattle.element_rules.specs.ElementRules.{loop_turns}
+use Rattle.element_rules.specs.Expansion.{IsExpansion}
+use Rattle.element_rules.specs.Numbering.{HasPath, of_main, of_call, IsNumbering}
+use Rattle.element_rules.proofs.LoopTurns.{IsAmong, turn_among, among_turn}
+use Rattle.element_rules.proofs.NamedItems.{within, instance_named}
+use Rattle.type_rules.specs.Translation.{typed_item, typed_items, typed_func, typed_program, word_of}
+use Rattle.type_rules.specs.TypedTree as typed
 use Rattle.signal_graph.specs.Flat as flat
 use Rattle.loop_expand.specs.Checked.{IsChecked}
-use Rattle.source_elements.specs.Numbers.{IsNumberOf}
+use Rattle.element_rules.specs.Numbers.{IsNumberOf}
 use Rattle.loop_expand.specs.Private.Scopes.{Body, Scope, body_of, body_for}
 use Rattle.loop_expand.specs.Private.Turns.{turns_within}
 use Rattle.loop_expand.specs.Private.Groups.{Group, plain, plain_items, grouped, loop_groups, loops_groups, groups_of}

@@ -16,8 +16,8 @@ use Rattle.silage_meaning.specs.Types as meaning
 use Rattle.silage_meaning.specs.Value.{Words}
 use Rattle.silage_meaning.specs.Solves.{Solves, IsRow, IsStream, IsOneSolution, input_types, output_types, out}
 use Rattle.silage_meaning.proofs.InputRows.{outputs_length}
-use Rattle.source_elements.specs.declared.elements.Elements.{Elements}
-use Rattle.source_elements.specs.Expansion.{IsExpansion}
+use Rattle.element_rules.specs.declared.elements.Elements.{Elements}
+use Rattle.element_rules.specs.Expansion.{IsExpansion}
 use Rattle.signal_graph.specs.Flat as flat
 use Rattle.signal_graph.specs.FlatRules.{IsFlat}
 use Rattle.signal_graph.specs.FlatSolves.{flat_system, IsFlatLoopless}
@@ -40,7 +40,7 @@ use Rattle.loop_expand.specs.Checked.{IsChecked}
 use Rattle.loop_expand.specs.FlatOf.{IsFlatOf}
 use Rattle.loop_expand.specs.Kept.{program_system, HaveSameWords}
 use Rattle.loop_expand.specs.KeepsProgram.{AreEqualWords, KeepsElementSolutions, HaveEqualRows, KeepsProgramSolutions}
-use Rattle.source_elements.specs.Numbers.{IsNumberOf}
+use Rattle.element_rules.specs.Numbers.{IsNumberOf}
 use Rattle.loop_expand.proofs.Expanded.{expanded_keeps, program_solution}
 use Rattle.loop_expand.proofs.ProgramSystem.{solves_system}
 use Rattle.loop_expand.proofs.SmallFlat.{flat_is_sound}

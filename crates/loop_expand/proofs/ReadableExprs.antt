@@ -7,10 +7,10 @@ use Rattle.std.proofs.lemmas.Int.{ints}
 use Rattle.std.proofs.lemmas.Option.{slice_get-map}
 use Rattle.lists.proofs.Places.{some_at}
 use Rattle.lists.proofs.Bools.{both_true}
-use Rattle.ranked_faults.specs.Ranked.{IsClear}
-use Rattle.ranked_faults.specs.Rules.{Rules, RuleRow, parts, own, none, ◌▸◌, each, unless}
-use Rattle.ranked_faults.specs.Private.FirstMet.{first, first_in}
-use Rattle.ranked_faults.proofs.TableFaults.{then_parts, rule_holds}
+use Rattle.fault_order.specs.Ranked.{IsClear}
+use Rattle.fault_order.specs.Rules.{Rules, RuleRow, parts, own, none, ◌▸◌, each, unless}
+use Rattle.fault_order.specs.Private.FirstMet.{first, first_in}
+use Rattle.fault_order.proofs.TableFaults.{then_parts, rule_holds}
 use Rattle.fix_word.specs.declared.types.FixType.{FixType}
 use Rattle.fix_word.specs.declared.types.Format.{Format}
 use Rattle.fix_word.specs.declared.types.SigType.{SigType}
@@ -28,28 +28,28 @@ use Rattle.silage_syntax.specs.Names.{declared, table_named, element_count, IsOf
 use Rattle.silage_meaning.specs.Instances.{element, IsInstance, Site, IsSignal}
 use Rattle.silage_meaning.specs.Types.{own_type, factor_type, common_type}
 use Rattle.silage_meaning.proofs.Elements.{signal_is, place_below}
-use Rattle.source_names.specs.NameRules as name
-use Rattle.source_names.specs.NameFaults.{name_faults}
-use Rattle.source_names.specs.Meanings.{is_element, read_dims, are_dims, is_fix_type}
-use Rattle.source_names.specs.Contexts.{Context}
-use Rattle.source_names.specs.declared.fault.NameFault.{NameFault}
-use Rattle.source_names.specs.declared.fault.NameFault.TheVariants.{Arity, Size}
-use Rattle.source_elements.specs.declared.elements.Elements.{Elements}
-use Rattle.source_elements.specs.declared.fault.PlacedFault.{PlacedFault}
-use Rattle.source_elements.specs.declared.fault.PlacedFault.TheVariants.{Bounds, Shift, Delay}
-use Rattle.source_elements.specs.Numbering.{IsNumbering}
-use Rattle.source_elements.specs.ElementRules.{Range, below, samples, delays, no_delays, shifts, is_in, manifest_at}
-use Rattle.source_elements.specs.ElementRules.{value_rules, number_rules, subscript_rules, amount_rules, read_rules}
-use Rattle.source_elements.specs.ElementRules.{readable, expr_rules, branch_rules}
-use Rattle.source_elements.proofs.SoundNames.{clear_first}
-use Rattle.source_elements.proofs.NamedItems.{equal, place_fits, within}
-use Rattle.typed_source.specs.TypedTree as typed
-use Rattle.typed_source.specs.TypedValue.{as_it_is, by_amount}
-use Rattle.typed_source.specs.Translation.{typed_expr, typed_choice, typed_against, typed_product, typed_cast}
-use Rattle.typed_source.specs.Translation.{typed_number, typed_truth, untyped, one, two, three, word_of}
-use Rattle.typed_source.proofs.SoundNames.{table_found}
+use Rattle.name_rules.specs.NameRules as name
+use Rattle.name_rules.specs.NameFaults.{name_faults}
+use Rattle.name_rules.specs.Meanings.{is_element, read_dims, are_dims, is_fix_type}
+use Rattle.name_rules.specs.Contexts.{Context}
+use Rattle.name_rules.specs.declared.fault.NameFault.{NameFault}
+use Rattle.name_rules.specs.declared.fault.NameFault.TheVariants.{Arity, Size}
+use Rattle.element_rules.specs.declared.elements.Elements.{Elements}
+use Rattle.element_rules.specs.declared.fault.PlacedFault.{PlacedFault}
+use Rattle.element_rules.specs.declared.fault.PlacedFault.TheVariants.{Bounds, Shift, Delay}
+use Rattle.element_rules.specs.Numbering.{IsNumbering}
+use Rattle.element_rules.specs.ElementRules.{Range, below, samples, delays, no_delays, shifts, is_in, manifest_at}
+use Rattle.element_rules.specs.ElementRules.{value_rules, number_rules, subscript_rules, amount_rules, read_rules}
+use Rattle.element_rules.specs.ElementRules.{readable, expr_rules, branch_rules}
+use Rattle.element_rules.proofs.SoundNames.{clear_first}
+use Rattle.element_rules.proofs.NamedItems.{equal, place_fits, within}
+use Rattle.type_rules.specs.TypedTree as typed
+use Rattle.type_rules.specs.TypedValue.{as_it_is, by_amount}
+use Rattle.type_rules.specs.Translation.{typed_expr, typed_choice, typed_against, typed_product, typed_cast}
+use Rattle.type_rules.specs.Translation.{typed_number, typed_truth, untyped, one, two, three, word_of}
+use Rattle.type_rules.proofs.SoundNames.{table_found}
 use Rattle.signal_graph.specs.Flat as flat
-use Rattle.source_elements.specs.Numbers.{IsNumberOf}
+use Rattle.element_rules.specs.Numbers.{IsNumberOf}
 use Rattle.loop_expand.specs.FlatOf.{IsTableWord, of_signal, of_table, IsFlatExpr, AreFlatParts}
 use Rattle.loop_expand.proofs.Numbers.{numbered}
 

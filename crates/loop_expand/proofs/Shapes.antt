@@ -4,9 +4,9 @@ use Rattle.std.specs.Prelude.{option_map, bytes_eq}
 use Rattle.std.specs.Option.{option_or}
 use Rattle.std.proofs.lemmas.Option.{slice_get-map}
 use Rattle.lists.proofs.Places.{some_once}
-use Rattle.ranked_faults.specs.Ranked.{IsClear}
-use Rattle.ranked_faults.specs.Rules.{parts, none, ◌▸◌}
-use Rattle.ranked_faults.proofs.TableFaults.{rule_holds}
+use Rattle.fault_order.specs.Ranked.{IsClear}
+use Rattle.fault_order.specs.Rules.{parts, none, ◌▸◌}
+use Rattle.fault_order.proofs.TableFaults.{rule_holds}
 use Rattle.fix_word.specs.declared.types.SigType.{SigType}
 use Rattle.fix_word.specs.declared.types.SigType.TheVariants.{Fix, Bool as Truths}
 use Rattle.silage_syntax.specs.declared.tree.ConstDef.{ConstDef}
@@ -19,14 +19,14 @@ use Rattle.silage_meaning.specs.Types.{HasShapeOf, name_type, table_type}
 use Rattle.silage_meaning.specs.Value.{IsEntry}
 use Rattle.silage_meaning.specs.Solves.{Source, same, number, IsDefined, input, equated, argument, array}
 use Rattle.silage_meaning.specs.Solves.{table as by_table, result, array_result}
-use Rattle.source_names.specs.NameFaults.{name_faults}
-use Rattle.typed_source.specs.TypeFaults.{type_faults}
-use Rattle.typed_source.specs.TypeRules.{is_same_shape, misfit, name_rules, expr_rules, literal_rules, argument_rules}
-use Rattle.typed_source.specs.TypeRules.{place_rules, call_rules}
-use Rattle.typed_source.specs.Translation.{word_of}
-use Rattle.typed_source.proofs.Literals.{Passes, raw_back}
-use Rattle.typed_source.proofs.Tests.{shape_is}
-use Rattle.typed_source.proofs.SoundNames.{table_found}
+use Rattle.name_rules.specs.NameFaults.{name_faults}
+use Rattle.type_rules.specs.TypeFaults.{type_faults}
+use Rattle.type_rules.specs.TypeRules.{is_same_shape, misfit, name_rules, expr_rules, literal_rules, argument_rules}
+use Rattle.type_rules.specs.TypeRules.{place_rules, call_rules}
+use Rattle.type_rules.specs.Translation.{word_of}
+use Rattle.type_rules.proofs.Literals.{Passes, raw_back}
+use Rattle.type_rules.proofs.Tests.{shape_is}
+use Rattle.type_rules.proofs.SoundNames.{table_found}
 use Rattle.loop_expand.specs.FlatOf.{IsTableWord}
 use Rattle.loop_expand.proofs.Items.{head_passes, tail_passes, each_passes, argument_passes, place_passes, taking}
 use Rattle.loop_expand.proofs.Items.{site_passes, top_passes}

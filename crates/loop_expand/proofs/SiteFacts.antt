@@ -9,8 +9,8 @@ use Rattle.std.proofs.lemmas.Bool.Decides.{eqb_tells, leb_tells}
 use Rattle.std.proofs.lemmas.List.Sums.{sum_by-cons}
 use Rattle.std.proofs.lemmas.List.{nil_from_length as none_of}
 use Rattle.lists.proofs.Places.{at_left}
-use Rattle.ranked_faults.specs.Private.FirstMet.{first, first_in}
-use Rattle.ranked_faults.proofs.TableFaults.{then_parts}
+use Rattle.fault_order.specs.Private.FirstMet.{first, first_in}
+use Rattle.fault_order.proofs.TableFaults.{then_parts}
 use Rattle.fix_word.specs.declared.types.SigType.{SigType}
 use Rattle.silage_syntax.specs.declared.tree.ConstDef.{ConstDef}
 use Rattle.silage_syntax.specs.declared.tree.Decl.{Decl}
@@ -26,28 +26,28 @@ use Rattle.silage_meaning.specs.Types.{IsRawWord}
 use Rattle.silage_meaning.specs.Solves.{Source, value as of_value, same as of_same, number as of_number, IsDefined}
 use Rattle.silage_meaning.specs.Solves.{equated, argument, array, table as by_table, result, array_result, IsPreset}
 use Rattle.silage_meaning.proofs.Elements.{signal_is, array_is, made_is, result_is}
-use Rattle.source_names.specs.NameRules as name
-use Rattle.source_names.specs.Meanings.{is_element, is_whole_array, signal_dims, read_dims, takes, params_of}
-use Rattle.source_elements.specs.declared.elements.Instance.{Instance}
-use Rattle.source_elements.specs.declared.elements.Elements.{Elements}
-use Rattle.source_elements.specs.Expansion.{IsExpansion}
-use Rattle.source_elements.specs.Numbering.{HasPath, of_main, of_call, IsNumbering}
-use Rattle.source_elements.specs.Tables.{Table, Context as Before, table_rules, row_rules, after, rules, in_order, each}
-use Rattle.source_elements.specs.declared.fault.PlacedFault.TheVariants.{Delay}
-use Rattle.source_elements.specs.ElementRules.{elements_of, subscript_rules, number_rules, samples, target_table}
-use Rattle.source_elements.specs.ElementRules.{initial_table, array_table, taker_table, takers, call_table, item_table}
-use Rattle.source_elements.specs.ElementRules.{instance_table, expr_rules}
-use Rattle.source_elements.specs.Sizes.{first_of}
-use Rattle.source_elements.proofs.CheckedInstances.{checked as checked_instance, items_ok}
-use Rattle.source_elements.proofs.NamedItems.{IsNamed, IsWhole, whole, place_fits, within, equal, IsCallNamed}
-use Rattle.source_elements.proofs.NamedItems.{call_named, instance_named}
-use Rattle.typed_source.specs.Translation.{typed_expr, typed_against, typed_item, typed_arguments, typed_table}
-use Rattle.typed_source.specs.Translation.{typed_func, word_of, initial_word}
-use Rattle.typed_source.specs.TypeRules.{literal_rules, against}
-use Rattle.typed_source.proofs.Literals.{Passes, raw_back}
+use Rattle.name_rules.specs.NameRules as name
+use Rattle.name_rules.specs.Meanings.{is_element, is_whole_array, signal_dims, read_dims, takes, params_of}
+use Rattle.element_rules.specs.declared.elements.Instance.{Instance}
+use Rattle.element_rules.specs.declared.elements.Elements.{Elements}
+use Rattle.element_rules.specs.Expansion.{IsExpansion}
+use Rattle.element_rules.specs.Numbering.{HasPath, of_main, of_call, IsNumbering}
+use Rattle.element_rules.specs.Tables.{Table, Context as Before, table_rules, row_rules, after, rules, in_order, each}
+use Rattle.element_rules.specs.declared.fault.PlacedFault.TheVariants.{Delay}
+use Rattle.element_rules.specs.ElementRules.{elements_of, subscript_rules, number_rules, samples, target_table}
+use Rattle.element_rules.specs.ElementRules.{initial_table, array_table, taker_table, takers, call_table, item_table}
+use Rattle.element_rules.specs.ElementRules.{instance_table, expr_rules}
+use Rattle.element_rules.specs.Sizes.{first_of}
+use Rattle.element_rules.proofs.CheckedInstances.{checked as checked_instance, items_ok}
+use Rattle.element_rules.proofs.NamedItems.{IsNamed, IsWhole, whole, place_fits, within, equal, IsCallNamed}
+use Rattle.element_rules.proofs.NamedItems.{call_named, instance_named}
+use Rattle.type_rules.specs.Translation.{typed_expr, typed_against, typed_item, typed_arguments, typed_table}
+use Rattle.type_rules.specs.Translation.{typed_func, word_of, initial_word}
+use Rattle.type_rules.specs.TypeRules.{literal_rules, against}
+use Rattle.type_rules.proofs.Literals.{Passes, raw_back}
 use Rattle.signal_graph.specs.Flat as flat
 use Rattle.loop_expand.specs.Checked.{IsChecked}
-use Rattle.source_elements.specs.Numbers.{IsNumberOf}
+use Rattle.element_rules.specs.Numbers.{IsNumberOf}
 use Rattle.loop_expand.specs.FlatOf.{IsFlatExpr, IsBodyOf}
 use Rattle.loop_expand.specs.Private.Children.{child_of}
 use Rattle.loop_expand.specs.Private.Scopes.{Signal, Body, Scope, signals_from, body_at, body_for}

@@ -10,22 +10,22 @@ use Rattle.silage_syntax.specs.Tree.{function, Program}
 use Rattle.silage_syntax.specs.Manifests.{Indices}
 use Rattle.silage_syntax.specs.Names.{decls, function_named}
 use Rattle.silage_meaning.specs.Instances.{Instance as Path, main, main_is, Occurs, OccursIn, Call, turns_of}
-use Rattle.source_names.specs.Meanings.{params_of}
-use Rattle.source_elements.specs.declared.elements.Instance.{Instance}
-use Rattle.source_elements.specs.declared.elements.Elements.{Elements}
-use Rattle.source_elements.specs.Sizes.{first_of}
-use Rattle.source_elements.specs.ElementRules.{elements_of}
-use Rattle.source_elements.specs.Expansion.{signals_of}
-use Rattle.source_elements.specs.Sizes.{top_is_sized}
+use Rattle.name_rules.specs.Meanings.{params_of}
+use Rattle.element_rules.specs.declared.elements.Instance.{Instance}
+use Rattle.element_rules.specs.declared.elements.Elements.{Elements}
+use Rattle.element_rules.specs.Sizes.{first_of}
+use Rattle.element_rules.specs.ElementRules.{elements_of}
+use Rattle.element_rules.specs.Expansion.{signals_of}
+use Rattle.element_rules.specs.Sizes.{top_is_sized}
 use Rattle.lists.proofs.Each.{all_pass}
-use Rattle.source_elements.proofs.SomeElements.{no_more}
-use Rattle.source_elements.proofs.SoundNames.{all_sized}
-use Rattle.source_elements.specs.Numbering.{HasPath, of_main, of_call, IsNumbering}
-use Rattle.typed_source.specs.declared.typed.TypedConst.{TypedConst}
-use Rattle.typed_source.specs.declared.typed.Typed.{Typed}
-use Rattle.typed_source.specs.TypedTree as typed
-use Rattle.typed_source.specs.TypedTree.{Typed as Tree, TypedFunc, view_typed}
-use Rattle.typed_source.specs.Translation.{typed_item, typed_items, typed_arguments, typed_func, typed_program}
+use Rattle.element_rules.proofs.SomeElements.{no_more}
+use Rattle.element_rules.proofs.SoundNames.{all_sized}
+use Rattle.element_rules.specs.Numbering.{HasPath, of_main, of_call, IsNumbering}
+use Rattle.type_rules.specs.declared.typed.TypedConst.{TypedConst}
+use Rattle.type_rules.specs.declared.typed.Typed.{Typed}
+use Rattle.type_rules.specs.TypedTree as typed
+use Rattle.type_rules.specs.TypedTree.{Typed as Tree, TypedFunc, view_typed}
+use Rattle.type_rules.specs.Translation.{typed_item, typed_items, typed_arguments, typed_func, typed_program}
 use Rattle.loop_expand.specs.Expanded.{AreOf}
 use Rattle.loop_expand.specs.Private.Children.{AreApart, child_of}
 use Rattle.loop_expand.specs.Private.Elements.{types_of}
@@ -37,7 +37,7 @@ use Rattle.loop_expand.specs.Private.Sites.{AreOfProgram, IsOfInstance, IsItemOf
 use Rattle.loop_expand.proofs.TablesSized.{tables_sized}
 use Rattle.loop_expand.proofs.Bounds.{all_bounded}
 use Rattle.loop_expand.proofs.Expanded.{main_there, numbering}
-use Rattle.element_facts.proofs.LoadedElements.{own_size, size, size_is, few_in_all}
+use Rattle.element_rules.proofs.LoadedElements.{own_size, size, size_is, few_in_all}
 use Rattle.loop_expand.proofs.FlatMade.{all_types}
 use Rattle.loop_expand.proofs.GroupItems.{groups_hold}
 use Rattle.loop_expand.proofs.InstanceNumbers.{Bodies, sizes, apart_instances, body_at_top, element_number}

@@ -11,22 +11,22 @@ use Rattle.silage_meaning.specs.Instances.{Element}
 use Rattle.silage_meaning.specs.Value.{Words}
 use Rattle.silage_meaning.specs.Solves.{Source, word, value, same, number, IsStream, IsOneSolution}
 use Rattle.silage_meaning.specs.Rules.{HasNoDelaylessLoop}
-use Rattle.source_elements.specs.declared.elements.Elements.{Elements}
-use Rattle.source_elements.specs.Expansion.{IsExpansion}
-use Rattle.source_elements.specs.ElementRules.{weight}
+use Rattle.element_rules.specs.declared.elements.Elements.{Elements}
+use Rattle.element_rules.specs.Expansion.{IsExpansion}
+use Rattle.element_rules.specs.ElementRules.{weight}
 use Rattle.signal_graph.specs.Flat as flat
 use Rattle.signal_graph.specs.Flat.{size_of_body}
 use Rattle.signal_graph.specs.FlatRules.{IsFlat}
 use Rattle.loop_expand.specs.Checked.{IsChecked}
-use Rattle.source_elements.specs.Numbers.{IsNumberOf}
+use Rattle.element_rules.specs.Numbers.{IsNumberOf}
 use Rattle.loop_expand.specs.FlatOf.{IsFlatOf}
-use Rattle.element_facts.proofs.Charges.{Charge, charge, charges_few}
+use Rattle.element_rules.proofs.Charges.{Charge, charge, charges_few}
 use Rattle.loop_expand.proofs.Expanded.{main_there, numbering}
 use Rattle.loop_expand.proofs.FlatCount.{element_count_is}
 use Rattle.loop_expand.proofs.FlatSizes.{source_weight, body_size}
 use Rattle.loop_expand.proofs.Numbers.{stands}
-use Rattle.element_facts.proofs.OnceTables.{distinct_numbers}
-use Rattle.element_facts.proofs.OwnCharges.{program_charges, IsChargedFor, charged_for}
+use Rattle.element_rules.proofs.OnceTables.{distinct_numbers}
+use Rattle.element_rules.proofs.OwnCharges.{program_charges, IsChargedFor, charged_for}
 use Rattle.loop_expand.proofs.OwnPlaces.{HasPlace, sum_by_places}
 use Rattle.loop_expand.proofs.SoundFlat.{IsSmall, flat_sound, one_solution}
 

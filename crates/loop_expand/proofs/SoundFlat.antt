@@ -7,8 +7,8 @@ use Rattle.silage_syntax.specs.Tree.{Program}
 use Rattle.silage_meaning.specs.Value.{Words}
 use Rattle.silage_meaning.specs.Solves.{IsStream, IsOneSolution}
 use Rattle.silage_meaning.specs.Rules.{HasNoDelaylessLoop}
-use Rattle.source_elements.specs.declared.elements.Elements.{Elements}
-use Rattle.source_elements.specs.Expansion.{IsExpansion}
+use Rattle.element_rules.specs.declared.elements.Elements.{Elements}
+use Rattle.element_rules.specs.Expansion.{IsExpansion}
 use Rattle.signal_graph.specs.Flat as flat
 use Rattle.signal_graph.specs.Flat.{size_of_body}
 use Rattle.signal_graph.specs.Rules.{IsWithin, IsType}
@@ -16,7 +16,7 @@ use Rattle.signal_graph.specs.FlatRules.{IsFlat}
 use Rattle.signal_graph.specs.FlatSolves.{IsFlatLoopless}
 use Rattle.loop_expand.specs.Checked.{IsChecked}
 use Rattle.loop_expand.specs.FlatOf.{IsFlatOf}
-use Rattle.element_facts.proofs.OnceTables.{distinct_numbers}
+use Rattle.element_rules.proofs.OnceTables.{distinct_numbers}
 use Rattle.loop_expand.proofs.Expanded.{numbering, program_solution}
 use Rattle.loop_expand.proofs.FlatLoops.{loopless_both}
 use Rattle.loop_expand.proofs.FlatWords.{input_count, input_types_allowed, out_count, outs_there}

@@ -1,15 +1,15 @@
 -- A program that was read from a source and has no fault is a checked one.
 use Rattle.std.proofs.Common.{ℕ, List}
-use Rattle.ranked_faults.specs.Ranked.{IsClear}
+use Rattle.fault_order.specs.Ranked.{IsClear}
 use Rattle.silage_lex.specs.Tokens.{HasTokens}
 use Rattle.silage_lex.specs.declared.Token.{Token}
 use Rattle.silage_syntax.specs.Grammar.{Derives}
 use Rattle.silage_syntax.specs.Tree.{Program}
 use Rattle.silage_meaning.proofs.Apart.{calls_apart}
-use Rattle.source_names.specs.NameFaults.{name_faults}
-use Rattle.source_elements.specs.ElementFaults.{element_faults}
-use Rattle.typed_source.specs.TypeFaults.{type_faults}
-use Rattle.typed_source.proofs.ShortNumbers.{short_numbers}
+use Rattle.name_rules.specs.NameFaults.{name_faults}
+use Rattle.element_rules.specs.ElementFaults.{element_faults}
+use Rattle.type_rules.specs.TypeFaults.{type_faults}
+use Rattle.type_rules.proofs.ShortNumbers.{short_numbers}
 use Rattle.loop_expand.specs.Checked.{IsChecked}
 use Rattle.loop_expand.proofs.OwnPositions.{own_positions}
 use Rattle.loop_expand.proofs.SomeSignals.{parameters_and_results}

@@ -3,20 +3,20 @@ use Rattle.std.proofs.Common.{◌≡◌, refl, ◌∙◌, ℕ, zero, suc, ◌&&�
 use Rattle.std.proofs.Common.{Some, Ok}
 use Rattle.std.specs.Prelude.{filter_map, bytes_eq, nat_eq}
 use Rattle.lists.proofs.Bools.{first_true}
-use Rattle.ranked_faults.specs.Ranked.{IsClear}
-use Rattle.ranked_faults.specs.Rules.{none, ◌▸◌, each, unless}
-use Rattle.ranked_faults.specs.Private.FirstMet.{first, first_in}
-use Rattle.ranked_faults.proofs.TableFaults.{then_parts, rule_holds}
+use Rattle.fault_order.specs.Ranked.{IsClear}
+use Rattle.fault_order.specs.Rules.{none, ◌▸◌, each, unless}
+use Rattle.fault_order.specs.Private.FirstMet.{first, first_in}
+use Rattle.fault_order.proofs.TableFaults.{then_parts, rule_holds}
 use Rattle.silage_syntax.specs.Tree.{Top, table, function, Program}
 use Rattle.silage_syntax.specs.Names.{as_table, element_count}
-use Rattle.source_names.specs.NameRules as name
-use Rattle.source_names.specs.NameFaults.{name_faults}
-use Rattle.source_names.specs.Meanings.{are_dims, is_fix_type}
-use Rattle.source_names.specs.declared.fault.NameFault.TheVariants.{Arity, Size}
-use Rattle.source_elements.proofs.NamedItems.{equal}
-use Rattle.source_elements.proofs.SoundNames.{clear_first}
-use Rattle.typed_source.specs.declared.typed.TypedConst.{TypedConst}
-use Rattle.typed_source.specs.Translation.{typed_table, typed_program}
+use Rattle.name_rules.specs.NameRules as name
+use Rattle.name_rules.specs.NameFaults.{name_faults}
+use Rattle.name_rules.specs.Meanings.{are_dims, is_fix_type}
+use Rattle.name_rules.specs.declared.fault.NameFault.TheVariants.{Arity, Size}
+use Rattle.element_rules.proofs.NamedItems.{equal}
+use Rattle.element_rules.proofs.SoundNames.{clear_first}
+use Rattle.type_rules.specs.declared.typed.TypedConst.{TypedConst}
+use Rattle.type_rules.specs.Translation.{typed_table, typed_program}
 use Rattle.loop_expand.specs.Private.Facts.{typed_named, IsTableSized, AreTablesSized}
 use Rattle.loop_expand.proofs.FactSteps.{map_long}
 

@@ -8,7 +8,7 @@ use Rattle.std.proofs.lemmas.Int.{ints}
 use Rattle.std.proofs.lemmas.List.{map-append}
 use Rattle.silage_syntax.specs.Tree.{Manifest}
 use Rattle.silage_syntax.specs.Manifests.{Indices, manifest_value}
-use Rattle.source_elements.specs.ElementRules.{at_least_0, loop_turns}
+use Rattle.element_rules.specs.ElementRules.{at_least_0, loop_turns}
 use Rattle.loop_expand.specs.declared.columns.Column.{Column as RustColumn}
 use Rattle.loop_expand.specs.declared.columns.InnerTurn.{InnerTurn}
 use Rattle.loop_expand.specs.Private.Columns.{AreFull}

@@ -1,8 +1,8 @@
 -- A typed expression reads what its expression reads.
 use Rattle.std.proofs.Common.{ℕ, ◌⊎◌, inl, inr, Option, Some, None}
-use Rattle.ranked_faults.specs.Rules.{parts, none, ◌▸◌, unless}
-use Rattle.ranked_faults.specs.Private.FirstMet.{first}
-use Rattle.ranked_faults.proofs.TableFaults.{then_parts}
+use Rattle.fault_order.specs.Rules.{parts, none, ◌▸◌, unless}
+use Rattle.fault_order.specs.Private.FirstMet.{first}
+use Rattle.fault_order.proofs.TableFaults.{then_parts}
 use Rattle.fix_word.specs.declared.types.FixType.{FixType}
 use Rattle.fix_word.specs.declared.types.SigType.{SigType}
 use Rattle.fix_word.specs.declared.types.SigType.TheVariants.{Fix, Bool as Truths}
@@ -12,14 +12,14 @@ use Rattle.silage_syntax.specs.Tree.{branch, Program}
 use Rattle.silage_meaning.specs.Instances.{Element, Site}
 use Rattle.silage_meaning.specs.Types.{own_type, factor_type, common_type}
 use Rattle.silage_meaning.specs.Rules.{ReadsAt, Reads, BranchesRead}
-use Rattle.typed_source.specs.TypedTree as typed
-use Rattle.typed_source.specs.TypedTree.{TypedExpr}
-use Rattle.typed_source.specs.TypeRules.{is_same_shape, is_no_truth, part_type, cast_rules, product_rules}
-use Rattle.typed_source.specs.TypeRules.{comparison_rules, expr_rules, branch_rules}
-use Rattle.typed_source.specs.Translation.{typed_against, typed_product, typed_cast, typed_expr, typed_choice}
-use Rattle.typed_source.specs.declared.fault.TypeFault.TheVariants.{Mismatch}
-use Rattle.typed_source.proofs.Literals.{Passes}
-use Rattle.typed_source.proofs.SameValues.{two_pass, three_pass}
+use Rattle.type_rules.specs.TypedTree as typed
+use Rattle.type_rules.specs.TypedTree.{TypedExpr}
+use Rattle.type_rules.specs.TypeRules.{is_same_shape, is_no_truth, part_type, cast_rules, product_rules}
+use Rattle.type_rules.specs.TypeRules.{comparison_rules, expr_rules, branch_rules}
+use Rattle.type_rules.specs.Translation.{typed_against, typed_product, typed_cast, typed_expr, typed_choice}
+use Rattle.type_rules.specs.declared.fault.TypeFault.TheVariants.{Mismatch}
+use Rattle.type_rules.proofs.Literals.{Passes}
+use Rattle.type_rules.proofs.SameValues.{two_pass, three_pass}
 
 -- what a typed expression at the site reads
 module _ (s : Site) (e : Element) (ago : ℕ) where

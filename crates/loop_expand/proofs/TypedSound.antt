@@ -2,9 +2,9 @@
 use Rattle.std.proofs.Common.{◌≡◌, refl, sym, subst, ap, arith, ℕ, ◌+◌, Bool, true, false, Option, Some, None, ℤ}
 use Rattle.std.specs.Prelude.{pos, negsuc, ◌-ℤ◌, ◌*ℤ◌, neg_ℤ, ◌≤ℤ◌}
 use Rattle.std.proofs.lemmas.Int.{ints}
-use Rattle.ranked_faults.specs.Rules.{parts, none, ◌▸◌, unless}
-use Rattle.ranked_faults.specs.Private.FirstMet.{first}
-use Rattle.ranked_faults.proofs.TableFaults.{then_parts, rule_holds}
+use Rattle.fault_order.specs.Rules.{parts, none, ◌▸◌, unless}
+use Rattle.fault_order.specs.Private.FirstMet.{first}
+use Rattle.fault_order.proofs.TableFaults.{then_parts, rule_holds}
 use Rattle.fix_word.specs.Words.{IsWord, IsMachineWord, IsWidth, IsFormat, IsShape}
 use Rattle.fix_word.specs.Values.{bit_of}
 use Rattle.fix_word.specs.declared.types.FixType.{FixType}
@@ -21,20 +21,20 @@ use Rattle.silage_syntax.specs.Tree.{Manifest, Expr, literal, read, negate, not,
 use Rattle.silage_syntax.specs.Tree.{no_branch, branch, Func, Program}
 use Rattle.silage_syntax.specs.Manifests.{Indices}
 use Rattle.silage_meaning.specs.Types.{HasShapeOf, name_type, own_type, factor_type, common_type}
-use Rattle.typed_source.specs.TypedTree as typed
-use Rattle.typed_source.specs.TypedTree.{TypedExpr}
-use Rattle.typed_source.specs.TypedValue.{HasFormat, as_it_is, by_amount}
-use Rattle.typed_source.specs.TypeRules.{is_same_shape, is_no_truth, part_type, literal_rules, cast_rules}
-use Rattle.typed_source.specs.TypeRules.{product_rules, comparison_rules, expr_rules, branch_rules}
-use Rattle.typed_source.specs.Translation.{word_of, fitted, rounded, no_format, chosen, one, two, three, one_bit}
-use Rattle.typed_source.specs.Translation.{typed_against, typed_product, typed_cast, typed_expr, typed_choice}
-use Rattle.typed_source.specs.Translation as typing
-use Rattle.typed_source.specs.declared.fault.TypeFault.TheVariants.{Mismatch}
-use Rattle.typed_source.specs.Private.Sound.{IsSoundType, IsSound, AreSound, HasSoundTypes}
-use Rattle.typed_source.proofs.Literals.{Passes, raw_back}
-use Rattle.typed_source.proofs.Tests.{shape_is, sound_shape}
-use Rattle.typed_source.proofs.OwnTypes.{own_sound, factor_sound, common_sound}
-use Rattle.typed_source.proofs.SameValues.{two_pass, three_pass}
+use Rattle.type_rules.specs.TypedTree as typed
+use Rattle.type_rules.specs.TypedTree.{TypedExpr}
+use Rattle.type_rules.specs.TypedValue.{HasFormat, as_it_is, by_amount}
+use Rattle.type_rules.specs.TypeRules.{is_same_shape, is_no_truth, part_type, literal_rules, cast_rules}
+use Rattle.type_rules.specs.TypeRules.{product_rules, comparison_rules, expr_rules, branch_rules}
+use Rattle.type_rules.specs.Translation.{word_of, fitted, rounded, no_format, chosen, one, two, three, one_bit}
+use Rattle.type_rules.specs.Translation.{typed_against, typed_product, typed_cast, typed_expr, typed_choice}
+use Rattle.type_rules.specs.Translation as typing
+use Rattle.type_rules.specs.declared.fault.TypeFault.TheVariants.{Mismatch}
+use Rattle.type_rules.specs.Private.Sound.{IsSoundType, IsSound, AreSound, HasSoundTypes}
+use Rattle.type_rules.proofs.Literals.{Passes, raw_back}
+use Rattle.type_rules.proofs.Tests.{shape_is, sound_shape}
+use Rattle.type_rules.proofs.OwnTypes.{own_sound, factor_sound, common_sound}
+use Rattle.type_rules.proofs.SameValues.{two_pass, three_pass}
 use Rattle.signal_graph.specs.Operations.{Class, quantised, truth, operands, class_of, IsCalculation}
 use Rattle.signal_graph.specs.Rules.{width_of}
 use Rattle.signal_graph.specs.FlatRules.{IsFlatFormat, GivesWidth}

@@ -1,13 +1,13 @@
 -- What the checks say of a program.
 use Rattle.std.specs.Prelude.{◌≡◌, ℕ, ◌≤◌, length, slice_get, Some}
-use Rattle.ranked_faults.specs.Ranked.{IsClear}
+use Rattle.fault_order.specs.Ranked.{IsClear}
 use Rattle.silage_syntax.specs.Tree.{Func, function, Program}
 use Rattle.silage_meaning.specs.Instances.{HasCallsApart}
-use Rattle.source_names.specs.NameFaults.{name_faults}
-use Rattle.source_elements.specs.ElementFaults.{element_faults}
-use Rattle.element_facts.specs.CallPositions.{HasOwnPositions}
-use Rattle.typed_source.specs.Numbers.{AreNumbersShort}
-use Rattle.typed_source.specs.TypeFaults.{type_faults}
+use Rattle.name_rules.specs.NameFaults.{name_faults}
+use Rattle.element_rules.specs.ElementFaults.{element_faults}
+use Rattle.element_rules.specs.CallPositions.{HasOwnPositions}
+use Rattle.type_rules.specs.Numbers.{AreNumbersShort}
+use Rattle.type_rules.specs.TypeFaults.{type_faults}
 
 -- each function has a parameter and a result, as the grammar asks
 abbrev pub HasParametersAndResults : Program → Type 0

@@ -1,11 +1,11 @@
 -- What expansion takes: the typed program and the elements of one program that passed the checks.
 use Rattle.std.specs.Prelude.{◌≡◌}
 use Rattle.silage_syntax.specs.Tree.{Program}
-use Rattle.source_elements.specs.declared.elements.Elements.{Elements}
-use Rattle.source_elements.specs.Expansion.{IsExpansion}
-use Rattle.typed_source.specs.declared.typed.Typed.{Typed}
-use Rattle.typed_source.specs.TypedTree.{view_typed}
-use Rattle.typed_source.specs.Translation.{typed_program}
+use Rattle.element_rules.specs.declared.elements.Elements.{Elements}
+use Rattle.element_rules.specs.Expansion.{IsExpansion}
+use Rattle.type_rules.specs.declared.typed.Typed.{Typed}
+use Rattle.type_rules.specs.TypedTree.{view_typed}
+use Rattle.type_rules.specs.Translation.{typed_program}
 use Rattle.loop_expand.specs.Checked.{IsChecked}
 
 -- they are of this program

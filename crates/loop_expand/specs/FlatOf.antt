@@ -12,12 +12,12 @@ use Rattle.silage_syntax.specs.Names.{declared, table_named, IsOffset}
 use Rattle.silage_meaning.specs.Instances.{Element, element, IsElement, Site, IsSignal, outputs}
 use Rattle.silage_meaning.specs.Types.{IsRawWord}
 use Rattle.silage_meaning.specs.Solves.{Source, word, value, same, number, IsDefined, IsPreset, input_types}
-use Rattle.source_elements.specs.declared.elements.Elements.{Elements}
-use Rattle.typed_source.specs.TypedTree as typed
-use Rattle.typed_source.specs.TypedValue.{HasFormat}
-use Rattle.typed_source.specs.Translation.{typed_expr, typed_table}
+use Rattle.element_rules.specs.declared.elements.Elements.{Elements}
+use Rattle.type_rules.specs.TypedTree as typed
+use Rattle.type_rules.specs.TypedValue.{HasFormat}
+use Rattle.type_rules.specs.Translation.{typed_expr, typed_table}
 use Rattle.signal_graph.specs.Flat as flat
-use Rattle.source_elements.specs.Numbers.{IsNumberOf}
+use Rattle.element_rules.specs.Numbers.{IsNumberOf}
 use Rattle.fix_word.specs.declared.types.Format.{Format}
 use Rattle.fix_word.specs.declared.types.SigType.{SigType}
 

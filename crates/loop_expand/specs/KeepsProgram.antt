@@ -5,7 +5,7 @@ use Rattle.recurrences.specs.Kept.{KeepsSolutions}
 use Rattle.silage_syntax.specs.Tree.{Program}
 use Rattle.silage_meaning.specs.Value.{Words}
 use Rattle.silage_meaning.specs.Solves.{IsStream, IsOneSolution, input_types, output_types, out}
-use Rattle.source_elements.specs.declared.elements.Elements.{Elements}
+use Rattle.element_rules.specs.declared.elements.Elements.{Elements}
 use Rattle.signal_graph.specs.Flat as flat
 use Rattle.signal_graph.specs.Values as numbered
 use Rattle.signal_graph.specs.FlatSolves.{flat_system, flat_out}

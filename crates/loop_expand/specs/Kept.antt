@@ -9,11 +9,11 @@ use Rattle.silage_meaning.specs.Instances.{Element, IsElement}
 use Rattle.silage_meaning.specs.Value.{Words}
 use Rattle.silage_meaning.specs.Solves.{Source, IsDefined, Gives, IsInitial, Solves, IsSample, AreSame, out}
 use Rattle.silage_meaning.specs.Rules.{SourceReads}
-use Rattle.source_elements.specs.declared.elements.Elements.{Elements}
+use Rattle.element_rules.specs.declared.elements.Elements.{Elements}
 use Rattle.signal_graph.specs.Flat as flat
 use Rattle.signal_graph.specs.Values as flat_words
 use Rattle.signal_graph.specs.FlatSolves.{flat_system, FlatSolves, flat_out}
-use Rattle.source_elements.specs.Numbers.{IsNumberOf}
+use Rattle.element_rules.specs.Numbers.{IsNumberOf}
 
 -- the equations of a program as a system of recurrence equations between its elements
 abbrev pub program_system : Program → Rows → System Element ℤ

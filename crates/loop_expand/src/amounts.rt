@@ -1,7 +1,7 @@
 //! The numbers that manifest constants give.
 
 ghost use Rattle.std.specs.Prelude.{◌≡◌, ℕ, ◌≤◌, ◌*◌, ◌+◌, map, IsTrue};
-ghost use Rattle.source_names.specs.Meanings.{are_dims};
+ghost use Rattle.name_rules.specs.Meanings.{are_dims};
 ghost use Rattle.silage_syntax.specs.Manifests.{HasValue, LooksBack};
 ghost use Rattle.silage_syntax.specs.Tree.{view_manifest, view_delay};
 ghost use Rattle.silage_syntax.specs.Names.{IsOffset};
@@ -9,8 +9,8 @@ ghost use Rattle.loop_expand.specs.Private.Facts as is;
 ghost use Rattle.loop_expand.specs.Private.Amounts.{IsKnownAmount};
 
 use fix_word::Format;
+use name_rules::{Env, element_count, manifest};
 use silage_syntax::Manifest;
-use source_names::{Env, element_count, manifest};
 
 /// The value of a manifest constant that has one, which is not negative.
 fn natural(env: &Env, m: &Manifest) -> u32

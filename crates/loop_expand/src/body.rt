@@ -1,15 +1,15 @@
 //! What is known of a function.
 
 ghost use Rattle.std.specs.Prelude.{◌≤◌, IsTrue};
-ghost use Rattle.typed_source.specs.TypedTree.{view_func};
-ghost use Rattle.source_names.specs.Meanings.{are_dims};
-ghost use Rattle.source_elements.specs.ElementRules.{elements_of};
-ghost use Rattle.source_elements.specs.Sizes.{AreSized};
+ghost use Rattle.type_rules.specs.TypedTree.{view_func};
+ghost use Rattle.name_rules.specs.Meanings.{are_dims};
+ghost use Rattle.element_rules.specs.ElementRules.{elements_of};
+ghost use Rattle.element_rules.specs.Sizes.{AreSized};
 ghost use Rattle.loop_expand.specs.Private.Sizes.{decls_of};
 
 use crate::groups::Group;
 use silage_syntax::Decl;
-use typed_source::TypedFunc;
+use type_rules::TypedFunc;
 
 /// A parameter, a result or a local.
 #[derive(Clone, Copy)]

@@ -6,8 +6,8 @@ ghost use Rattle.signal_graph.specs.Flat as flat_program;
 ghost use Rattle.signal_graph.specs.Flat.{view_expr};
 ghost use Rattle.silage_syntax.specs.Tree.{view_place};
 ghost use Rattle.silage_meaning.specs.Instances.{turns_of};
-ghost use Rattle.source_elements.specs.declared.elements.Instance.{Instance as InstanceOf};
-ghost use Rattle.typed_source.specs.TypedTree as typed;
+ghost use Rattle.element_rules.specs.declared.elements.Instance.{Instance as InstanceOf};
+ghost use Rattle.type_rules.specs.TypedTree as typed;
 ghost use Rattle.loop_expand.specs.Private.Children.{AreApart, is_child, child_of};
 ghost use Rattle.loop_expand.specs.Private.Elements.{Puts};
 ghost use Rattle.loop_expand.specs.Private.Facts as is;
@@ -24,12 +24,12 @@ use crate::expressions::{flat, target, word_at};
 use crate::lookups::{first_of, instance_body, signal, table};
 use crate::scope::Scope;
 use crate::turns::is_turn;
+use element_rules::Instance;
+use name_rules::{Env, element_count};
 use signal_graph::{FlatElem, FlatExpr};
 use silage_syntax::Place;
-use source_elements::Instance;
-use source_names::{Env, element_count};
 use std::alloc::AllocError;
-use typed_source::{TypedConst, TypedExpr};
+use type_rules::{TypedConst, TypedExpr};
 
 /// A read of an element at the same sample.
 fn read_now(elem: u32) -> FlatExpr

@@ -2,8 +2,8 @@
 
 ghost use Rattle.std.specs.Prelude.{◌≡◌, ◌<◌, ◌≤◌, ◌++◌, length, replicate, IfOk, OnOk};
 ghost use Rattle.silage_meaning.specs.Types.{word_types};
-ghost use Rattle.typed_source.specs.TypedTree.{view_func};
-ghost use Rattle.source_elements.specs.Sizes.{AreSized};
+ghost use Rattle.type_rules.specs.TypedTree.{view_func};
+ghost use Rattle.element_rules.specs.Sizes.{AreSized};
 ghost use Rattle.loop_expand.specs.Private.Sizes.{decls_of};
 ghost use Rattle.signal_graph.specs.Flat.{view_elem, view_body, view_expr};
 ghost use Rattle.loop_expand.specs.Private.Elements as is;
@@ -14,15 +14,15 @@ ghost use Rattle.loop_expand.specs.Private.Scopes.{view_bodies, HaveBodies};
 use crate::body::Body;
 use crate::initials::insert;
 use crate::lookups::body;
+use element_rules::Instance;
 use fix_word::SigType;
 use lists::List;
+use name_rules::element_count;
 use signal_graph::{FlatBody, FlatElem, FlatExpr};
 use silage_syntax::Decl;
-use source_elements::Instance;
-use source_names::element_count;
 use std::alloc::{AllocError, AllocFailed, Global};
 use std::mem;
-use typed_source::TypedFunc;
+use type_rules::TypedFunc;
 
 /// Appends so many equal types.
 fn put_type(types: &mut List<SigType>, ty: SigType, count: u32) -> Result<(), AllocError>

@@ -2,9 +2,9 @@
 
 ghost use Rattle.std.specs.Prelude.{◌≡◌, ◌<◌, ℕ, length, map, Some, IsSome, IfOk, IfSome};
 ghost use Rattle.silage_syntax.specs.Names.{IsOffset};
-ghost use Rattle.typed_source.specs.declared.typed.TypedConst.{TypedConst as TableRow};
+ghost use Rattle.type_rules.specs.declared.typed.TypedConst.{TypedConst as TableRow};
 ghost use Rattle.silage_syntax.specs.Tree.{view_place, view_delay};
-ghost use Rattle.typed_source.specs.TypedTree as typed;
+ghost use Rattle.type_rules.specs.TypedTree as typed;
 ghost use Rattle.signal_graph.specs.Flat.{view_expr, calculation};
 ghost use Rattle.loop_expand.specs.Private.Views.{view_scope};
 ghost use Rattle.loop_expand.specs.Private.Facts as is;
@@ -16,11 +16,11 @@ use crate::amounts::{delay, format, offset};
 use crate::lookups::{signal, table};
 use crate::scope::Scope;
 use fix_word::{Format, Op};
+use name_rules::Env;
 use signal_graph::FlatExpr;
 use silage_syntax::{Manifest, Place};
-use source_names::Env;
 use std::alloc::AllocError;
-use typed_source::{TypedConst, TypedExpr};
+use type_rules::{TypedConst, TypedExpr};
 
 /// The number of the element that a place names, if it is one of a signal.
 fn number_at(scope: &Scope, env: &Env, place: &Place) -> Option<u32>

@@ -1,19 +1,19 @@
 //! The functions of a program with the places of their signals.
 
 ghost use Rattle.std.specs.Prelude.{◌≡◌, ◌≤◌, ◌+◌, ◌++◌, map, IsTrue, IfOk, OnOk};
-ghost use Rattle.source_elements.specs.ElementRules.{elements_of};
-ghost use Rattle.source_elements.specs.Sizes.{AreSized};
-ghost use Rattle.typed_source.specs.TypedTree.{view_func};
+ghost use Rattle.element_rules.specs.ElementRules.{elements_of};
+ghost use Rattle.element_rules.specs.Sizes.{AreSized};
+ghost use Rattle.type_rules.specs.TypedTree.{view_func};
 ghost use Rattle.loop_expand.specs.Private.Scopes as is;
 ghost use Rattle.loop_expand.specs.Private.Scopes.{signals_from, view_signals, view_body, view_bodies, IsBounded};
 
 use crate::body::{Body, Signal};
 use crate::groups::groups_of;
+use element_rules::Instance;
+use name_rules::element_count;
 use silage_syntax::Decl;
-use source_elements::Instance;
-use source_names::element_count;
 use std::alloc::{AllocError, AllocFailed, Global};
-use typed_source::TypedFunc;
+use type_rules::TypedFunc;
 
 /// Appends signals, of which the first begins at this number. Returns the number behind their elements.
 fn put_signals<'a>(

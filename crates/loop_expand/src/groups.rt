@@ -4,7 +4,7 @@
 //! A loop without turns adds nothing to the load, so very many of them may be inside thousands of turns.
 
 ghost use Rattle.std.specs.Prelude.{◌≡◌, ◌<◌, ◌++◌, ◌∷◌, [], ℕ, map, IfOk, OnOk};
-ghost use Rattle.typed_source.specs.TypedTree as typed;
+ghost use Rattle.type_rules.specs.TypedTree as typed;
 ghost use Rattle.loop_expand.specs.Private.Turns.{indices_at, view_turns};
 ghost use Rattle.loop_expand.specs.Private.Groups as is;
 ghost use Rattle.loop_expand.specs.Private.Groups.{view_ref, view_group, view_groups, groups_in, loop_groups};
@@ -12,7 +12,7 @@ ghost use Rattle.loop_expand.specs.Private.Groups.{view_ref, view_group, view_gr
 use crate::columns::Turns;
 use crate::turns::within;
 use std::alloc::{AllocError, AllocFailed, Global};
-use typed_source::TypedItem;
+use type_rules::TypedItem;
 
 /// Turns of the loops around items, and those of the items that are no loops.
 #[derive(Drop)]

@@ -11,10 +11,10 @@ use crate::body::Body;
 use crate::item_facts::expand_groups;
 use crate::lookups::{body, first_of, instance_body};
 use crate::scope::Scope;
+use element_rules::Instance;
 use signal_graph::FlatElem;
-use source_elements::Instance;
 use std::alloc::{AllocError, AllocFailed, Global};
-use typed_source::TypedConst;
+use type_rules::TypedConst;
 
 /// How many elements an instance of the function at this position has.
 fn size(bodies: &[Body], func: u32) -> u32

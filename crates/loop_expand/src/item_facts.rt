@@ -3,7 +3,7 @@
 ghost use Rattle.std.specs.Prelude.{◌≡◌, ◌≤◌, ℕ, length, map, OnOk};
 ghost use Rattle.silage_syntax.specs.Manifests.{HasValue};
 ghost use Rattle.silage_syntax.specs.Tree.{view_manifest, view_place};
-ghost use Rattle.typed_source.specs.TypedTree as typed;
+ghost use Rattle.type_rules.specs.TypedTree as typed;
 ghost use Rattle.loop_expand.specs.Private.Elements.{Puts};
 ghost use Rattle.loop_expand.specs.Private.Facts as is;
 ghost use Rattle.loop_expand.specs.Private.Groups.{view_ref, view_group, view_groups};
@@ -20,11 +20,11 @@ use crate::groups::Group;
 use crate::scope::Scope;
 use crate::turns::env_at;
 use lists::List;
+use name_rules::Env;
 use signal_graph::FlatElem;
 use silage_syntax::{Manifest, Place};
-use source_names::Env;
 use std::alloc::AllocError;
-use typed_source::{TypedExpr, TypedItem};
+use type_rules::{TypedExpr, TypedItem};
 
 fn expand_equation(
     scope: &Scope,

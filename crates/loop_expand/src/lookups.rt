@@ -7,9 +7,9 @@ ghost use Rattle.loop_expand.specs.Private.Scopes.{body_of, body_at, HaveBodies}
 ghost use Rattle.loop_expand.specs.Private.Facts.{signal_named, typed_named};
 
 use crate::body::{Body, Signal};
+use element_rules::Instance;
 use lists::Name;
-use source_elements::Instance;
-use typed_source::TypedConst;
+use type_rules::TypedConst;
 
 /// The signal with the name.
 pub(crate) fn signal<'a>(signals: &[Signal<'a>], name: &Name) -> Option<Signal<'a>>

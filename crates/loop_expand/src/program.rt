@@ -5,9 +5,9 @@ ghost use Rattle.lists.specs.Rows.{Rows};
 ghost use Rattle.silage_syntax.specs.Tree.{Program};
 ghost use Rattle.silage_meaning.specs.Rules.{HasNoDelaylessLoop};
 ghost use Rattle.silage_meaning.specs.Solves.{IsStream};
-ghost use Rattle.source_elements.specs.ElementRules.{elements_of};
-ghost use Rattle.source_elements.specs.Sizes.{AreSized};
-ghost use Rattle.typed_source.specs.TypedTree.{view_func, view_typed};
+ghost use Rattle.element_rules.specs.ElementRules.{elements_of};
+ghost use Rattle.element_rules.specs.Sizes.{AreSized};
+ghost use Rattle.type_rules.specs.TypedTree.{view_func, view_typed};
 ghost use Rattle.signal_graph.specs.Flat.{view};
 ghost use Rattle.signal_graph.specs.FlatRules.{IsFlat};
 ghost use Rattle.signal_graph.specs.FlatSolves.{IsFlatLoopless};
@@ -27,14 +27,14 @@ use crate::fault::ExpandFault;
 use crate::functions::bodies;
 use crate::instances::{expand_all, firsts};
 use crate::lookups::instance_body;
+use element_rules::{Elements, Instance};
 use fix_word::SigType;
 use lists::List;
+use name_rules::element_count;
 use signal_graph::{FlatElem, FlatProgram};
 use silage_syntax::Decl;
-use source_elements::{Elements, Instance};
-use source_names::element_count;
 use std::alloc::{AllocError, AllocFailed, Global};
-use typed_source::{Typed, TypedConst, TypedFunc};
+use type_rules::{Typed, TypedConst, TypedFunc};
 
 /// How many elements declarations have.
 fn count(decls: &[Decl]) -> u32

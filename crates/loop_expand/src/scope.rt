@@ -6,9 +6,9 @@ ghost use Rattle.loop_expand.specs.Private.Facts.{AreTablesSized};
 ghost use Rattle.loop_expand.specs.Private.Scopes.{view_bodies, HaveBodies, total_of};
 
 use crate::body::{Body, Signal};
-use source_elements::Instance;
+use element_rules::Instance;
 use std::alloc::Global;
-use typed_source::TypedConst;
+use type_rules::TypedConst;
 
 /// An instance among the others of its program.
 #[derive(Clone, Copy)]

@@ -2,7 +2,7 @@
 
 ghost use Rattle.std.specs.Prelude.{◌≡◌, ◌<◌, ◌++◌, map, length, Some, IfOk, OnOk};
 ghost use Rattle.std.specs.List.{range_with_len};
-ghost use Rattle.source_elements.specs.ElementRules.{loop_turns};
+ghost use Rattle.element_rules.specs.ElementRules.{loop_turns};
 ghost use Rattle.silage_meaning.specs.Instances.{turns_of};
 ghost use Rattle.silage_syntax.specs.Tree.{view_manifest};
 ghost use Rattle.silage_syntax.specs.Manifests.{manifest_value};
@@ -13,10 +13,10 @@ ghost use Rattle.loop_expand.specs.Private.Turns.{HasTurns, HasValues, AreInside
 
 use crate::columns::{Column, InnerTurn, Turns};
 use crate::values::{Values, are_past, value_at, value_of, values_of};
+use element_rules::{turn_at, turn_count};
 use lists::{List, Name};
+use name_rules::Env;
 use silage_syntax::Manifest;
-use source_elements::{turn_at, turn_count};
-use source_names::Env;
 use std::alloc::{AllocError, AllocFailed, Global};
 
 /// The indices of the loops around a turn, in the memory of those around another one.

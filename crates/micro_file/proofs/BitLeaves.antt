@@ -19,10 +19,10 @@ use Rattle.micro_image.specs.Bits.{bits, bits_less_1, signed_bits, raw_bits, cho
 use Rattle.micro_image.specs.Codes.{kind_number, mode_number}
 use Rattle.micro_image.specs.Operations.{kind_of, opcode}
 use Rattle.micro_image.specs.Valid.{IsWithin, IsBelow}
-use Rattle.packed_file.proofs.Bits.{IsDigits, bits_back, bits_mod, number_below, number_bits}
-use Rattle.packed_file.proofs.Length.{length-bits}
-use Rattle.packed_file.specs.Numbers.{number_of, some_at, numbered}
-use Rattle.packed_file.specs.declared.fault.BitFault.TheVariants as fault
+use Rattle.micro_bits.proofs.Bits.{IsDigits, bits_back, bits_mod, number_below, number_bits}
+use Rattle.micro_bits.proofs.Length.{length-bits}
+use Rattle.micro_bits.specs.Numbers.{number_of, some_at, numbered}
+use Rattle.micro_bits.specs.declared.fault.BitFault.TheVariants as fault
 use Rattle.micro_file.specs.Bits.{unless_short, number_at, number_less_1_at, number_upto, number_below as below_at}
 use Rattle.micro_file.specs.Bits.{number_less_1_upto, entry_at, as_raw_word, raw_word_at, operations_of, operation_at}
 use Rattle.micro_file.specs.Bits.{as_argument}

@@ -15,7 +15,7 @@ use Rattle.micro_image.specs.Bits.{bits, word_bits, image_bits}
 use Rattle.micro_image.specs.Bytes.{word_bytes, image_bytes}
 use Rattle.micro_image.specs.Spells.{AreBytes, bits_of, Holds, begun, IsSpelled, Spells}
 use Rattle.micro_image.specs.Valid.{IsValid}
-use Rattle.packed_file.proofs.Bits.{IsDigits, bits_digits, digits_append}
+use Rattle.micro_bits.proofs.Bits.{IsDigits, bits_digits, digits_append}
 use Rattle.micro_file.specs.declared.misread.Misread.{Misread}
 use Rattle.micro_file.specs.declared.misread.Misread.TheVariants as misread
 use Rattle.micro_file.specs.Bits.{at_bits}

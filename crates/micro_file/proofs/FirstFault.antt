@@ -2,7 +2,7 @@
 use Rattle.std.proofs.Common.{◌≡◌, ◌⊎◌, inl, inr, ℕ, List, length, Result, Ok, Err, refl, sym, ap, ◌∙◌}
 use Rattle.micro_image.specs.declared.image.Image.{Image}
 use Rattle.micro_image.specs.Spells.{Spells}
-use Rattle.packed_file.proofs.Bits.{IsDigits}
+use Rattle.micro_bits.proofs.Bits.{IsDigits}
 use Rattle.micro_file.specs.declared.fault.FormFault.{FormFault}
 use Rattle.micro_file.specs.declared.misread.Misread.{Misread}
 use Rattle.micro_file.specs.File.{whole_at}

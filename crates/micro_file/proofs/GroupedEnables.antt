@@ -8,7 +8,7 @@ use Rattle.micro_image.specs.declared.image.Enable.{Enable}
 use Rattle.micro_image.specs.declared.image.Image.{Image}
 use Rattle.micro_image.specs.Bits.{enable_bit, enable_bits}
 use Rattle.micro_image.specs.Valid.{IsEnable, EnableBefore, LexBelow}
-use Rattle.packed_file.proofs.Bits.{IsDigits}
+use Rattle.micro_bits.proofs.Bits.{IsDigits}
 use Rattle.micro_file.specs.Bits.{number_at}
 use Rattle.micro_file.specs.Fields.{Reading}
 use Rattle.micro_file.specs.PackedWords.{drive_at, unit_drives_at, drives_at}

@@ -14,7 +14,7 @@ use Rattle.micro_image.specs.Bits.{in_bits, issue_bits}
 use Rattle.micro_image.specs.Fields.{nth, no_unit}
 use Rattle.micro_image.specs.Form.{spelled_operation}
 use Rattle.micro_image.specs.Valid.{IsIssueOn, IsIssue}
-use Rattle.packed_file.proofs.Bits.{IsDigits}
+use Rattle.micro_bits.proofs.Bits.{IsDigits}
 use Rattle.micro_file.specs.Bits.{at_bits, number_at}
 use Rattle.micro_file.specs.Fields.{Reading}
 use Rattle.micro_file.specs.Hardware.{issue_on_at}

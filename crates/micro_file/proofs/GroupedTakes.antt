@@ -14,7 +14,7 @@ use Rattle.micro_image.specs.declared.image.UnitDesc.{UnitDesc}
 use Rattle.micro_image.specs.Bits.{bits, take_bits, takes_bits, ports_bits}
 use Rattle.micro_image.specs.Fields.{nth, no_unit}
 use Rattle.micro_image.specs.Valid.{IsTake, IsRegister, HasRegister, TakeBefore}
-use Rattle.packed_file.proofs.Bits.{IsDigits}
+use Rattle.micro_bits.proofs.Bits.{IsDigits}
 use Rattle.micro_file.specs.Bits.{number_at, number_below}
 use Rattle.micro_file.specs.Fields.{Reading, ◌>>=◌, kept, refused, last_of}
 use Rattle.micro_file.specs.Order.{is_next, take_before}

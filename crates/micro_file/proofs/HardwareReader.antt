@@ -13,7 +13,7 @@ use Rattle.micro_file.specs.FormAt.{FormAt}
 use Rattle.micro_file.specs.Hardware.{inputs_at, hardware_at}
 use Rattle.micro_file.specs.Units.{units_at}
 use Rattle.micro_file.specs.Private.Sizes.{IsNumbered}
-use Rattle.packed_file.proofs.Bits.{IsDigits}
+use Rattle.micro_bits.proofs.Bits.{IsDigits}
 use Rattle.micro_file.proofs.FormReader.{IsUnroll, HaveRegisters, ReadsForm}
 use Rattle.micro_file.proofs.IssueOnReader.{HasFewWords}
 use Rattle.micro_file.proofs.Readers.{◌⨟◌, Took, IsReader, such_reader, so_spelled, ok_is}

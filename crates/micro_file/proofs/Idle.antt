@@ -11,8 +11,8 @@ use Rattle.operations.specs.declared.units.PortRef.{PortRef}
 use Rattle.micro_file.specs.Fields.{Reading, each_at}
 use Rattle.micro_file.specs.PackedWords.{most_takes, slot_at, slots_at, drive_at, unit_drives_at, drives_at}
 use Rattle.micro_file.specs.PackedWords.{takes_at, file_takes_at, unit_takes_at, word_takes_at, packed_word_at}
-use Rattle.packed_file.proofs.Sizes.{sizes_alike}
-use Rattle.packed_file.specs.Idle.{sizes, files_of, idle_bits}
+use Rattle.micro_bits.proofs.Sizes.{sizes_alike}
+use Rattle.micro_bits.specs.Idle.{sizes, files_of, idle_bits}
 use Rattle.micro_file.specs.Private.Zeros.{StartsWithZeros}
 use Rattle.micro_file.proofs.Flags.{no_flag}
 use Rattle.micro_file.proofs.PortTakes.{takes_end}

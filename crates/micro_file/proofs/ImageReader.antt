@@ -6,7 +6,7 @@ use Rattle.micro_image.specs.declared.image.Image.{Image}
 use Rattle.micro_image.specs.declared.image.Word.{Word}
 use Rattle.micro_image.specs.Form.{Form, spelled_hardware}
 use Rattle.micro_image.specs.Valid.{IsWordOf, IsValid}
-use Rattle.packed_file.proofs.Bits.{IsDigits}
+use Rattle.micro_bits.proofs.Bits.{IsDigits}
 use Rattle.micro_file.specs.Fields.{Reading, many_at}
 use Rattle.micro_file.specs.FormAt.{FormAt}
 use Rattle.micro_file.specs.Hardware.{hardware_at, image_at}

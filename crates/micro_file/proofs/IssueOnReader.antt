@@ -14,7 +14,7 @@ use Rattle.micro_image.specs.Valid.{IsIssueOn}
 use Rattle.micro_file.specs.Fields.{Reading}
 use Rattle.micro_file.specs.FormAt.{FormAt}
 use Rattle.micro_file.specs.Hardware.{issue_on_at}
-use Rattle.packed_file.proofs.Bits.{IsDigits}
+use Rattle.micro_bits.proofs.Bits.{IsDigits}
 use Rattle.micro_file.proofs.FormReader.{HaveRegisters, ReadsForm}
 use Rattle.micro_file.proofs.Readers.{◌⨟◌, Took, IsReader, ok_is}
 use Rattle.micro_file.proofs.Steps.{bound4, joined4}

@@ -27,7 +27,7 @@ use Rattle.micro_file.specs.Fields.{Reading, kept, is_below}
 use Rattle.micro_file.specs.Bytes.{byte_at, byte_within, entry_at, some_format_at, no_format_at, format_at, argument_at}
 use Rattle.micro_file.specs.Bytes.{register_at, registers_at}
 use Rattle.micro_file.specs.Arguments.{is_argument}
-use Rattle.packed_file.proofs.Bits.{IsDigits}
+use Rattle.micro_bits.proofs.Bits.{IsDigits}
 use Rattle.micro_file.proofs.Readers.{byte_values, Takes, ◌⨟◌, Took, IsReader, IsTestOf, tested, such_reader}
 use Rattle.micro_file.proofs.Readers.{so_spelled, ok_is, was_kept}
 use Rattle.micro_file.proofs.FormReader.{HaveRegisters}

@@ -15,7 +15,7 @@ use Rattle.micro_file.specs.Bytes.{at_bytes, byte_at}
 use Rattle.micro_file.specs.Hardware.{issue_on_at}
 use Rattle.micro_file.specs.Words.{issue_at, issues_at}
 use Rattle.micro_file.specs.Order.{is_above}
-use Rattle.packed_file.proofs.Bits.{IsDigits}
+use Rattle.micro_bits.proofs.Bits.{IsDigits}
 use Rattle.micro_file.proofs.Readers.{byte_values, Takes, ◌⨟◌, Took, IsReader, such_reader, was_kept, was_found}
 use Rattle.micro_file.proofs.Readers.{found_is}
 use Rattle.micro_file.proofs.Several.{counted, Rising, risen_all, risen_beside, grows_risen}

@@ -34,7 +34,7 @@ use Rattle.micro_file.specs.declared.misread.Misread.TheVariants.{Short}
 use Rattle.micro_file.specs.Fields.{◌>>=◌, found, is_raw_word}
 use Rattle.micro_file.specs.Bytes.{only_byte, byte_at, byte_within, byte_below, byte_upto, number_at, number_within}
 use Rattle.micro_file.specs.Bytes.{signed_at, raw_word_at, entry_at}
-use Rattle.packed_file.proofs.Bits.{IsDigits}
+use Rattle.micro_bits.proofs.Bits.{IsDigits}
 use Rattle.micro_file.proofs.Readers.{byte_values, digits-take, digits-drop, Took, IsReader, IsTestOf, tested}
 use Rattle.micro_file.proofs.Readers.{such_reader, well, bound, ok_is, was_found, joined}
 use Rattle.micro_file.proofs.Tests.{below_test, upto_test}

@@ -14,7 +14,7 @@ use Rattle.micro_file.specs.Fields.{Reading, ◌>>=◌, kept, found, last_of, ma
 use Rattle.micro_file.specs.Bytes.{byte_at, byte_below, number_within}
 use Rattle.micro_file.specs.Words.{enable_at, enables_at, take_at, takes_at}
 use Rattle.micro_file.specs.Order.{enable_before, take_before, is_next}
-use Rattle.packed_file.proofs.Bits.{IsDigits}
+use Rattle.micro_bits.proofs.Bits.{IsDigits}
 use Rattle.micro_file.proofs.Readers.{byte_values, ◌⨟◌, Took, IsReader, such_reader, was_kept, was_found, found_is}
 use Rattle.micro_file.proofs.Several.{counted, Rising, risen_all, risen_beside, grows_risen}
 use Rattle.micro_file.proofs.Leaves.{byte_reader, below_reader, two_reader}

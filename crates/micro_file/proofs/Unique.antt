@@ -4,7 +4,7 @@ use Rattle.micro_image.specs.declared.image.Image.{Image}
 use Rattle.micro_image.specs.declared.version.Version.{Version}
 use Rattle.micro_image.specs.declared.version.Version.TheVariants.{One, Two}
 use Rattle.micro_image.specs.Spells.{SpellsIn, Spells}
-use Rattle.packed_file.proofs.Packing.{one_packing}
+use Rattle.micro_bits.proofs.Packing.{one_packing}
 use Rattle.micro_file.proofs.FileReader.{spelled_whole}
 use Rattle.micro_file.proofs.Readers.{ok_is}
 

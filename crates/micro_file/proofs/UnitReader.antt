@@ -20,7 +20,7 @@ use Rattle.micro_file.specs.FormAt.{FormAt}
 use Rattle.micro_file.specs.Units.{file_at, cells_at, ram_at, unit_at, is_ram, is_some_ram, is_tied_by, is_tied, judged}
 use Rattle.micro_file.specs.Units.{judged_at, some_units_at, units_at}
 use Rattle.micro_file.specs.Private.Ends.{ends_of, all_judged}
-use Rattle.packed_file.proofs.Bits.{IsDigits}
+use Rattle.micro_bits.proofs.Bits.{IsDigits}
 use Rattle.micro_file.proofs.FormReader.{ReadsForm}
 use Rattle.micro_file.proofs.Judgement.{judged_by}
 use Rattle.micro_file.proofs.Readers.{Takes, ◌⨟◌, takes_none, Took, IsReader, such_reader, well, bound, joined, ok_is}

@@ -6,7 +6,7 @@ use Rattle.micro_image.specs.declared.image.Issue.{Issue}
 use Rattle.micro_image.specs.declared.image.Take.{Take}
 use Rattle.micro_image.specs.declared.image.Word.{Word}
 use Rattle.micro_image.specs.Valid.{IsWordOf}
-use Rattle.packed_file.proofs.Bits.{IsDigits}
+use Rattle.micro_bits.proofs.Bits.{IsDigits}
 use Rattle.micro_file.specs.Fields.{Reading, ◌>>=◌}
 use Rattle.micro_file.proofs.Inside.{StaysInside, behind}
 use Rattle.micro_file.proofs.Issues.{AreIssues}

@@ -11,8 +11,8 @@ use Rattle.micro_image.specs.Bits.{are_zeros, choice_width}
 use Rattle.micro_image.specs.Fields.{nth}
 use Rattle.micro_image.specs.Operations.{Argument, nothing, input_word, output_word, raw_word, offset, operation}
 use Rattle.micro_image.specs.Operations.{is_formatted}
-use Rattle.packed_file.specs.Numbers as numbers
-use Rattle.packed_file.specs.declared.fault.BitFault.{BitFault}
+use Rattle.micro_bits.specs.Numbers as numbers
+use Rattle.micro_bits.specs.declared.fault.BitFault.{BitFault}
 use Rattle.micro_file.specs.Tables.{kinds, modes}
 use Rattle.micro_file.specs.declared.misread.Misread.{Misread}
 use Rattle.micro_file.specs.declared.misread.Misread.TheVariants.{Short}

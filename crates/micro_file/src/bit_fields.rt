@@ -13,12 +13,12 @@ use crate::misread::{Misread, Unread, refused};
 use crate::tables::{KINDS, MODES};
 use fix_word::{Format, Mode, Op};
 use lists::List;
-use micro_image::{Kind, PortRegisters, is_formatted};
-use packed_file::widths::{
+use micro_bits::widths::{
     BUS, CELLS, CHANNELS, CYCLES, FLAG, KIND, MODE, OFFSET, PERIOD, RAW_WORD, REGISTER, SHIFT,
     UNIT, UNROLL, WIDTH, WORD_NUMBER,
 };
-use packed_file::{BitFault, BitReader, are_zeros, choice_width_of};
+use micro_bits::{BitFault, BitReader, are_zeros, choice_width_of};
+use micro_image::{Kind, PortRegisters, is_formatted};
 use std::alloc::{AllocError, Global};
 
 /// The greatest width.

@@ -16,9 +16,9 @@ use crate::misread::{Unread, refused};
 use crate::order::is_next_take;
 use crate::word_flags::{Flags, PortFile, flags_of};
 use lists::List;
+use micro_bits::widths::{BUS, FLAG, REGISTER};
+use micro_bits::{BitReader, idle_bits_of};
 use micro_image::{Enable, Enables, Image, Issue, PortRef, Take, Takes, UnitDesc, Word};
-use packed_file::widths::{BUS, FLAG, REGISTER};
-use packed_file::{BitReader, idle_bits_of};
 use std::alloc::Global;
 
 /// The most takes of a microword.

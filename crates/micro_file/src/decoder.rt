@@ -13,8 +13,8 @@ use crate::fault::FormFault;
 use crate::hardware::{read_hardware, word_count};
 use crate::misread::{Misread, Unread, refused};
 use crate::{bit_words, byte_words};
+use micro_bits::BitReader;
 use micro_image::{Image, Version};
-use packed_file::BitReader;
 use std::alloc::Global;
 
 /// The bits of a byte.

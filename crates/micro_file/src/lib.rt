@@ -19,5 +19,5 @@ mod word_flags;
 
 pub use decoder::decode;
 pub use fault::FormFault;
-pub use packed_file::{CodeFault, encode};
+pub use micro_bits::{CodeFault, encode};
 pub use tables::OPERATIONS;

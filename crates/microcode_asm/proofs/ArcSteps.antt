@@ -6,9 +6,9 @@ use Rattle.operations.specs.declared.units.PortRef.{PortRef}
 use Rattle.plan_core.specs.Arcs.{arc_of}
 use Rattle.plan_core.specs.declared.registers.Arc.{Arc}
 use Rattle.microcode_asm.specs.Private.Lifetimes.{AreKept, IsFoundArc, IsOnWay}
-use Rattle.buckets.specs.Linked.{IsNext}
-use Rattle.buckets.specs.declared.Buckets.{Buckets}
-use Rattle.buckets.proofs.Linked.{next_after}
+use Rattle.bucket_sort.specs.Linked.{IsNext}
+use Rattle.bucket_sort.specs.declared.Buckets.{Buckets}
+use Rattle.bucket_sort.proofs.Linked.{next_after}
 
 module _ (nodes : ℕ) (arcs : List Arc) (v : ℕ) (port : PortRef) (some : (k : ℕ) × IsFoundArc arcs v port k) where
   abbrev node_in : ℕ → ℕ

@@ -7,9 +7,9 @@ use Rattle.micro_image.specs.declared.image.UnitDesc.{UnitDesc}
 use Rattle.micro_image.specs.declared.image.Word.{Word}
 use Rattle.micro_image.specs.declared.image.Image.{Image}
 use Rattle.micro_image.specs.Log.{Register, Cell}
-use Rattle.plan_run.specs.Parts.{lines_of}
-use Rattle.plan_run.specs.ImageOf.{IsImageOf, width_of}
-use Rattle.plan_run.proofs.SomeImage.{some_image}
+use Rattle.plan_soundness.specs.Parts.{lines_of}
+use Rattle.plan_soundness.specs.ImageOf.{IsImageOf, width_of}
+use Rattle.plan_soundness.proofs.SomeImage.{some_image}
 use Rattle.microcode_asm.specs.Private.Ready.{IsReady}
 use Rattle.microcode_asm.specs.Private.Starts.{AreUnitsOf, AreStarted}
 use Rattle.microcode_asm.specs.Private.Words.{AreWords}

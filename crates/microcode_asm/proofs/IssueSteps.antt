@@ -14,13 +14,13 @@ use Rattle.plan_core.specs.Arcs.{no_arc}
 use Rattle.plan_core.specs.Hardware.{unit_of, no_unit, port_of}
 use Rattle.plan_core.specs.declared.registers.Arc.{Arc}
 use Rattle.plan_core.specs.declared.plan.Plan.{Plan}
-use Rattle.plan_run.proofs.SomeWord.{enough_ports}
-use Rattle.plan_run.specs.Parts.{nodes_of, node_at, edge_at, unit_at, arc_at, register_at, ReadsThrough, IsCopy}
-use Rattle.plan_run.specs.ImageOf.{IsIssueOf}
-use Rattle.plan_run.specs.Feasible.{IsFeasible}
-use Rattle.plan_run.proofs.Elements.{nth_past}
-use Rattle.plan_run.proofs.Samples.{split, one_more}
-use Rattle.plan_run.proofs.SomeWord.{copy_once}
+use Rattle.plan_soundness.proofs.SomeWord.{enough_ports}
+use Rattle.plan_soundness.specs.Parts.{nodes_of, node_at, edge_at, unit_at, arc_at, register_at, ReadsThrough, IsCopy}
+use Rattle.plan_soundness.specs.ImageOf.{IsIssueOf}
+use Rattle.plan_soundness.specs.Feasible.{IsFeasible}
+use Rattle.plan_soundness.proofs.Elements.{nth_past}
+use Rattle.plan_soundness.proofs.Samples.{split, one_more}
+use Rattle.plan_soundness.proofs.SomeWord.{copy_once}
 use Rattle.microcode_asm.specs.Private.Ready.{IsReady}
 use Rattle.microcode_asm.specs.Private.Lifetimes.{IsFoundArc}
 use Rattle.microcode_asm.specs.Private.Words.{IsPortRegister, ArePortRegisters}

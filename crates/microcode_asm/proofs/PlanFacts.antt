@@ -4,9 +4,9 @@ use Rattle.std.proofs.lemmas.List.{get_or_default}
 use Rattle.datapath.specs.declared.types.Datapath.{Datapath}
 use Rattle.plan_core.specs.Hardware.{latency_on, gap_on}
 use Rattle.plan_core.specs.declared.plan.Plan.{Plan}
-use Rattle.plan_run.specs.Parts.{nodes_of, unit_at, cycle_at, arc_at, ReadsThrough, ends_at}
-use Rattle.plan_run.specs.Feasible.{IsFeasible}
-use Rattle.plan_run.proofs.Ordinary as ordinary
+use Rattle.plan_soundness.specs.Parts.{nodes_of, unit_at, cycle_at, arc_at, ReadsThrough, ends_at}
+use Rattle.plan_soundness.specs.Feasible.{IsFeasible}
+use Rattle.plan_soundness.proofs.Ordinary as ordinary
 use Rattle.microcode_asm.specs.Private.Ready.{IsReady}
 
 -- an element of a list is in it

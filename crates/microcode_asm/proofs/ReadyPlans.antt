@@ -11,14 +11,14 @@ use Rattle.plan_core.specs.Lowered.{Origin, own, address, store, load, IsNumber,
 use Rattle.plan_core.specs.declared.plan.Plan.{Plan}
 use Rattle.micro_image.specs.declared.image.Image.{Image}
 use Rattle.micro_image.specs.Valid.{IsValid}
-use Rattle.plan_run.specs.ImageOf.{IsImageOf}
-use Rattle.plan_run.specs.Machine.{IsMachine}
-use Rattle.plan_run.specs.Parts.{nodes_of, node_at}
-use Rattle.plan_run.specs.Run.{RunsSolution}
-use Rattle.plan_run.specs.Feasible.{IsFeasiblePlan}
-use Rattle.plan_run.proofs.FromLowered.{made_at, made_as, own_below, graph_node}
-use Rattle.plan_run.proofs.RunsSolution.{plan_feasible, image_runs_solution}
-use Rattle.plan_run.proofs.Valid.{image_valid}
+use Rattle.plan_soundness.specs.ImageOf.{IsImageOf}
+use Rattle.plan_soundness.specs.Machine.{IsMachine}
+use Rattle.plan_soundness.specs.Parts.{nodes_of, node_at}
+use Rattle.plan_soundness.specs.Run.{RunsSolution}
+use Rattle.plan_soundness.specs.Feasible.{IsFeasiblePlan}
+use Rattle.plan_soundness.proofs.FromLowered.{made_at, made_as, own_below, graph_node}
+use Rattle.plan_soundness.proofs.RunsSolution.{plan_feasible, image_runs_solution}
+use Rattle.plan_soundness.proofs.Valid.{image_valid}
 use Rattle.microcode_asm.specs.Planned.{IsPlanned}
 use Rattle.microcode_asm.specs.Private.Ready.{IsReady, samples_of}
 

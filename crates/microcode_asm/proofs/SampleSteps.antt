@@ -21,18 +21,19 @@ use Rattle.micro_image.specs.declared.image.Enable.{Enable}
 use Rattle.micro_image.specs.declared.image.Issue.{Issue}
 use Rattle.micro_image.specs.declared.image.Take.{Take}
 use Rattle.micro_image.specs.Valid.{EnableBefore, TakeBefore}
-use Rattle.plan_run.specs.Parts.{nodes_of, unit_at, cycle_at, transfers_at, arc_at, register_at, IsTransferOf, ends_at}
-use Rattle.plan_run.specs.ImageOf.{IsIssueOf, enable_of, take_of}
-use Rattle.plan_run.specs.Feasible.{IsFeasible}
+use Rattle.plan_soundness.specs.Parts.{nodes_of, unit_at, cycle_at, transfers_at, arc_at, register_at, IsTransferOf}
+use Rattle.plan_soundness.specs.Parts.{ends_at}
+use Rattle.plan_soundness.specs.ImageOf.{IsIssueOf, enable_of, take_of}
+use Rattle.plan_soundness.specs.Feasible.{IsFeasible}
 use Rattle.microcode_asm.specs.Private.Ready.{IsReady}
 use Rattle.microcode_asm.specs.Private.Buses.{IsBusTo, Drives, drive_of}
 use Rattle.microcode_asm.specs.Private.Order.{IsUnitOrder}
-use Rattle.buckets.specs.Linked.{IsNext}
+use Rattle.bucket_sort.specs.Linked.{IsNext}
 use Rattle.microcode_asm.specs.Private.Words.{HasIssues, HasEnables, HasTakes, IsTakeFor, AreIssuesTo, AreEnablesTo}
 use Rattle.microcode_asm.specs.Private.Words.{AreTakesTo, IsIssued, IsEnded, IsWritten, node_in}
-use Rattle.buckets.specs.declared.Buckets.{Buckets}
+use Rattle.bucket_sort.specs.declared.Buckets.{Buckets}
 use Rattle.microcode_asm.proofs.Dealt.{AreThings}
-use Rattle.buckets.proofs.Linked.{next_after}
+use Rattle.bucket_sort.proofs.Linked.{next_after}
 use Rattle.microcode_asm.proofs.Linked.{first_reached, next_reached, all_reached}
 use Rattle.microcode_asm.proofs.BusSteps.{drives_rise}
 use Rattle.microcode_asm.proofs.IssueSteps.{read_at, arc_is, unit_is, register_is, register_room}

@@ -21,12 +21,12 @@ use Rattle.micro_image.specs.declared.image.UnitDesc.{UnitDesc}
 use Rattle.micro_image.specs.declared.image.Image.{Image}
 use Rattle.micro_image.specs.Fields.{nth, no_unit}
 use Rattle.micro_image.specs.Log.{Place, Register, Cell, Latch}
-use Rattle.plan_run.specs.Parts.{nodes_of, lines_of, node_at, arc_at, line_at, register_at, IsCopy}
-use Rattle.plan_run.specs.ImageOf.{IsImageOf, IsUnitOf, IsPreloadOf, IsCellPreload}
-use Rattle.plan_run.specs.Feasible.{IsFeasible}
-use Rattle.plan_run.proofs.Ordinary.{room as line_room}
-use Rattle.plan_run.proofs.Elements.{nth_past}
-use Rattle.plan_run.proofs.SomeWord.{copy_once}
+use Rattle.plan_soundness.specs.Parts.{nodes_of, lines_of, node_at, arc_at, line_at, register_at, IsCopy}
+use Rattle.plan_soundness.specs.ImageOf.{IsImageOf, IsUnitOf, IsPreloadOf, IsCellPreload}
+use Rattle.plan_soundness.specs.Feasible.{IsFeasible}
+use Rattle.plan_soundness.proofs.Ordinary.{room as line_room}
+use Rattle.plan_soundness.proofs.Elements.{nth_past}
+use Rattle.plan_soundness.proofs.SomeWord.{copy_once}
 use Rattle.microcode_asm.specs.Private.Ready.{IsReady, samples_of}
 use Rattle.microcode_asm.specs.Private.Starts.{zeros, blank_unit, held, initial_of, Writes, AreUnitsOf, AreStarted}
 use Rattle.microcode_asm.specs.Private.Starts.{ArePreloaded, AreCellsPut, inits_of, no_init}

@@ -11,8 +11,8 @@ use Rattle.micro_image.specs.declared.image.Issue.{Issue}
 use Rattle.micro_image.specs.declared.image.Take.{Take}
 use Rattle.micro_image.specs.declared.image.Word.{Word}
 use Rattle.micro_image.specs.Fields.{nth, no_word}
-use Rattle.plan_run.specs.ImageOf.{IsWordOf}
-use Rattle.plan_run.proofs.Samples.{one_more}
+use Rattle.plan_soundness.specs.ImageOf.{IsWordOf}
+use Rattle.plan_soundness.proofs.Samples.{one_more}
 use Rattle.microcode_asm.specs.Private.Words.{HasIssues, HasEnables, HasTakes, AreBehind, AreWords}
 
 module _ (d : Datapath) (p : Plan) where

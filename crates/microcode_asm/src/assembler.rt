@@ -6,8 +6,8 @@ ghost use Rattle.signal_graph.specs.GraphRules.{IsGraph};
 ghost use Rattle.signal_graph.specs.declared.graph.Graph.{Graph};
 ghost use Rattle.plan_core.specs.IsPlan.{IsPlan};
 ghost use Rattle.micro_image.specs.Valid.{IsValid};
-ghost use Rattle.plan_run.specs.ImageOf.{IsImageOf, width_of as width_in_file};
-ghost use Rattle.plan_run.specs.Run.{RunsSolution};
+ghost use Rattle.plan_soundness.specs.ImageOf.{IsImageOf, width_of as width_in_file};
+ghost use Rattle.plan_soundness.specs.Run.{RunsSolution};
 ghost use Rattle.microcode_asm.specs.Planned.{IsPlanned};
 ghost use Rattle.microcode_asm.specs.Private.Ready.{IsReady};
 

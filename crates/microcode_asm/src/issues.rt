@@ -2,13 +2,13 @@
 
 ghost use Rattle.std.specs.Prelude.{◌≡◌, ◌<◌, length, IfOk};
 ghost use Rattle.plan_core.specs.Hardware.{unit_of};
-ghost use Rattle.plan_run.specs.Parts.{nodes_of, node_at, edge_at, unit_at, IsCopy};
-ghost use Rattle.plan_run.specs.ImageOf.{IsIssueOf};
+ghost use Rattle.plan_soundness.specs.Parts.{nodes_of, node_at, edge_at, unit_at, IsCopy};
+ghost use Rattle.plan_soundness.specs.ImageOf.{IsIssueOf};
 ghost use Rattle.microcode_asm.specs.Private.Words.{IsPortRegister, ArePortRegisters, HasIssues, IsIssuer};
 
 use crate::fault::AsmFault;
 use crate::lifetimes::lifetime_at;
-use buckets::Buckets;
+use bucket_sort::Buckets;
 use datapath::{Datapath, PortRef};
 use lists::List;
 use micro_image::{Issue, PortRegisters};

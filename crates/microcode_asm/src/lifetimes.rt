@@ -6,7 +6,7 @@ ghost use Rattle.microcode_asm.specs.Private.Lifetimes.{AreKept, IsFoundArc};
 ghost use Rattle.microcode_asm.specs.Private.Words.{IsWritten};
 
 use crate::fault::AsmFault;
-use buckets::Buckets;
+use bucket_sort::Buckets;
 use datapath::{Datapath, PortRef};
 use plan_core::{Arc, Plan};
 use std::alloc::Global;

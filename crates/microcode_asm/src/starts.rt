@@ -3,8 +3,8 @@
 ghost use Rattle.std.specs.Prelude.{◌≡◌, ◌<◌, ◌+◌, ◌/◌, length, IfOk};
 ghost use Rattle.signal_graph.specs.Rules.{word_before as word_at};
 ghost use Rattle.micro_image.specs.declared.image.Image.{Image};
-ghost use Rattle.plan_run.specs.Parts.{lines_of};
-ghost use Rattle.plan_run.specs.ImageOf.{IsImageOf};
+ghost use Rattle.plan_soundness.specs.Parts.{lines_of};
+ghost use Rattle.plan_soundness.specs.ImageOf.{IsImageOf};
 ghost use Rattle.microcode_asm.specs.Private.Ready.{IsReady};
 ghost use Rattle.microcode_asm.specs.Private.Starts.{AreStarted, AreUnitsOf};
 

@@ -1,7 +1,7 @@
 //! The microwords of a plan.
 
 ghost use Rattle.std.specs.Prelude.{◌<◌, IfOk, OnOk};
-ghost use Rattle.plan_run.specs.ImageOf.{IsWordOf};
+ghost use Rattle.plan_soundness.specs.ImageOf.{IsWordOf};
 ghost use Rattle.microcode_asm.specs.Private.Ready.{IsReady};
 ghost use Rattle.microcode_asm.specs.Private.Words.{IsIssuer, AreBehind, AreWords};
 

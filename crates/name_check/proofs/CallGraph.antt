@@ -9,12 +9,12 @@ use Rattle.std.proofs.lemmas.List.Elements.{Contains-append_cases}
 use Rattle.std.proofs.lemmas.Option.{slice_get_within, slice_get-map, get_or_from_slice_get}
 use Rattle.silage_syntax.specs.declared.tree.Top.{Top as RustTop}
 use Rattle.silage_syntax.specs.Tree.{Top, Program, view_top}
-use Rattle.source_names.specs.TopNames.{top_name, top_names}
+use Rattle.name_rules.specs.TopNames.{top_name, top_names}
 use Rattle.digraph.specs.Arcs.{HasArc, IsWithin, HasNoCycle, IsFirstCyclic}
 use Rattle.digraph.proofs.Arcs.{carried}
-use Rattle.source_names.specs.Calls.{called_by, Calls}
-use Rattle.source_names.specs.Private.CallLists.{place, places, call_lists}
-use Rattle.source_names.proofs.FirstPlaces.{first_place, place_found, top_stands}
+use Rattle.name_rules.specs.Calls.{called_by, Calls}
+use Rattle.name_rules.specs.Private.CallLists.{place, places, call_lists}
+use Rattle.name_rules.proofs.FirstPlaces.{first_place, place_found, top_stands}
 use Rattle.lists.proofs.Places.{none_there, only_there}
 
 -- what has a value in a list, and what the value is of

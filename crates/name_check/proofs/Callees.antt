@@ -12,10 +12,10 @@ use Rattle.silage_syntax.specs.declared.tree.Manifest.{Manifest as RustManifest}
 use Rattle.silage_syntax.specs.declared.tree.Item.{Item as RustItem, Loop}
 use Rattle.silage_syntax.specs.Tree.{view_item, view_items}
 use Rattle.silage_syntax.proofs.Rows.{view_Loop}
-use Rattle.source_names.specs.TopNames.{IsFirstPlace}
-use Rattle.source_names.specs.Calls.{called, all_called}
-use Rattle.source_names.specs.Private.CallLists.{place, places}
-use Rattle.source_names.proofs.FirstPlaces.{place_found, place_missing}
+use Rattle.name_rules.specs.TopNames.{IsFirstPlace}
+use Rattle.name_rules.specs.Calls.{called, all_called}
+use Rattle.name_rules.specs.Private.CallLists.{place, places}
+use Rattle.name_rules.proofs.FirstPlaces.{place_found, place_missing}
 
 pub loop_called : (index : List ℕ) (lo hi : RustManifest) (v : Vec RustItem Global) (at : ℕ)
     → called (view_item (Loop index lo hi v at)) ≡ all_called (view_items v.items)

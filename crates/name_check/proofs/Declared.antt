@@ -4,16 +4,16 @@ use Rattle.std.proofs.Common.{Result, Ok, Err, IsErrAnd, length, get_or, take, d
 use Rattle.std.proofs.Common.{append_assoc}
 use Rattle.std.proofs.lemmas.List.{map-append, take_more, take_all, drop_more, drop_all}
 use Rattle.std.proofs.lemmas.Bool.{and_from, or_from}
-use Rattle.ranked_faults.specs.Rules.{parts, unless, none, ◌▸◌}
-use Rattle.ranked_faults.specs.Private.FirstMet.{first, first_in, ◌>>◌, MeetsOr}
-use Rattle.ranked_faults.proofs.TableFaults.{then_assoc}
+use Rattle.fault_order.specs.Rules.{parts, unless, none, ◌▸◌}
+use Rattle.fault_order.specs.Private.FirstMet.{first, first_in, ◌>>◌, MeetsOr}
+use Rattle.fault_order.proofs.TableFaults.{then_assoc}
 use Rattle.silage_syntax.specs.declared.tree.Decl.{Decl}
 use Rattle.silage_syntax.specs.Tree.{Func}
 use Rattle.silage_syntax.specs.Names.{decls}
-use Rattle.source_names.specs.Meanings.{is_among, names_of, are_dims, is_signal_type}
-use Rattle.source_names.specs.NameRules.{decl_rules, signal_rules}
-use Rattle.source_names.specs.declared.fault.NameFault.{NameFault}
-use Rattle.source_names.specs.declared.fault.NameFault.TheVariants.{Memory, Size, Twice}
+use Rattle.name_rules.specs.Meanings.{is_among, names_of, are_dims, is_signal_type}
+use Rattle.name_rules.specs.NameRules.{decl_rules, signal_rules}
+use Rattle.name_rules.specs.declared.fault.NameFault.{NameFault}
+use Rattle.name_rules.specs.declared.fault.NameFault.TheVariants.{Memory, Size, Twice}
 
 -- a declaration by its size, and whether its name is taken
 module _ (size twice : NameFault) where

@@ -1,8 +1,8 @@
 -- Small programs and their first faults, read by the definitions. Each `at` is that of the source in the comment.
 use Rattle.std.proofs.Common.{◌≡◌, ◌∷◌, ◌+◌, ℕ, zero, suc, refl, arith, List, [], Some, None, false, codes, Result, Ok}
 use Rattle.std.proofs.Common.{Err, replicate}
-use Rattle.ranked_faults.specs.Ranked.{IsFirst}
-use Rattle.ranked_faults.specs.Private.FirstMet.{first}
+use Rattle.fault_order.specs.Ranked.{IsFirst}
+use Rattle.fault_order.specs.Private.FirstMet.{first}
 use Rattle.fix_word.specs.declared.types.FixType.{FixType}
 use Rattle.fix_word.specs.declared.types.Mode.TheVariants.{Trunc}
 use Rattle.fix_word.specs.declared.types.SigType.TheVariants as sig
@@ -12,13 +12,13 @@ use Rattle.silage_syntax.specs.declared.tree.Lit.{Lit}
 use Rattle.silage_syntax.specs.declared.tree.Lit.TheVariants.{Number}
 use Rattle.silage_syntax.specs.Tree.{Manifest, whole, counter, Place, Expr, literal, read, binary, cast, equation, call}
 use Rattle.silage_syntax.specs.Tree.{loop, initial, Item, no_item, items_of, Top, table, function, Program}
-use Rattle.source_names.specs.FirstTops.{IsDistinct}
+use Rattle.name_rules.specs.FirstTops.{IsDistinct}
 use Rattle.digraph.specs.Arcs.{HasNoCycle, by_arc, by_arcs}
-use Rattle.source_names.specs.Calls.{Calls}
-use Rattle.source_names.specs.NameRules.{all_top_rules}
-use Rattle.source_names.specs.NameFaults.{name_faults}
-use Rattle.source_names.specs.declared.fault.NameFault.{NameFault}
-use Rattle.source_names.specs.declared.fault.NameFault.TheVariants.{Unknown, Twice, NoMain, Arity, Size}
+use Rattle.name_rules.specs.Calls.{Calls}
+use Rattle.name_rules.specs.NameRules.{all_top_rules}
+use Rattle.name_rules.specs.NameFaults.{name_faults}
+use Rattle.name_rules.specs.declared.fault.NameFault.{NameFault}
+use Rattle.name_rules.specs.declared.fault.NameFault.TheVariants.{Unknown, Twice, NoMain, Arity, Size}
 use Rattle.name_check.proofs.NameAnswers.{inside_first, no_main_first}
 
 -- Parts of trees.

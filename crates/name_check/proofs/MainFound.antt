@@ -4,17 +4,17 @@ use Rattle.std.proofs.Common.{Result, Ok, Err, map, drop, find, filter_map, leng
 use Rattle.std.proofs.Common.{ap, inl, inr, add-one, drop-cons, IfErr, IsErrAnd, OnOk, subst, option_map, MatchOption}
 use Rattle.std.specs.Option.{ok_or}
 use Rattle.std.proofs.lemmas.Option.{slice_get-map, slice_get_read}
-use Rattle.ranked_faults.specs.Ranked.{IsClear, IsFirst}
-use Rattle.ranked_faults.proofs.FirstFaults.{one_first}
+use Rattle.fault_order.specs.Ranked.{IsClear, IsFirst}
+use Rattle.fault_order.proofs.FirstFaults.{one_first}
 use Rattle.silage_syntax.specs.declared.tree.Top.{Top as RustTop}
 use Rattle.silage_syntax.specs.Tree.{Func, Top, table, function, Program, view_top}
 use Rattle.silage_syntax.specs.Names.{as_function, main_of}
-use Rattle.source_names.specs.FirstTops.{is_main}
-use Rattle.source_names.specs.NameFaults.{name_faults, IsMain}
-use Rattle.ranked_faults.specs.Ranked.{AnswersOk, AnswersFault}
-use Rattle.source_names.specs.declared.fault.NameFault.{NameFault}
-use Rattle.source_names.specs.declared.fault.NameFault.TheVariants.{Unknown, Twice, Recursive, NoMain, Arity, Size}
-use Rattle.source_names.specs.declared.fault.NameFault.TheVariants.{Memory}
+use Rattle.name_rules.specs.FirstTops.{is_main}
+use Rattle.name_rules.specs.NameFaults.{name_faults, IsMain}
+use Rattle.fault_order.specs.Ranked.{AnswersOk, AnswersFault}
+use Rattle.name_rules.specs.declared.fault.NameFault.{NameFault}
+use Rattle.name_rules.specs.declared.fault.NameFault.TheVariants.{Unknown, Twice, Recursive, NoMain, Arity, Size}
+use Rattle.name_rules.specs.declared.fault.NameFault.TheVariants.{Memory}
 use Rattle.name_check.proofs.NameAnswers.{names_single}
 
 abbrev pub main_among : List Top → Option Func

@@ -2,25 +2,25 @@
 use Rattle.std.proofs.Common.{◌≡◌, ◌≢◌, ◌<◌, ◌≤◌, ◌⊎◌, ◌∙◌, ℕ, List, [], ◌∷◌, Some, None, Result, Ok, Err, slice_get}
 use Rattle.std.proofs.Common.{sym, ap, subst, inl, inr, arith}
 use Rattle.std.proofs.lemmas.Bool.{cases_lt}
-use Rattle.ranked_faults.specs.Ranked.{FaultSet, StandsBefore, IsFirst, IsClear, faults_in, fault_where, no_faults}
-use Rattle.ranked_faults.specs.Ranked.{◌before◌}
-use Rattle.ranked_faults.proofs.FirstFaults.{IsSingle, Answers}
-use Rattle.ranked_faults.specs.Rules.{faults}
-use Rattle.ranked_faults.specs.Private.FirstMet.{first}
-use Rattle.ranked_faults.proofs.FirstFaults.{none_clear, before_clear, before_first, later_first, own_clear, own_first}
-use Rattle.ranked_faults.proofs.FirstFaults.{none_single, before_single, own_single}
-use Rattle.ranked_faults.proofs.TableFaults.{first_answers, single_faults}
+use Rattle.fault_order.specs.Ranked.{FaultSet, StandsBefore, IsFirst, IsClear, faults_in, fault_where, no_faults}
+use Rattle.fault_order.specs.Ranked.{◌before◌}
+use Rattle.fault_order.proofs.FirstFaults.{IsSingle, Answers}
+use Rattle.fault_order.specs.Rules.{faults}
+use Rattle.fault_order.specs.Private.FirstMet.{first}
+use Rattle.fault_order.proofs.FirstFaults.{none_clear, before_clear, before_first, later_first, own_clear, own_first}
+use Rattle.fault_order.proofs.FirstFaults.{none_single, before_single, own_single}
+use Rattle.fault_order.proofs.TableFaults.{first_answers, single_faults}
 use Rattle.silage_syntax.specs.Tree.{Top, Program}
 use Rattle.silage_syntax.specs.Names.{main_of}
-use Rattle.source_names.specs.TopNames.{top_at, top_names, IsDuplicate}
-use Rattle.source_names.specs.FirstTops.{IsDistinct, IsFirstDuplicate}
+use Rattle.name_rules.specs.TopNames.{top_at, top_names, IsDuplicate}
+use Rattle.name_rules.specs.FirstTops.{IsDistinct, IsFirstDuplicate}
 use Rattle.digraph.specs.Arcs.{Reaches, HasNoCycle}
-use Rattle.source_names.specs.Calls.{Calls}
-use Rattle.source_names.specs.FirstTops.{IsRecursive}
-use Rattle.source_names.specs.NameRules.{all_top_rules}
-use Rattle.source_names.specs.NameFaults.{faults_of_tops, name_faults}
-use Rattle.source_names.specs.declared.fault.NameFault.{NameFault}
-use Rattle.source_names.specs.declared.fault.NameFault.TheVariants.{Twice, Recursive, NoMain}
+use Rattle.name_rules.specs.Calls.{Calls}
+use Rattle.name_rules.specs.FirstTops.{IsRecursive}
+use Rattle.name_rules.specs.NameRules.{all_top_rules}
+use Rattle.name_rules.specs.NameFaults.{faults_of_tops, name_faults}
+use Rattle.name_rules.specs.declared.fault.NameFault.{NameFault}
+use Rattle.name_rules.specs.declared.fault.NameFault.TheVariants.{Twice, Recursive, NoMain}
 
 module _ (p : Program) (IsBroken : ℕ → Type 0) (at : ℕ → NameFault) where
   tops_clear : ((k : ℕ) → IsBroken k → ⊥) → IsClear (faults_in (faults_of_tops p IsBroken at))

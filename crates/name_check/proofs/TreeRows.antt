@@ -6,12 +6,12 @@ use Rattle.silage_syntax.specs.declared.tree.Manifest.{Manifest as RustManifest}
 use Rattle.silage_syntax.specs.declared.tree.Item.{Item as RustItem, Loop}
 use Rattle.silage_syntax.specs.Tree.{view_expr, view_arms, view_manifest, view_item, view_items}
 use Rattle.silage_syntax.proofs.Rows.{view_Choose, view_Loop}
-use Rattle.ranked_faults.specs.Rules.{parts}
-use Rattle.ranked_faults.specs.Private.FirstMet.{first, ◌>>◌}
-use Rattle.ranked_faults.proofs.TableFaults.{then_ok, err_is}
-use Rattle.source_names.specs.Contexts.{Context, inside}
-use Rattle.source_names.specs.NameRules.{expr_rules, branch_rules, head_rules, item_rules, items_rules}
-use Rattle.source_names.specs.declared.fault.NameFault.{NameFault}
+use Rattle.fault_order.specs.Rules.{parts}
+use Rattle.fault_order.specs.Private.FirstMet.{first, ◌>>◌}
+use Rattle.fault_order.proofs.TableFaults.{then_ok, err_is}
+use Rattle.name_rules.specs.Contexts.{Context, inside}
+use Rattle.name_rules.specs.NameRules.{expr_rules, branch_rules, head_rules, item_rules, items_rules}
+use Rattle.name_rules.specs.declared.fault.NameFault.{NameFault}
 
 -- a conditional is met by its branches and then its last value
 module _ (c : Context) (e : RustExpr) (at : ℕ) (v : Vec (RustExpr × RustExpr) Global) (b : Box RustExpr Global)

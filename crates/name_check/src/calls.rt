@@ -1,12 +1,12 @@
 //! Calls of functions.
 
 ghost use Rattle.std.specs.Prelude.{◌≡◌, Option, map, length, slice_get, option_copied, option_map};
-ghost use Rattle.ranked_faults.specs.Private.FirstMet.{first};
+ghost use Rattle.fault_order.specs.Private.FirstMet.{first};
 ghost use Rattle.silage_syntax.specs.Tree.{view_place, view_expr, view_func};
 ghost use Rattle.silage_syntax.specs.Names.{function_named};
-ghost use Rattle.source_names.specs.Meanings as meaning;
-ghost use Rattle.source_names.specs.NameRules as rules;
-ghost use Rattle.source_names.specs.NameRules.{array_rules, argument_rules, callee_rules, places_rules, arguments_rules, call_rules};
+ghost use Rattle.name_rules.specs.Meanings as meaning;
+ghost use Rattle.name_rules.specs.NameRules as rules;
+ghost use Rattle.name_rules.specs.NameRules.{array_rules, argument_rules, callee_rules, places_rules, arguments_rules, call_rules};
 ghost use Rattle.name_check.specs.Private.Views.{context_of};
 
 use crate::context::Context;
@@ -15,8 +15,8 @@ use crate::indices::check_delay;
 use crate::lookups::read_dims;
 use crate::places::{check_place, check_taking, is_whole_array};
 use lists::Name;
+use name_rules::NameFault;
 use silage_syntax::{Decl, Expr, Func, Lit, Place};
-use source_names::NameFault;
 
 /// The source position of an expression.
 fn expr_at(e: &Expr) -> u32

@@ -3,11 +3,11 @@
 ghost use Rattle.std.specs.Prelude.{◌≡◌};
 ghost use Rattle.silage_syntax.specs.Tree.{view_func};
 ghost use Rattle.silage_syntax.specs.Names.{decls};
-ghost use Rattle.source_names.specs.Meanings.{names_of};
+ghost use Rattle.name_rules.specs.Meanings.{names_of};
 
 use lists::Name;
+use name_rules::{NameSet, Tops};
 use silage_syntax::Func;
-use source_names::{NameSet, Tops};
 
 /// The indices of the loops around a place, innermost first.
 #[derive(Clone, Copy)]

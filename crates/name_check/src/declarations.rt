@@ -1,16 +1,16 @@
 //! Declarations of signals.
 
 ghost use Rattle.std.specs.Prelude.{◌≡◌, ◌∷◌, ◌++◌, [], IfOk, OnOk};
-ghost use Rattle.ranked_faults.specs.Private.FirstMet.{first, first_in, MeetsOr};
+ghost use Rattle.fault_order.specs.Private.FirstMet.{first, first_in, MeetsOr};
 ghost use Rattle.silage_syntax.specs.Tree.{view_func};
 ghost use Rattle.silage_syntax.specs.Names.{decls};
-ghost use Rattle.source_names.specs.Meanings.{names_of};
-ghost use Rattle.source_names.specs.NameRules.{decl_rules, signal_rules};
+ghost use Rattle.name_rules.specs.Meanings.{names_of};
+ghost use Rattle.name_rules.specs.NameRules.{decl_rules, signal_rules};
 
 use crate::lookups::is_top;
 use crate::sizes::{are_dims, is_signal_type};
+use name_rules::{NameFault, NameMap, NameSet};
 use silage_syntax::{Decl, Func};
-use source_names::{NameFault, NameMap, NameSet};
 use std::alloc::Global;
 
 /// Adds the name of a declaration to those of the signals before it.

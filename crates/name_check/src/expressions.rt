@@ -1,10 +1,10 @@
 //! Expressions.
 
 ghost use Rattle.std.specs.Prelude.{◌≡◌, Option, map, option_map};
-ghost use Rattle.ranked_faults.specs.Rules.{parts};
-ghost use Rattle.ranked_faults.specs.Private.FirstMet.{first};
+ghost use Rattle.fault_order.specs.Rules.{parts};
+ghost use Rattle.fault_order.specs.Private.FirstMet.{first};
 ghost use Rattle.silage_syntax.specs.Tree.{view_manifest, view_expr, view_arms};
-ghost use Rattle.source_names.specs.NameRules.{expr_rules, branch_rules};
+ghost use Rattle.name_rules.specs.NameRules.{expr_rules, branch_rules};
 ghost use Rattle.name_check.specs.Private.Views.{context_of};
 
 use crate::context::Context;
@@ -12,8 +12,8 @@ use crate::indices::{check_delay, check_manifest};
 use crate::lookups::read_dims;
 use crate::places::{check_place, is_element};
 use crate::sizes::is_fix_type;
+use name_rules::NameFault;
 use silage_syntax::Expr;
-use source_names::NameFault;
 
 #[cycle(exprs)]
 pub(crate) fn check_expr(context: &Context, e: &Expr) -> Result<(), NameFault>

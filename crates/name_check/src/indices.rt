@@ -1,17 +1,17 @@
 //! Indices of loops, and the manifest constants in which they are used.
 
 ghost use Rattle.std.specs.Prelude.{◌≡◌, map};
-ghost use Rattle.ranked_faults.specs.Rules.{parts, each};
-ghost use Rattle.ranked_faults.specs.Private.FirstMet.{first};
+ghost use Rattle.fault_order.specs.Rules.{parts, each};
+ghost use Rattle.fault_order.specs.Private.FirstMet.{first};
 ghost use Rattle.silage_syntax.specs.Tree.{view_manifest, view_delay};
-ghost use Rattle.source_names.specs.Meanings.{is_among};
-ghost use Rattle.source_names.specs.NameRules.{manifest_rules, delay_rules};
+ghost use Rattle.name_rules.specs.Meanings.{is_among};
+ghost use Rattle.name_rules.specs.NameRules.{manifest_rules, delay_rules};
 ghost use Rattle.name_check.specs.Private.Views.{index_names, context_of};
 
 use crate::context::{Context, Indices};
 use lists::Name;
+use name_rules::NameFault;
 use silage_syntax::Manifest;
-use source_names::NameFault;
 
 /// Whether a loop around the place has the index.
 pub(crate) fn has_index(indices: &Indices, name: &Name) -> bool

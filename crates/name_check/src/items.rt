@@ -1,11 +1,11 @@
 //! Items: equations, calls, loops and initial values.
 
 ghost use Rattle.std.specs.Prelude.{◌≡◌, ◌∷◌, Option, map};
-ghost use Rattle.ranked_faults.specs.Rules.{parts};
-ghost use Rattle.ranked_faults.specs.Private.FirstMet.{first};
+ghost use Rattle.fault_order.specs.Rules.{parts};
+ghost use Rattle.fault_order.specs.Private.FirstMet.{first};
 ghost use Rattle.silage_syntax.specs.Tree.{view_manifest, view_item, view_items};
-ghost use Rattle.source_names.specs.NameRules as rules;
-ghost use Rattle.source_names.specs.NameRules.{head_rules, item_rules, items_rules};
+ghost use Rattle.name_rules.specs.NameRules as rules;
+ghost use Rattle.name_rules.specs.NameRules.{head_rules, item_rules, items_rules};
 ghost use Rattle.name_check.specs.Private.Views.{context_of};
 
 use crate::calls::check_call;
@@ -15,8 +15,8 @@ use crate::indices::{check_manifest, has_index};
 use crate::lookups::{is_signal, is_top};
 use crate::places::check_target;
 use lists::Name;
+use name_rules::NameFault;
 use silage_syntax::{Item, Manifest};
-use source_names::NameFault;
 
 /// Whether an index has a name that nothing else has where the loop is.
 fn is_free_index(context: &Context, index: &Name) -> bool

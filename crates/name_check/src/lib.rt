@@ -14,15 +14,15 @@ mod sizes;
 mod tops;
 
 ghost use Rattle.std.specs.Prelude.{◌≡◌, ◌≢◌, ◌<◌, ◌^◌, length, IfOk, OnOk, IfErr};
-ghost use Rattle.ranked_faults.specs.Ranked.{IsClear, IsFirst, AnswersOk, AnswersFault};
+ghost use Rattle.fault_order.specs.Ranked.{IsClear, IsFirst, AnswersOk, AnswersFault};
 ghost use Rattle.silage_syntax.specs.Tree.{view};
-ghost use Rattle.source_names.specs.TopNames.{top_names};
-ghost use Rattle.source_names.specs.NameFaults.{name_faults, IsMain};
-ghost use Rattle.source_names.specs.declared.fault.NameFault.{NameFault as FaultType};
+ghost use Rattle.name_rules.specs.TopNames.{top_names};
+ghost use Rattle.name_rules.specs.NameFaults.{name_faults, IsMain};
+ghost use Rattle.name_rules.specs.declared.fault.NameFault.{NameFault as FaultType};
 
+use name_rules::{NameFault, NameMap, Names, Tops};
 use recursion::check_recursion;
 use silage_syntax::Program;
-use source_names::{NameFault, NameMap, Names, Tops};
 use std::alloc::Global;
 use tops::{check_tops, main_position};
 

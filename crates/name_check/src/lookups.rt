@@ -3,14 +3,14 @@
 ghost use Rattle.std.specs.Prelude.{◌≡◌, option_map, option_copied, slice_get, is_some};
 ghost use Rattle.silage_syntax.specs.Tree.{view_func};
 ghost use Rattle.silage_syntax.specs.Names.{decls, declared};
-ghost use Rattle.source_names.specs.Meanings as meaning;
-ghost use Rattle.source_names.specs.Meanings.{is_among};
+ghost use Rattle.name_rules.specs.Meanings as meaning;
+ghost use Rattle.name_rules.specs.Meanings.{is_among};
 ghost use Rattle.name_check.specs.Private.Views.{context_of};
 
 use crate::context::Context;
 use lists::Name;
+use name_rules::NameMap;
 use silage_syntax::{Decl, Func};
-use source_names::NameMap;
 
 /// The declaration at a position among a function's parameters, results and locals.
 fn signal_at(func: &Func, position: usize) -> Option<&Decl>

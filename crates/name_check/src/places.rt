@@ -1,17 +1,17 @@
 //! Places, on the left of an item and in a read.
 
 ghost use Rattle.std.specs.Prelude.{◌≡◌, map, option_copied, option_map};
-ghost use Rattle.ranked_faults.specs.Private.FirstMet.{first};
+ghost use Rattle.fault_order.specs.Private.FirstMet.{first};
 ghost use Rattle.silage_syntax.specs.Tree.{view_manifest, view_place};
-ghost use Rattle.source_names.specs.Meanings as meaning;
-ghost use Rattle.source_names.specs.NameRules.{place_rules, target_rules};
+ghost use Rattle.name_rules.specs.Meanings as meaning;
+ghost use Rattle.name_rules.specs.NameRules.{place_rules, target_rules};
 ghost use Rattle.name_check.specs.Private.Views.{context_of};
 
 use crate::context::Context;
 use crate::indices::check_subscripts;
 use crate::lookups::signal_dims;
+use name_rules::NameFault;
 use silage_syntax::{Decl, Manifest, Place};
-use source_names::NameFault;
 
 /// Whether the subscripts pick one element of an array with these dims.
 pub(crate) fn is_element(subs: &[Manifest], dims: &[u32]) -> bool

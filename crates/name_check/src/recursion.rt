@@ -2,16 +2,16 @@
 
 ghost use Rattle.std.specs.Prelude.{◌≡◌, ◌≢◌, ◌++◌, ◌<◌, ◌^◌, length, IfOk, OnOk, IfErr};
 ghost use Rattle.silage_syntax.specs.Tree.{view, view_top, view_item, view_items};
-ghost use Rattle.source_names.specs.TopNames.{top_names};
-ghost use Rattle.source_names.specs.Calls.{called, all_called, called_by, Calls};
+ghost use Rattle.name_rules.specs.TopNames.{top_names};
+ghost use Rattle.name_rules.specs.Calls.{called, all_called, called_by, Calls};
 ghost use Rattle.digraph.specs.Arcs.{HasNoCycle};
-ghost use Rattle.source_names.specs.Private.CallLists.{places, call_lists};
-ghost use Rattle.source_names.specs.FirstTops.{IsRecursive};
+ghost use Rattle.name_rules.specs.Private.CallLists.{places, call_lists};
+ghost use Rattle.name_rules.specs.FirstTops.{IsRecursive};
 
 use digraph::first_cyclic;
 use lists::List;
+use name_rules::{NameFault, NameMap, top_at};
 use silage_syntax::{Item, Program, Top};
-use source_names::{NameFault, NameMap, top_at};
 use std::alloc::{AllocError, AllocFailed, Global};
 
 /// Adds the positions of what an item calls.

@@ -2,7 +2,7 @@
 
 ghost use Rattle.std.specs.Prelude.{◌≡◌, length, if◌then◌else◌, Some, None};
 ghost use Rattle.silage_syntax.specs.Names as name;
-ghost use Rattle.source_names.specs.Meanings as meaning;
+ghost use Rattle.name_rules.specs.Meanings as meaning;
 
 use fix_word::{FixType, MOST_BITS, SigType};
 

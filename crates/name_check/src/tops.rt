@@ -1,19 +1,19 @@
 //! Tables and functions, and all of them in order.
 
 ghost use Rattle.std.specs.Prelude.{◌≡◌, ◌<◌, ◌^◌, length, None, MatchOption};
-ghost use Rattle.ranked_faults.specs.Private.FirstMet.{first, MeetsOr};
+ghost use Rattle.fault_order.specs.Private.FirstMet.{first, MeetsOr};
 ghost use Rattle.silage_syntax.specs.Tree.{view, view_top, view_func};
 ghost use Rattle.silage_syntax.specs.Names.{main_of};
-ghost use Rattle.source_names.specs.NameRules.{table_rules, function_rules, top_rules, all_top_rules};
-ghost use Rattle.source_names.specs.NameFaults.{IsMain};
-ghost use Rattle.source_names.specs.FirstTops as first_top;
+ghost use Rattle.name_rules.specs.NameRules.{table_rules, function_rules, top_rules, all_top_rules};
+ghost use Rattle.name_rules.specs.NameFaults.{IsMain};
+ghost use Rattle.name_rules.specs.FirstTops as first_top;
 
 use crate::context::{Context, Indices};
 use crate::declarations::signals_of;
 use crate::items::check_items;
 use crate::sizes::{element_count, is_fix_type};
+use name_rules::{NameFault, Tops};
 use silage_syntax::{ConstDef, Func, Program, Top};
-use source_names::{NameFault, Tops};
 use std::alloc::Global;
 
 fn check_table(table: &ConstDef) -> Result<(), NameFault>

@@ -8,7 +8,7 @@ use Rattle.micro_image.specs.Run.{IsRunOut}
 use Rattle.micro_image.specs.Spells.{SpellsIn}
 use Rattle.micro_image.specs.declared.image.Image.{Image}
 use Rattle.micro_image.specs.declared.version.Version.TheVariants.{Two}
-use Rattle.plan_run.specs.Run.{RunsSolution}
+use Rattle.plan_soundness.specs.Run.{RunsSolution}
 use Rattle.signal_graph.specs.declared.graph.Graph.{Graph}
 use Rattle.silage_syntax.specs.Tree.{Program}
 use Rattle.plan_commands.specs.Headline.{SpellsOnly, RunsTheSolution}

@@ -8,8 +8,8 @@ use Rattle.signal_graph.specs.GraphRules.{IsGraph}
 use Rattle.signal_graph.specs.declared.graph.Graph.{Graph}
 use Rattle.micro_image.specs.declared.image.Image.{Image}
 use Rattle.plan_core.specs.declared.plan.Plan.{Plan}
-use Rattle.plan_run.specs.ImageOf.{IsImageOf}
-use Rattle.plan_run.specs.Run.{RunsSolution}
+use Rattle.plan_soundness.specs.ImageOf.{IsImageOf}
+use Rattle.plan_soundness.specs.Run.{RunsSolution}
 use Rattle.plan_core.specs.IsPlan.{IsPlan}
 use Rattle.plan_commands.specs.Compile.{AreCompiled}
 use Rattle.plan_commands.specs.Headline.{SpellsOnly}

@@ -8,7 +8,7 @@ use Rattle.micro_image.specs.Run.{IsRunOut}
 use Rattle.micro_image.specs.declared.version.Version.TheVariants.{Two}
 use Rattle.micro_image.specs.Spells.{SpellsIn, Spells}
 use Rattle.plan_core.specs.declared.plan.Plan.{Plan}
-use Rattle.plan_run.specs.ImageOf.{IsImageOf}
+use Rattle.plan_soundness.specs.ImageOf.{IsImageOf}
 use Rattle.silage_syntax.specs.Tree.{Program}
 use Rattle.silage_meaning.specs.Value.{Words}
 use Rattle.silage_meaning.specs.Solves.{IsStream, IsOneSolution, out}

@@ -14,7 +14,7 @@ use Rattle.plan_core.specs.declared.schedule.Schedule.{Schedule}
 use Rattle.plan_core.specs.declared.delay_lines.Lowered.{Lowered}
 use Rattle.plan_core.specs.declared.schedule.Assigned.{Assigned}
 use Rattle.unit_assign.specs.Wired.{IsWired}
-use Rattle.schedule_order.specs.Schedulable.{IsSchedulable}
+use Rattle.schedule_priority.specs.Schedulable.{IsSchedulable}
 use Rattle.cyclic_life.specs.Held.{IsHeld}
 use Rattle.reg_alloc.specs.Allottable.{AreAllottable}
 use Rattle.reg_alloc.proofs.FromArcs as of_arcs

@@ -23,8 +23,8 @@ use Rattle.plan_core.proofs.OneHeight.{live_of}
 use Rattle.plan_core.proofs.OneSchedule.{one_schedule}
 use Rattle.delay_memory.proofs.OneFault.{one_lowered, lowered_or_not}
 use Rattle.unit_assign.proofs.OneFault.{bound_or_not}
-use Rattle.schedule_order.specs.Problem.{IsProblem}
-use Rattle.schedule_order.proofs.Problems.{operand_in}
+use Rattle.schedule_priority.specs.Problem.{IsProblem}
+use Rattle.schedule_priority.proofs.Problems.{operand_in}
 use Rattle.list_schedule.specs.declared.fault.PeriodFault.TheVariants as period
 use Rattle.list_schedule.proofs.OneFault.{scheduled_or_not}
 use Rattle.reg_alloc.specs.declared.fault.FileFault.TheVariants as file

@@ -35,8 +35,8 @@ use Rattle.delay_memory.proofs.OneFault.{one_lowered, lowered_or_not, one_fault 
 use Rattle.unit_assign.specs.Faults.{IsUnitFault}
 use Rattle.unit_assign.specs.declared.fault.UnitFault.{UnitFault}
 use Rattle.unit_assign.proofs.OneFault.{bound_or_not, one_fault as one_unit_fault}
-use Rattle.schedule_order.specs.Problem.{IsProblem}
-use Rattle.schedule_order.proofs.Problems.{operand_in}
+use Rattle.schedule_priority.specs.Problem.{IsProblem}
+use Rattle.schedule_priority.proofs.Problems.{operand_in}
 use Rattle.list_schedule.specs.declared.fault.PeriodFault.TheVariants as period
 use Rattle.list_schedule.proofs.OneFault.{scheduled_or_not, one_fault as one_period_fault}
 use Rattle.reg_alloc.specs.Faults.{IsFileFault}

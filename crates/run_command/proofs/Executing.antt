@@ -16,7 +16,7 @@ use Rattle.micro_image.specs.Run.{State, IsRunOut}
 use Rattle.micro_image.specs.Spells.{Spells}
 use Rattle.micro_image.specs.declared.conflict.Conflict.{Conflict as ConflictValue}
 use Rattle.micro_image.proofs.Streams.{length-spread}
-use Rattle.plan_run.specs.ImageOf.{IsImageOf, width_of}
+use Rattle.plan_soundness.specs.ImageOf.{IsImageOf, width_of}
 use Rattle.sample_io.specs.declared.channel.Channel.{Channel}
 use Rattle.sample_io.specs.Channels.{IsStream, channel_of}
 use Rattle.sample_io.specs.Samples.{printed}

@@ -7,7 +7,7 @@ use Rattle.desk_core.specs.Desk.{IfSpecified, WhereSpecified, NoOtherBegins, con
 use Rattle.desk_core.specs.Whole.{IsUnchangedButInput}
 use Rattle.micro_image.specs.declared.image.Image.{Image}
 use Rattle.plan_core.specs.declared.plan.Plan.{Plan}
-use Rattle.plan_run.specs.ImageOf.{IsImageOf}
+use Rattle.plan_soundness.specs.ImageOf.{IsImageOf}
 use Rattle.silage_syntax.specs.Tree.{Program}
 use Rattle.silc_files.specs.Endings.{ChangesOnly}
 use Rattle.silc_files.specs.Limits.{text_limit}

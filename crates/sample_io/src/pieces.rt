@@ -7,8 +7,8 @@ ghost use Rattle.sample_io.specs.Private.Filling.{TakesNextByte};
 
 use crate::read::{Progress, Reader};
 use crate::{Channel, RowFault};
+use ghost_lists::Past;
 use lists::List;
-use past::Past;
 use std::alloc::{AllocError, Global};
 use std::marker::Model;
 use std::mem;

@@ -1,7 +1,7 @@
 -- Where MIC has an image, or the cascade a plan, no refusal is due, so `list` and `demo` are done, memory runs out, or
 -- faults rise.
 use Rattle.std.proofs.Common.{◌≡◌, ◌⊎◌, inl, inr, ℕ, Some, arith}
-use Rattle.cascade.specs.Cascade.{cascade_source, cascade_datapath}
+use Rattle.demo_cascade.specs.Cascade.{cascade_source, cascade_datapath}
 use Rattle.desk_core.specs.View.{Name, Content, Files, View}
 use Rattle.desk_core.specs.Desk.{ReadFaultsRose, PrintFaultsRose}
 use Rattle.micro_file.proofs.FirstFault.{spelled_no_fault}

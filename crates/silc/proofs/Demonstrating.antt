@@ -23,12 +23,13 @@ use Rattle.micro_image.specs.declared.conflict.Conflict.{Conflict}
 use Rattle.micro_image.specs.Fields.{Microprogram, microprogram_of}
 use Rattle.micro_image.specs.Run.{Stands, IsRunOut, latches, spread}
 use Rattle.micro_image.proofs.Streams.{length-spread, IsRunOut-fewer, IsRunOut-more}
-use Rattle.plan_run.specs.ImageOf.{IsImageOf, width_of}
+use Rattle.plan_soundness.specs.ImageOf.{IsImageOf, width_of}
 use Rattle.silage_meaning.specs.Solves.{IsRow, IsStream, out}
 use Rattle.silage_meaning.specs.Types.{IsInType}
 use Rattle.silage_syntax.specs.Tree.{Program}
-use Rattle.cascade.specs.Cascade.{cascade_source, cascade_datapath, cascade_word, cascade_rows, cascade_line, words_of}
-use Rattle.cascade.specs.Cascade.{sum_of, last_of}
+use Rattle.demo_cascade.specs.Cascade.{cascade_source, cascade_datapath, cascade_word, cascade_rows, cascade_line}
+use Rattle.demo_cascade.specs.Cascade.{words_of}
+use Rattle.demo_cascade.specs.Cascade.{sum_of, last_of}
 use Rattle.silc.specs.Demo.{IsCascadeRun, IsDemoDone, IsDemoCutShort, IsDemoAnswer}
 use Rattle.plan_commands.specs.Refusals.{IsRefusal}
 use Rattle.plan_commands.specs.Headline.{RunsTheSolution}
@@ -38,13 +39,13 @@ use Rattle.plan_commands.specs.Compiling.{IsMicrocodeOf}
 use Rattle.silc.specs.Private.Demonstrating.{IsCascadePlan, IsCascadeMachine, RunsCascade, HasPutWords, HasTotals}
 use Rattle.plan_commands.specs.Planning.{IsInputPlan}
 use Rattle.sample_commands.specs.Loaded.{IsFresh, IsMachineOf}
-use Rattle.cascade.specs.declared.Totals.{Totals}
+use Rattle.demo_cascade.specs.declared.Totals.{Totals}
 use Rattle.silc_files.specs.declared.files.Input.TheVariants.{Whole}
 use Rattle.plan_commands.specs.declared.planning.Planned.{Planned}
 use Rattle.sample_commands.specs.declared.simulator.Kept.{Kept}
 use Rattle.statuses.specs.declared.status.Status.{Status}
 use Rattle.statuses.specs.declared.status.Status.TheVariants.{Done}
-use Rattle.cascade.proofs.CascadeProgram.{HasOneWordEach, one_word_each}
+use Rattle.demo_cascade.proofs.CascadeProgram.{HasOneWordEach, one_word_each}
 use Rattle.plan_commands.proofs.Compiled.{runs_the_solution}
 use Rattle.plan_commands.proofs.Plans.{planned_over}
 use Rattle.silc.proofs.MachineSamples.{spread_row, one_more, at_sample, conflict_in_row}

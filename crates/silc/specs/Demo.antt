@@ -9,11 +9,11 @@ use Rattle.micro_image.specs.declared.image.Image.{Image}
 use Rattle.micro_image.specs.Fields.{microprogram_of}
 use Rattle.micro_image.specs.Run.{Stands, spread}
 use Rattle.plan_core.specs.declared.plan.Plan.{Plan}
-use Rattle.plan_run.specs.ImageOf.{IsImageOf}
+use Rattle.plan_soundness.specs.ImageOf.{IsImageOf}
 use Rattle.silage_syntax.specs.Tree.{Program}
 use Rattle.silage_meaning.specs.Solves.{IsOneSolution, out}
 use Rattle.silage_meaning.specs.Value.{Words}
-use Rattle.cascade.specs.Cascade.{cascade_source, cascade_datapath, cascade_rows, cascade_line, words_of}
+use Rattle.demo_cascade.specs.Cascade.{cascade_source, cascade_datapath, cascade_rows, cascade_line, words_of}
 use Rattle.plan_commands.specs.Plans.{IsPlannedOver, IsPlannable}
 use Rattle.plan_commands.specs.Refusals.{IsNoPlan}
 use Rattle.silc_files.specs.Printing.{IsPrintedMore, IsPrintedInPart}

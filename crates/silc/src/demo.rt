@@ -2,7 +2,7 @@
 ghost use Rattle.std.specs.Prelude.{◌≡◌, ◌≢◌, length, ◌+◌, ◌<◌, ◌≤◌, ◌^◌, ℤ, List, [], ◌∷◌, ◌++◌, IfOk, IfErr, IsOk, IsOkAnd};
 ghost use Rattle.cycle_sim.specs.Microcode.{micro_of, IsSound};
 ghost use Rattle.desk_core.specs.Desk.{FaultsNeverFall};
-ghost use Rattle.cascade.specs.Cascade as spec;
+ghost use Rattle.demo_cascade.specs.Cascade as spec;
 ghost use Rattle.silc.specs.Demo.{IsCascadeRun, IsDemoAnswer};
 ghost use Rattle.plan_commands.specs.Refusals.{IsNoPlan};
 ghost use Rattle.silc.specs.Private.Demonstrating.{IsCascadePlan, IsCascadeMachine, HasOneWord, RunsCascade, HasPutWords, HasTotals};
@@ -10,8 +10,8 @@ ghost use Rattle.silc_files.specs.Printing.{PrintsOnly};
 ghost use Rattle.sample_commands.specs.Loaded.{IsFresh};
 ghost use Rattle.sample_commands.specs.declared.simulator.Kept.TheVariants.{Nothing};
 
-use cascade::{Totals, cascade_datapath, cascade_line, cascade_source, cascade_word};
 use cycle_sim::Machine;
+use demo_cascade::{Totals, cascade_datapath, cascade_line, cascade_source, cascade_word};
 use desk_core::Desk;
 use lists::Bytes;
 use plan_commands::{Planned, microcode_of, planned_of};

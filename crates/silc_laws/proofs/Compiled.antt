@@ -10,7 +10,7 @@ use Rattle.plan_commands.specs.Headline.{IsCompiled}
 use Rattle.plan_commands.specs.Plans.{HasPlan}
 use Rattle.plan_commands.proofs.PlanAnswers.{its_plan}
 use Rattle.plan_core.specs.declared.plan.Plan.{Plan}
-use Rattle.plan_run.specs.ImageOf.{IsImageOf}
+use Rattle.plan_soundness.specs.ImageOf.{IsImageOf}
 use Rattle.sample_commands.specs.Sim.{IsMicrocodeOf}
 use Rattle.silc_laws.specs.Complete.{HavePlan, HasImageOf}
 use Rattle.planner.proofs.OnePlan.{one_plan}

@@ -26,7 +26,9 @@ use Rattle.statuses.specs.declared.status.Status.TheVariants.{Done}
 
 module _ (words : List (String Global)) (old new : View) (kept : Kept) (status : Status)
     (ending : (command : Command) → IsCommandIn words command → IsEnding command old new kept status) where
-  pub answer_law : (src datapath out : Name) → IsCompile words src datapath out → IsAnswer src datapath out old new status
+  pub answer_law : (src datapath out : Name)
+      → IsCompile words src datapath out
+      → IsAnswer src datapath out old new status
   answer_law src datapath out form = (ending (compile src datapath out) form).0
 
   pub schedule_law : (src datapath : Name)

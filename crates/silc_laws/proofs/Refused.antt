@@ -3,7 +3,7 @@
 use Rattle.std.proofs.Common.{◌≡◌, ◌∙◌, refl, ap, inl, inr, ⊎_elim, ℕ, List, Some}
 use Rattle.std.specs.Prelude.{String}
 use Rattle.std.specs.declared.alloc.Global.{Global}
-use Rattle.cascade.specs.Cascade.{cascade_source, cascade_datapath}
+use Rattle.demo_cascade.specs.Cascade.{cascade_source, cascade_datapath}
 use Rattle.command_words.specs.Command.{Command, compile, schedule, list, sim, eval, run, demo, IsCommandIn}
 use Rattle.command_words.specs.Command.{IsCompile, IsSchedule, IsList, IsSim, IsEval, IsRun, IsDemo}
 use Rattle.datapath.specs.declared.types.Datapath.{Datapath}

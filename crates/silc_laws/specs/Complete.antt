@@ -2,7 +2,7 @@
 -- samples; and how it ends then.
 use Rattle.std.specs.Prelude.{◌≡◌, ◌⊎◌, ◌+◌, ℕ, [], Some}
 use Rattle.lists.specs.Rows.{Rows}
-use Rattle.cascade.specs.Cascade.{cascade_source, cascade_datapath}
+use Rattle.demo_cascade.specs.Cascade.{cascade_source, cascade_datapath}
 use Rattle.datapath.specs.declared.types.Datapath.{Datapath}
 use Rattle.desk_core.specs.View.{Name, Content, Files, View}
 use Rattle.desk_core.specs.Desk.{content_of}
@@ -14,7 +14,7 @@ use Rattle.plan_commands.specs.Plans.{IsPlanOver, HasPlan, IsPlannable}
 use Rattle.plan_commands.specs.Refusals.{IsRefused}
 use Rattle.silc_files.specs.Sources.{IsAcceptedSource}
 use Rattle.plan_core.specs.declared.plan.Plan.{Plan}
-use Rattle.plan_run.specs.ImageOf.{IsImageOf}
+use Rattle.plan_soundness.specs.ImageOf.{IsImageOf}
 use Rattle.sample_commands.specs.Eval.{program_channels}
 use Rattle.sample_commands.specs.Samples.{AreSamples}
 use Rattle.sample_commands.specs.Sim.{HasImage, HasStream}

@@ -1,11 +1,11 @@
 -- The typed form and the elements of a program that has no fault are what its flat program is made of.
 use Rattle.std.proofs.Common.{◌≡◌, ℕ, List}
 use Rattle.silage_syntax.specs.Tree.{Program}
-use Rattle.source_elements.specs.declared.elements.Elements.{Elements}
-use Rattle.source_elements.specs.Expansion.{IsExpansion}
-use Rattle.typed_source.specs.Translation.{typed_program}
-use Rattle.typed_source.specs.TypedTree.{view_typed}
-use Rattle.typed_source.specs.declared.typed.Typed.{Typed}
+use Rattle.element_rules.specs.declared.elements.Elements.{Elements}
+use Rattle.element_rules.specs.Expansion.{IsExpansion}
+use Rattle.type_rules.specs.Translation.{typed_program}
+use Rattle.type_rules.specs.TypedTree.{view_typed}
+use Rattle.type_rules.specs.declared.typed.Typed.{Typed}
 use Rattle.loop_expand.specs.Expanded.{AreOfOneProgram}
 use Rattle.source_faults.specs.Faults.{HasProgram}
 use Rattle.front_end.proofs.Counts.{checked}

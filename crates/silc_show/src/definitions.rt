@@ -1,9 +1,9 @@
 //! Where the elements of a program are defined.
 
+use element_rules::{Element, Elements, Instance};
 use lists::{List, Name};
+use name_rules::{Env, manifest};
 use silage_tree::{Decl, Func, Item, Place, Program, Top};
-use source_elements::{Element, Elements, Instance};
-use source_names::{Env, manifest};
 use std::alloc::{AllocError, Global};
 
 /// What defines an element of a function, or all elements of an array where it names no place in it.

@@ -1,21 +1,21 @@
 //! The instances of a source and their elements, in the order in which the instances are entered.
 
 ghost use Rattle.std.specs.Prelude.{◌≡◌, IfOk};
-ghost use Rattle.ranked_faults.specs.Ranked.{IsClear};
+ghost use Rattle.fault_order.specs.Ranked.{IsClear};
 ghost use Rattle.silage_syntax.specs.Tree.{view};
-ghost use Rattle.source_names.specs.NameFaults.{name_faults, IsMain};
-ghost use Rattle.source_names.specs.TopNames.{top_names};
-ghost use Rattle.source_elements.specs.Expansion.{IsExpansion};
-ghost use Rattle.source_elements.specs.Signatures.{HaveResults};
+ghost use Rattle.name_rules.specs.NameFaults.{name_faults, IsMain};
+ghost use Rattle.name_rules.specs.TopNames.{top_names};
+ghost use Rattle.element_rules.specs.Expansion.{IsExpansion};
+ghost use Rattle.element_rules.specs.Signatures.{HaveResults};
 
 use crate::definitions::declaration;
 use crate::names::names_of;
 use crate::page::{Page, Refused};
 use crate::source::{program_of, refuse_elements};
+use element_rules::{Element, Elements, Instance, Subscripts, subscripts_at};
+use name_rules::Names;
 use silage_tree::{Func, Program};
 use single_def::check_elements;
-use source_elements::{Element, Elements, Instance, Subscripts, subscripts_at};
-use source_names::Names;
 
 fn put_instance(page: &mut Page, number: usize, instance: &Instance) {
     page.number("instance ", number);

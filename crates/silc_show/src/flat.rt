@@ -10,10 +10,10 @@ use crate::elements::expanded;
 use crate::names::names_of;
 use crate::page::{Page, Refused};
 use crate::types::typed;
+use element_rules::Elements;
 use loop_expand::expand;
 use signal_graph::FlatProgram;
 use silage_tree::Program;
-use source_elements::Elements;
 
 /// The elements of a program, and its flat program.
 #[derive(Drop)]

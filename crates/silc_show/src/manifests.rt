@@ -3,8 +3,8 @@
 use crate::page::{Page, Refused};
 use crate::source::{program_of, text_of};
 use lists::{List, Name};
+use name_rules::{Env, manifest};
 use silage_tree::{Item, Manifest, Program, Top};
-use source_names::{Env, manifest};
 use std::alloc::{AllocError, Global};
 
 const REFUSED: &str = " refused: row";

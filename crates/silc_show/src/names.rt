@@ -1,16 +1,16 @@
 //! The names of a source: where its function `main` stands among the tables and functions, and the names of these.
 
 ghost use Rattle.std.specs.Prelude.{◌≡◌, ◌<◌, ◌^◌, length, IfOk, OnOk};
-ghost use Rattle.ranked_faults.specs.Ranked.{IsClear};
+ghost use Rattle.fault_order.specs.Ranked.{IsClear};
 ghost use Rattle.silage_syntax.specs.Tree.{view};
-ghost use Rattle.source_names.specs.NameFaults.{name_faults, IsMain};
-ghost use Rattle.source_names.specs.TopNames.{top_names};
+ghost use Rattle.name_rules.specs.NameFaults.{name_faults, IsMain};
+ghost use Rattle.name_rules.specs.TopNames.{top_names};
 
 use crate::page::{Page, Refused};
 use crate::source::{SOURCE_LIMIT, program_of, refuse_names};
 use name_check::check_names;
+use name_rules::Names;
 use silage_tree::{Program, Top};
-use source_names::Names;
 
 fn put_top(page: &mut Page, names: &Names, top: &Top) {
     let name = match top {

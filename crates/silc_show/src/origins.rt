@@ -20,6 +20,7 @@ use crate::path::datapath_of;
 use crate::source::line_of;
 use datapath::Datapath;
 use delay_memory::{LineFault, lower};
+use element_rules::{Element, Elements};
 use fix_word::Op;
 use flow_graph::build;
 use front_end::Accepted;
@@ -27,7 +28,6 @@ use lists::List;
 use operations::operation_name;
 use signal_graph::{FlatProgram, Graph, Node};
 use silage_tree::{Program, Top};
-use source_elements::{Element, Elements};
 
 /// What the origins of nodes are told from.
 #[derive(Clone, Copy)]

@@ -5,14 +5,14 @@ ghost use Rattle.std.specs.List.{AllZip};
 ghost use Rattle.cycle_sim.specs.Machine.{IsOperand};
 ghost use Rattle.cycle_sim.specs.Microcode.{inputs_of};
 ghost use Rattle.micro_image.specs.Valid.{IsValid};
-ghost use Rattle.ranked_faults.specs.Ranked.{IsClear};
+ghost use Rattle.fault_order.specs.Ranked.{IsClear};
 ghost use Rattle.signal_graph.specs.Rules.{IsInType};
 ghost use Rattle.silc_show.specs.Trace.{IsMachineOf};
 ghost use Rattle.silage_syntax.specs.Tree.{view};
-ghost use Rattle.source_names.specs.NameFaults.{name_faults, IsMain};
-ghost use Rattle.source_names.specs.TopNames.{top_names};
-ghost use Rattle.source_elements.specs.Signatures.{HaveResults};
-ghost use Rattle.typed_source.specs.Numbers.{AreNumbersShort};
+ghost use Rattle.name_rules.specs.NameFaults.{name_faults, IsMain};
+ghost use Rattle.name_rules.specs.TopNames.{top_names};
+ghost use Rattle.element_rules.specs.Signatures.{HaveResults};
+ghost use Rattle.type_rules.specs.Numbers.{AreNumbersShort};
 
 use crate::elements::{elements_of, expanded};
 use crate::graph::graph_of;
@@ -27,8 +27,8 @@ use cycle_sim::{Conflict, Machine};
 use equation_eval::{EvalFault, Evaluator};
 use fix_word::SigType;
 use micro_image::Image;
+use name_rules::Names;
 use silage_tree::Program;
-use source_names::Names;
 use std::alloc::{AllocError, Global};
 
 /// A call of which nothing is ready before the turns, and what is added up over these.

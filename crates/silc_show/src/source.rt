@@ -3,17 +3,17 @@
 ghost use Rattle.std.specs.Prelude.{IfOk};
 ghost use Rattle.silage_lex.specs.Tokens.{HasTokens};
 ghost use Rattle.silage_syntax.specs.Tree.{view};
-ghost use Rattle.source_elements.specs.Signatures.{HaveResults};
-ghost use Rattle.typed_source.specs.Numbers.{AreNumbersShort};
+ghost use Rattle.element_rules.specs.Signatures.{HaveResults};
+ghost use Rattle.type_rules.specs.Numbers.{AreNumbersShort};
 
 use crate::page::{Page, Refused};
+use element_rules::PlacedFault;
+use name_rules::NameFault;
 use silage_lex::{LexFault, Tokens, lex};
 use silage_parse::{ParseFault, parse};
 use silage_tree::Program;
-use source_elements::PlacedFault;
-use source_names::NameFault;
 use std::str;
-use typed_source::TypeFault;
+use type_rules::TypeFault;
 
 /// A source has at most this many bytes, and so at most this many tokens, tables and functions.
 pub const SOURCE_LIMIT: usize = 1 << 20;

@@ -2,23 +2,23 @@
 //! its parts with its format: the shift, which the amount of a source's shift multiplies, the mode and the width.
 
 ghost use Rattle.std.specs.Prelude.{◌≡◌, ◌<◌, ◌^◌, length, IfOk};
-ghost use Rattle.ranked_faults.specs.Ranked.{IsClear};
+ghost use Rattle.fault_order.specs.Ranked.{IsClear};
 ghost use Rattle.silage_syntax.specs.Tree.{view};
-ghost use Rattle.source_names.specs.NameFaults.{name_faults};
-ghost use Rattle.source_names.specs.TopNames.{top_names};
-ghost use Rattle.typed_source.specs.Numbers.{AreNumbersShort};
-ghost use Rattle.typed_source.specs.Translation.{typed_program};
-ghost use Rattle.typed_source.specs.TypedTree.{view_typed};
+ghost use Rattle.name_rules.specs.NameFaults.{name_faults};
+ghost use Rattle.name_rules.specs.TopNames.{top_names};
+ghost use Rattle.type_rules.specs.Numbers.{AreNumbersShort};
+ghost use Rattle.type_rules.specs.Translation.{typed_program};
+ghost use Rattle.type_rules.specs.TypedTree.{view_typed};
 
 use crate::names::names_of;
 use crate::page::{Lead, Page, Refused, mode_text};
 use crate::source::{program_of, refuse_types};
 use crate::tree::put_decls;
 use fix_types::check_types;
+use name_rules::Names;
 use operations::operation_name;
 use silage_tree::{MOp, Manifest, Place, Program};
-use source_names::Names;
-use typed_source::{Typed, TypedConst, TypedExpr, TypedFunc, TypedItem};
+use type_rules::{Typed, TypedConst, TypedExpr, TypedFunc, TypedItem};
 
 fn sign_text(op: MOp) -> &'static str {
     match op {

@@ -13,12 +13,12 @@ use crate::flat::{Expanded, expanded_of};
 use crate::graph::accepted_of;
 use crate::page::{Page, Refused};
 use crate::rows::{MAX_CHANNELS, put_words, read_typed};
+use element_rules::{Element, Instance};
 use equation_eval::Evaluator;
 use flow_graph::{GraphFault, build};
 use lists::List;
 use signal_graph::FlatProgram;
 use silage_tree::{Program, Top};
-use source_elements::{Element, Instance};
 use std::alloc::{AllocError, Global};
 
 /// As many elements are outputs at a time: a row has at most 16 words.

@@ -1,33 +1,33 @@
 -- What the walk comes to is the first fault of the table, or the instances and elements.
 use Rattle.std.proofs.Common.{◌≡◌, ◌≢◌, ◌⊎◌, ◌∙◌, ℕ, [], Result, Ok, Err, IfOk, OnOk, IfErr, IsErrAnd, refl, sym, ap}
 use Rattle.std.proofs.Common.{subst, inl, inr}
-use Rattle.ranked_faults.specs.Ranked.{IsClear, IsFirst, AnswersOk, AnswersFault}
-use Rattle.ranked_faults.specs.Private.FirstMet.{first, ◌>>◌}
-use Rattle.ranked_faults.proofs.FirstFaults.{Answers, one_first}
-use Rattle.ranked_faults.proofs.TableFaults.{first_answers, single_faults}
+use Rattle.fault_order.specs.Ranked.{IsClear, IsFirst, AnswersOk, AnswersFault}
+use Rattle.fault_order.specs.Private.FirstMet.{first, ◌>>◌}
+use Rattle.fault_order.proofs.FirstFaults.{Answers, one_first}
+use Rattle.fault_order.proofs.TableFaults.{first_answers, single_faults}
 use Rattle.silage_syntax.specs.Tree.{Program}
 use Rattle.silage_meaning.specs.Instances.{HasCallsApart}
 use Rattle.silage_meaning.specs.Rules.{HasSingleDefinitions}
-use Rattle.source_names.specs.TopNames.{top_names}
-use Rattle.source_names.specs.FirstTops.{IsDistinct}
-use Rattle.source_names.specs.NameFaults.{name_faults, IsMain}
-use Rattle.source_elements.specs.declared.elements.Elements.{Elements}
-use Rattle.source_elements.specs.declared.fault.PlacedFault.{PlacedFault}
-use Rattle.source_elements.specs.declared.fault.PlacedFault.TheVariants.{Index, Bounds, Delay, Shift, DefinedTwice}
-use Rattle.source_elements.specs.declared.fault.PlacedFault.TheVariants.{NotDefined, TooLarge, Memory}
-use Rattle.source_elements.specs.Tables.{at_entry, table_rules}
-use Rattle.source_elements.specs.Expansion.{IsExpansion}
-use Rattle.source_elements.specs.Numbering.{IsNumbering}
-use Rattle.source_elements.specs.ElementFaults.{placed_faults}
-use Rattle.source_elements.specs.ElementRules.{word_rules, instance_table, max_nested, element_rules}
-use Rattle.element_actions.specs.Actions.{GivesValue}
-use Rattle.element_actions.specs.ItemActions.{run_program}
-use Rattle.source_elements.proofs.SoundNames.{names_apart}
-use Rattle.source_elements.proofs.SingleDefinitions.{single_definitions}
-use Rattle.action_tables.proofs.Walks.{Matches}
-use Rattle.source_elements.proofs.NumberedElements.{is_numbering}
-use Rattle.source_elements.proofs.PlacedFaults.{elements_clear}
-use Rattle.action_tables.proofs.ProgramTables.{program_does, rules_of}
+use Rattle.name_rules.specs.TopNames.{top_names}
+use Rattle.name_rules.specs.FirstTops.{IsDistinct}
+use Rattle.name_rules.specs.NameFaults.{name_faults, IsMain}
+use Rattle.element_rules.specs.declared.elements.Elements.{Elements}
+use Rattle.element_rules.specs.declared.fault.PlacedFault.{PlacedFault}
+use Rattle.element_rules.specs.declared.fault.PlacedFault.TheVariants.{Index, Bounds, Delay, Shift, DefinedTwice}
+use Rattle.element_rules.specs.declared.fault.PlacedFault.TheVariants.{NotDefined, TooLarge, Memory}
+use Rattle.element_rules.specs.Tables.{at_entry, table_rules}
+use Rattle.element_rules.specs.Expansion.{IsExpansion}
+use Rattle.element_rules.specs.Numbering.{IsNumbering}
+use Rattle.element_rules.specs.ElementFaults.{placed_faults}
+use Rattle.element_rules.specs.ElementRules.{word_rules, instance_table, max_nested, element_rules}
+use Rattle.elaboration_code.specs.Actions.{GivesValue}
+use Rattle.elaboration_code.specs.ItemActions.{run_program}
+use Rattle.element_rules.proofs.SoundNames.{names_apart}
+use Rattle.element_rules.proofs.SingleDefinitions.{single_definitions}
+use Rattle.elaboration_code.proofs.Walks.{Matches}
+use Rattle.element_rules.proofs.NumberedElements.{is_numbering}
+use Rattle.element_rules.proofs.PlacedFaults.{elements_clear}
+use Rattle.elaboration_code.proofs.ProgramTables.{program_does, rules_of}
 
 memory_or_not : (f : PlacedFault) → (f ≡ Memory) ⊎ (f ≢ Memory)
 memory_or_not (Index at) = inr (λ e. cc)

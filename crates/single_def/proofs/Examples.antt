@@ -1,6 +1,6 @@
 -- Small programs and their first faults, read by the definitions. Each `at` is that of the source in the comment.
 use Rattle.std.proofs.Common.{◌≡◌, ◌∷◌, ◌+◌, ℕ, ℤ, pos, refl, List, [], None, false, codes, Result, Ok, Err}
-use Rattle.ranked_faults.specs.Private.FirstMet.{first}
+use Rattle.fault_order.specs.Private.FirstMet.{first}
 use Rattle.fix_word.specs.declared.types.Mode.TheVariants.{Trunc}
 use Rattle.fix_word.specs.declared.types.SigType.TheVariants as sig
 use Rattle.silage_syntax.specs.declared.tree.Decl.{Decl}
@@ -9,11 +9,11 @@ use Rattle.silage_syntax.specs.declared.tree.Lit.TheVariants.{Number}
 use Rattle.silage_syntax.specs.declared.tree.MOp.TheVariants.{Sub}
 use Rattle.silage_syntax.specs.Tree.{Manifest, whole, counter, both, Place, Expr, read, equation, call, loop, Item}
 use Rattle.silage_syntax.specs.Tree.{no_item, items_of, Top, function, Program}
-use Rattle.source_elements.specs.declared.elements.Instance.{Instance}
-use Rattle.source_elements.specs.Expansion.{instances_after}
-use Rattle.source_elements.specs.ElementRules.{program_table, element_rules}
-use Rattle.source_elements.specs.declared.fault.PlacedFault.{PlacedFault}
-use Rattle.source_elements.specs.declared.fault.PlacedFault.TheVariants.{Bounds, DefinedTwice, NotDefined, TooLarge}
+use Rattle.element_rules.specs.declared.elements.Instance.{Instance}
+use Rattle.element_rules.specs.Expansion.{instances_after}
+use Rattle.element_rules.specs.ElementRules.{program_table, element_rules}
+use Rattle.element_rules.specs.declared.fault.PlacedFault.{PlacedFault}
+use Rattle.element_rules.specs.declared.fault.PlacedFault.TheVariants.{Bounds, DefinedTwice, NotDefined, TooLarge}
 
 -- Parts of trees.
 abbrev decl : List ℕ → (at : ℕ) → List ℕ → Decl

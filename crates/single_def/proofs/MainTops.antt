@@ -2,11 +2,11 @@
 use Rattle.std.proofs.Common.{◌≡◌, ◌∙◌, ℕ, List, map, slice_get, Option, Some, None, option_map, Bor, sym, ap}
 use Rattle.std.specs.Option.{option_copied}
 use Rattle.std.proofs.lemmas.Option.{slice_get-map}
-use Rattle.ranked_faults.specs.Private.FirstMet.{first}
+use Rattle.fault_order.specs.Private.FirstMet.{first}
 use Rattle.silage_syntax.specs.declared.tree.ConstDef.{ConstDef}
 use Rattle.silage_syntax.specs.declared.tree.Top.{Top as RustTop}
 use Rattle.silage_syntax.specs.Tree.{Func, Top, table, function, view_top}
-use Rattle.source_elements.specs.ElementRules.{word_rules}
+use Rattle.element_rules.specs.ElementRules.{word_rules}
 
 module _ (tops : List RustTop) (k : ℕ) (o : Option (Bor RustTop)) (is : option_copied o ≡ slice_get tops k) where
   pub no_top_at : {A : Type 0} (f : Func) → o ≡ None → slice_get (map view_top tops) k ≡ Some (function f) → A

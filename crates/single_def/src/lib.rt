@@ -8,26 +8,26 @@
 mod words;
 
 ghost use Rattle.std.specs.Prelude.{◌≡◌, ◌≢◌, IfOk, OnOk, IfErr};
-ghost use Rattle.ranked_faults.specs.Ranked.{IsClear, IsFirst, AnswersOk, AnswersFault};
+ghost use Rattle.fault_order.specs.Ranked.{IsClear, IsFirst, AnswersOk, AnswersFault};
 ghost use Rattle.silage_syntax.specs.Tree.{view};
 ghost use Rattle.silage_meaning.specs.Instances.{HasCallsApart};
 ghost use Rattle.silage_meaning.specs.Rules.{HasSingleDefinitions};
-ghost use Rattle.source_names.specs.TopNames.{top_names};
-ghost use Rattle.source_names.specs.NameFaults.{name_faults, IsMain};
-ghost use Rattle.source_elements.specs.ElementFaults.{placed_faults, element_faults};
-ghost use Rattle.source_elements.specs.Expansion.{IsExpansion};
-ghost use Rattle.source_elements.specs.Numbering.{IsNumbering};
-ghost use Rattle.source_elements.specs.Signatures.{HaveResults};
-ghost use Rattle.element_actions.specs.Actions.{GivesValue};
-ghost use Rattle.element_actions.specs.ItemActions.{run_program};
-ghost use Rattle.source_elements.specs.declared.fault.DefFault.{DefFault as FaultType};
-ghost use Rattle.source_elements.specs.declared.fault.PlacedFault.{PlacedFault as PlacedType};
+ghost use Rattle.name_rules.specs.TopNames.{top_names};
+ghost use Rattle.name_rules.specs.NameFaults.{name_faults, IsMain};
+ghost use Rattle.element_rules.specs.ElementFaults.{placed_faults, element_faults};
+ghost use Rattle.element_rules.specs.Expansion.{IsExpansion};
+ghost use Rattle.element_rules.specs.Numbering.{IsNumbering};
+ghost use Rattle.element_rules.specs.Signatures.{HaveResults};
+ghost use Rattle.elaboration_code.specs.Actions.{GivesValue};
+ghost use Rattle.elaboration_code.specs.ItemActions.{run_program};
+ghost use Rattle.element_rules.specs.declared.fault.DefFault.{DefFault as FaultType};
+ghost use Rattle.element_rules.specs.declared.fault.PlacedFault.{PlacedFault as PlacedType};
 
-use action_walk::walk;
-use item_actions::bodies;
+use elaboration_compile::bodies;
+use elaboration_run::walk;
+use element_rules::{DefFault, Elements, PlacedFault};
+use name_rules::{Names, Tops};
 use silage_syntax::Program;
-use source_elements::{DefFault, Elements, PlacedFault};
-use source_names::{Names, Tops};
 use std::alloc::Global;
 use words::check_words;
 

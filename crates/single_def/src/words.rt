@@ -1,16 +1,16 @@
 //! The input and output words of main.
 
 ghost use Rattle.std.specs.Prelude.{◌≡◌, IsTrue, Some, slice_get};
-ghost use Rattle.ranked_faults.specs.Private.FirstMet.{first};
+ghost use Rattle.fault_order.specs.Private.FirstMet.{first};
 ghost use Rattle.silage_syntax.specs.Tree.{Func as FuncTree, view, view_func, function};
 ghost use Rattle.silage_syntax.specs.Names as meaning;
-ghost use Rattle.source_names.specs.NameFaults.{IsMain};
-ghost use Rattle.source_elements.specs.ElementRules.{elements_of, word_rules};
-ghost use Rattle.source_elements.specs.Sizes.{AreSized, AreAllSized};
+ghost use Rattle.name_rules.specs.NameFaults.{IsMain};
+ghost use Rattle.element_rules.specs.ElementRules.{elements_of, word_rules};
+ghost use Rattle.element_rules.specs.Sizes.{AreSized, AreAllSized};
 
-use item_actions::capped_elements;
+use elaboration_compile::capped_elements;
+use element_rules::PlacedFault;
 use silage_syntax::{Func, Program, Top};
-use source_elements::PlacedFault;
 
 /// The most words of a row.
 const MOST_WORDS: u32 = 16;

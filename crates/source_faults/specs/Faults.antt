@@ -1,7 +1,7 @@
 -- The faults of a source: which one is the first over all phases, and when a source has a program. A phase's own faults
 -- are defined in the crate of that phase.
 use Rattle.std.specs.Prelude.{ℕ, ◌^◌, ◌≤◌, ◌<◌, List, length}
-use Rattle.ranked_faults.specs.Ranked.{IsClear, IsFirst}
+use Rattle.fault_order.specs.Ranked.{IsClear, IsFirst}
 use Rattle.silage_lex.specs.Tokens.{HasTokens}
 use Rattle.silage_lex.specs.Faults.{HasFault as HasLexFault}
 use Rattle.silage_lex.specs.declared.Token.{Token}
@@ -10,12 +10,12 @@ use Rattle.silage_syntax.specs.Tree.{Program}
 use Rattle.silage_meaning.specs.Rules.{HasNoDelaylessLoop}
 use Rattle.silage_parse.specs.Answers.{IsWithin, HasFault as HasParseFault}
 use Rattle.silage_parse.specs.declared.ParseFault.TheVariants as parse
-use Rattle.source_names.specs.NameFaults.{name_faults}
-use Rattle.source_names.specs.declared.fault.NameFault.TheVariants as name
-use Rattle.source_elements.specs.ElementFaults.{element_faults}
-use Rattle.source_elements.specs.declared.fault.DefFault.TheVariants as def
-use Rattle.typed_source.specs.TypeFaults.{type_faults}
-use Rattle.typed_source.specs.declared.fault.TypeFault.TheVariants as kind
+use Rattle.name_rules.specs.NameFaults.{name_faults}
+use Rattle.name_rules.specs.declared.fault.NameFault.TheVariants as name
+use Rattle.element_rules.specs.ElementFaults.{element_faults}
+use Rattle.element_rules.specs.declared.fault.DefFault.TheVariants as def
+use Rattle.type_rules.specs.TypeFaults.{type_faults}
+use Rattle.type_rules.specs.declared.fault.TypeFault.TheVariants as kind
 use Rattle.source_faults.specs.Loops.{IsFirstLoop}
 use Rattle.source_faults.specs.declared.fault.FrontFault.{FrontFault}
 use Rattle.source_faults.specs.declared.fault.FrontFault.TheVariants.{TooLong, Lex, Parse, Name, Def, Kind, Loop}

@@ -3,9 +3,9 @@ use Rattle.std.specs.Prelude.{ℕ, ◌≤◌}
 use Rattle.silage_syntax.specs.Tree.{Program}
 use Rattle.silage_meaning.specs.Instances.{Element}
 use Rattle.silage_meaning.specs.Rules.{DependsNow}
-use Rattle.source_elements.specs.Expansion.{IsExpansion}
-use Rattle.source_elements.specs.declared.elements.Elements.{Elements}
-use Rattle.source_elements.specs.Numbers.{IsNumberOf}
+use Rattle.element_rules.specs.Expansion.{IsExpansion}
+use Rattle.element_rules.specs.declared.elements.Elements.{Elements}
+use Rattle.element_rules.specs.Numbers.{IsNumberOf}
 
 -- element k of the program's expansion depends on itself without a delay
 pub record IsInLoop (p : Program) (k : ℕ) : Type 0 where

@@ -4,13 +4,13 @@ ghost use Rattle.std.specs.Prelude.{◌≡◌};
 ghost use Rattle.source_faults.specs.declared.fault.FrontError.TheVariants.{Memory};
 ghost use Rattle.source_faults.specs.Private.Errors.{of_lex, of_parse, of_names, of_defs, of_types, of_build};
 
+use element_rules::DefFault;
 use flow_graph::{GraphFault, PruneFault};
+use name_rules::NameFault;
 use silage_lex::LexFault;
 use silage_parse::ParseFault;
-use source_elements::DefFault;
-use source_names::NameFault;
 use thiserror::Error;
-use typed_source::TypeFault;
+use type_rules::TypeFault;
 
 /// The fault of a source that has no program. Want of memory is an error of its own and never comes in here.
 #[derive(Clone, Copy, Debug, PartialEq, Eq, Error)]

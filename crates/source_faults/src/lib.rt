@@ -6,10 +6,10 @@ mod fault;
 mod rejection;
 
 pub use element::{Element, NamedElement};
+pub use element_rules::DefFault;
 pub use fault::{FrontError, FrontFault};
+pub use name_rules::NameFault;
 pub use rejection::Rejection;
 pub use silage_lex::LexFault;
 pub use silage_parse::ParseFault;
-pub use source_elements::DefFault;
-pub use source_names::NameFault;
-pub use typed_source::TypeFault;
+pub use type_rules::TypeFault;

@@ -1,5 +1,5 @@
 use Rattle.silage_syntax.specs.Tree.{view}
-use Rattle.typed_source.proofs.SoundNames.{apart}
+use Rattle.type_rules.proofs.SoundNames.{apart}
 use Rattle.fix_types.proofs.TypeAnswers.{all_sound, says_ok, says_fault, says_typed, says_values, each_ok, each_fault}
 use Rattle.fix_types.proofs.check_types.Goals as goal
 

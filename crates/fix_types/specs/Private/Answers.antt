@@ -2,21 +2,21 @@
 use Rattle.std.specs.Prelude.{◌≡◌, ◌≢◌, ℕ, [], ◌∷◌, ◌++◌, Result, Ok, Err}
 use Rattle.std.specs.Prelude.{Vec}
 use Rattle.std.specs.Global.{Global}
-use Rattle.ranked_faults.specs.Rules.{Rules, parts}
-use Rattle.ranked_faults.specs.Private.FirstMet.{first}
+use Rattle.fault_order.specs.Rules.{Rules, parts}
+use Rattle.fault_order.specs.Private.FirstMet.{first}
 use Rattle.fix_word.specs.declared.types.SigType.{SigType}
 use Rattle.silage_syntax.specs.declared.tree.BinOp.{BinOp}
 use Rattle.silage_syntax.specs.declared.tree.BinOp.TheVariants as op
 use Rattle.silage_syntax.specs.Tree.{Expr, Branches, Item, Items, Func, Top, table, function, Program}
-use Rattle.typed_source.specs.TypeRules.{expr_rules, branch_rules, item_rules, items_rules, top_rules}
-use Rattle.typed_source.specs.TypedTree.{TypedExpr, Typed, view_expr, view_item, view_items, view_typed}
-use Rattle.typed_source.specs.Translation.{typed_expr, typed_item, typed_items, typed_table, typed_func}
+use Rattle.type_rules.specs.TypeRules.{expr_rules, branch_rules, item_rules, items_rules, top_rules}
+use Rattle.type_rules.specs.TypedTree.{TypedExpr, Typed, view_expr, view_item, view_items, view_typed}
+use Rattle.type_rules.specs.Translation.{typed_expr, typed_item, typed_items, typed_table, typed_func}
 use Rattle.fix_types.specs.Private.Choosing.{view_pairs, typed_pairs}
-use Rattle.typed_source.specs.declared.fault.TypeFault.{TypeFault}
-use Rattle.typed_source.specs.declared.fault.TypeFault.TheVariants.{Memory}
-use Rattle.typed_source.specs.declared.typed.TypedExpr.{TypedExpr as RustExpr}
-use Rattle.typed_source.specs.declared.typed.TypedItem.{TypedItem as RustItem}
-use Rattle.typed_source.specs.declared.typed.Typed.{Typed as RustTyped}
+use Rattle.type_rules.specs.declared.fault.TypeFault.{TypeFault}
+use Rattle.type_rules.specs.declared.fault.TypeFault.TheVariants.{Memory}
+use Rattle.type_rules.specs.declared.typed.TypedExpr.{TypedExpr as RustExpr}
+use Rattle.type_rules.specs.declared.typed.TypedItem.{TypedItem as RustItem}
+use Rattle.type_rules.specs.declared.typed.Typed.{Typed as RustTyped}
 
 -- the call, which takes no memory, answers as a table is met
 abbrev pub Meets : {A : Type 0} → Rules TypeFault → Result A TypeFault → Type 0

@@ -5,9 +5,9 @@ use Rattle.fix_word.specs.declared.types.SigType.{SigType}
 use Rattle.fix_word.specs.declared.types.SigType.TheVariants.{Bool as Truths}
 use Rattle.fix_word.specs.declared.operation.Op.TheVariants as does
 use Rattle.silage_syntax.specs.Tree.{Branches, no_branch, branch, Func, Program}
-use Rattle.typed_source.specs.TypedTree.{TypedExpr, node, view_expr}
-use Rattle.typed_source.specs.Translation.{typed_expr, three}
-use Rattle.typed_source.specs.declared.typed.TypedExpr.{TypedExpr as RustExpr}
+use Rattle.type_rules.specs.TypedTree.{TypedExpr, node, view_expr}
+use Rattle.type_rules.specs.Translation.{typed_expr, three}
+use Rattle.type_rules.specs.declared.typed.TypedExpr.{TypedExpr as RustExpr}
 
 -- the value after the first condition that is true, or else the last
 abbrev pub nested : Format → List (TypedExpr × TypedExpr) → (last : TypedExpr) → TypedExpr

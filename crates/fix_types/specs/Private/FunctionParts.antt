@@ -1,7 +1,7 @@
 -- A typed function of its declarations and items.
 use Rattle.std.specs.Prelude.{ℕ}
 use Rattle.silage_syntax.specs.Tree.{Func}
-use Rattle.typed_source.specs.TypedTree.{TypedItems, TypedFunc}
+use Rattle.type_rules.specs.TypedTree.{TypedItems, TypedFunc}
 
 -- the function at position k with these items
 abbrev pub func_with : (k : ℕ) → Func → TypedItems → TypedFunc

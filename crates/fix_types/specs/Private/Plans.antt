@@ -1,7 +1,7 @@
 -- What the plan of a binary operator says of it.
 use Rattle.std.specs.Prelude.{◌≡◌, ℕ, Bool, true, false, None, if◌then◌else◌, Result, Ok, Err}
-use Rattle.ranked_faults.specs.Rules.{Rules, parts, none, ◌▸◌}
-use Rattle.ranked_faults.specs.Private.FirstMet.{first}
+use Rattle.fault_order.specs.Rules.{Rules, parts, none, ◌▸◌}
+use Rattle.fault_order.specs.Private.FirstMet.{first}
 use Rattle.fix_word.specs.declared.types.Format.{Format}
 use Rattle.fix_word.specs.declared.types.SigType.{SigType}
 use Rattle.fix_word.specs.declared.operation.Op.{Op}
@@ -9,12 +9,12 @@ use Rattle.fix_word.specs.declared.operation.Op.TheVariants as does
 use Rattle.silage_syntax.specs.declared.tree.BinOp.{BinOp}
 use Rattle.silage_syntax.specs.declared.tree.BinOp.TheVariants as op
 use Rattle.silage_syntax.specs.Tree.{Expr, binary, Func, Program}
-use Rattle.typed_source.specs.TypeRules.{expr_rules}
-use Rattle.typed_source.specs.TypedTree.{TypedExpr, node}
-use Rattle.typed_source.specs.Translation.{typed_expr, two}
-use Rattle.typed_source.specs.declared.fault.TypeFault.{TypeFault}
+use Rattle.type_rules.specs.TypeRules.{expr_rules}
+use Rattle.type_rules.specs.TypedTree.{TypedExpr, node}
+use Rattle.type_rules.specs.Translation.{typed_expr, two}
+use Rattle.type_rules.specs.declared.fault.TypeFault.{TypeFault}
 use Rattle.fix_types.specs.declared.plans.Plan.{Plan}
-use Rattle.typed_source.specs.Private.Sound.{IsSoundType}
+use Rattle.type_rules.specs.Private.Sound.{IsSoundType}
 
 abbrev pub plan_of : (left right : SigType) → Op → Format → (turned : Bool) → Plan
 plan_of left right op fmt turned = record { left = left; right = right; op = op; fmt = fmt; turned = turned }

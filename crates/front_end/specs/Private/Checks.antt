@@ -1,11 +1,11 @@
 -- What the checks and the graph say of a program that was read.
 use Rattle.std.specs.Prelude.{ℕ, List}
-use Rattle.ranked_faults.specs.Ranked.{IsClear, IsFirst}
+use Rattle.fault_order.specs.Ranked.{IsClear, IsFirst}
 use Rattle.silage_syntax.specs.Tree.{Program}
 use Rattle.silage_meaning.specs.Rules.{HasNoDelaylessLoop}
-use Rattle.source_names.specs.NameFaults.{name_faults}
-use Rattle.source_elements.specs.ElementFaults.{element_faults}
-use Rattle.typed_source.specs.TypeFaults.{type_faults}
+use Rattle.name_rules.specs.NameFaults.{name_faults}
+use Rattle.element_rules.specs.ElementFaults.{element_faults}
+use Rattle.type_rules.specs.TypeFaults.{type_faults}
 use Rattle.signal_graph.specs.GraphRules.{IsGraph}
 use Rattle.signal_graph.specs.GraphSolves.{IsGraphLoopless}
 use Rattle.signal_graph.specs.declared.graph.Graph.{Graph}

@@ -1,8 +1,8 @@
 -- What the checks find: the error, and the element that it is about.
 use Rattle.std.specs.Prelude.{ℕ, Option, Some, None, option_map}
-use Rattle.source_elements.specs.ElementFaults.{without_place}
-use Rattle.source_elements.specs.declared.fault.PlacedFault.{PlacedFault}
-use Rattle.source_elements.specs.declared.fault.PlacedFault.TheVariants as placed
+use Rattle.element_rules.specs.ElementFaults.{without_place}
+use Rattle.element_rules.specs.declared.fault.PlacedFault.{PlacedFault}
+use Rattle.element_rules.specs.declared.fault.PlacedFault.TheVariants as placed
 use Rattle.front_end.specs.Places.{byte_of}
 use Rattle.source_faults.specs.Private.Errors.{of_defs}
 use Rattle.front_end.specs.declared.checks.Finding.{Finding}

@@ -9,8 +9,8 @@ use Rattle.plan_core.specs.declared.schedule.Assigned.{Assigned}
 use Rattle.plan_core.specs.declared.schedule.Slot.{Slot}
 use Rattle.plan_core.specs.declared.schedule.Schedule.{Schedule}
 use Rattle.bus_alloc.specs.Table.{Reservations, IsTaken, with_placed, FitsAt, AreTransfers}
-use Rattle.schedule_order.specs.Order.{IsPlacingOrder}
-use Rattle.schedule_order.specs.Order.{nth}
+use Rattle.schedule_priority.specs.Order.{IsPlacingOrder}
+use Rattle.schedule_priority.specs.Order.{nth}
 use Rattle.list_schedule.specs.declared.placing.Placing.{Placing}
 
 abbrev pub slot_at : List Slot → ℕ → Slot

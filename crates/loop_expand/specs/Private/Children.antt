@@ -2,7 +2,7 @@
 use Rattle.std.specs.Prelude.{◌≡◌, ◌<◌, ℕ, ◌+◌, ◌&&◌, Bool, nat_eq, true, false, List, [], ◌∷◌, drop, slice_get}
 use Rattle.std.specs.Prelude.{if◌then◌else◌, Option, Some, None, ℤ}
 use Rattle.std.specs.Ordering.{int_eq}
-use Rattle.source_elements.specs.declared.elements.Instance.{Instance}
+use Rattle.element_rules.specs.declared.elements.Instance.{Instance}
 
 abbrev pub same_turns : List ℤ → List ℤ → Bool
 same_turns [] [] = true

@@ -4,9 +4,9 @@ use Rattle.std.specs.Prelude.{Option, Some, None, ℤ, pos}
 use Rattle.std.specs.List.{range_with_len}
 use Rattle.fix_word.specs.declared.types.SigType.{SigType}
 use Rattle.silage_meaning.specs.Types.{word_types}
-use Rattle.source_elements.specs.declared.elements.Instance.{Instance}
-use Rattle.source_elements.specs.ElementRules.{elements_of}
-use Rattle.typed_source.specs.TypedTree.{TypedFunc}
+use Rattle.element_rules.specs.declared.elements.Instance.{Instance}
+use Rattle.element_rules.specs.ElementRules.{elements_of}
+use Rattle.type_rules.specs.TypedTree.{TypedFunc}
 use Rattle.signal_graph.specs.Flat as flat
 use Rattle.signal_graph.specs.declared.flat.FlatElem.{FlatElem}
 use Rattle.loop_expand.specs.Private.Facts.{Fact, defines, presets}

@@ -1,9 +1,9 @@
 -- The flat program that a typed program and instances come to.
 use Rattle.std.specs.Prelude.{ℕ, List, [], length, slice_get, Option, Some, None}
 use Rattle.fix_word.specs.declared.types.SigType.{SigType}
-use Rattle.source_elements.specs.declared.elements.Instance.{Instance}
-use Rattle.typed_source.specs.declared.typed.TypedConst.{TypedConst}
-use Rattle.typed_source.specs.TypedTree.{Typed}
+use Rattle.element_rules.specs.declared.elements.Instance.{Instance}
+use Rattle.type_rules.specs.declared.typed.TypedConst.{TypedConst}
+use Rattle.type_rules.specs.TypedTree.{Typed}
 use Rattle.signal_graph.specs.Flat as flat
 use Rattle.loop_expand.specs.Private.Scopes.{Body, body_at, bodies_for, firsts_from}
 use Rattle.loop_expand.specs.Private.Facts.{facts_from}

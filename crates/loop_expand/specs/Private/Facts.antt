@@ -6,11 +6,11 @@ use Rattle.fix_word.specs.declared.types.Format.{Format}
 use Rattle.silage_syntax.specs.Tree.{Manifest, Place}
 use Rattle.silage_syntax.specs.Manifests.{Indices, manifest_value}
 use Rattle.silage_syntax.specs.Names.{element_count}
-use Rattle.source_names.specs.Meanings.{are_dims}
+use Rattle.name_rules.specs.Meanings.{are_dims}
 use Rattle.silage_meaning.specs.Instances.{turns_of}
-use Rattle.source_elements.specs.declared.elements.Instance.{Instance}
-use Rattle.typed_source.specs.declared.typed.TypedConst.{TypedConst}
-use Rattle.typed_source.specs.TypedTree as typed
+use Rattle.element_rules.specs.declared.elements.Instance.{Instance}
+use Rattle.type_rules.specs.declared.typed.TypedConst.{TypedConst}
+use Rattle.type_rules.specs.TypedTree as typed
 use Rattle.signal_graph.specs.Flat as flat
 use Rattle.loop_expand.specs.Private.Children.{child_of}
 use Rattle.loop_expand.specs.Private.Groups.{Group}

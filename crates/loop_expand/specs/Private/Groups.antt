@@ -4,8 +4,8 @@ use denote.Ref.{Bor}
 use Rattle.std.specs.Prelude.{◌<◌, ℕ, ℤ, List, [], ◌∷◌, ◌++◌, map, Bool, true, false, if◌then◌else◌, IsSome, ⊤}
 use Rattle.silage_syntax.specs.Manifests.{Indices, manifest_value}
 use Rattle.silage_meaning.specs.Instances.{IsTurn}
-use Rattle.typed_source.specs.TypedTree as typed
-use Rattle.typed_source.specs.declared.typed.TypedItem.{TypedItem as RustItem}
+use Rattle.type_rules.specs.TypedTree as typed
+use Rattle.type_rules.specs.declared.typed.TypedItem.{TypedItem as RustItem}
 use Rattle.loop_expand.specs.declared.groups.Group.{Group as RustGroup}
 use Rattle.loop_expand.specs.declared.columns.Turns.{Turns}
 use Rattle.loop_expand.specs.Private.Turns.{indices_at, view_turns, turns_within}

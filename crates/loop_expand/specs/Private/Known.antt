@@ -3,9 +3,9 @@ use Rattle.std.specs.Prelude.{◌≡◌, ◌<◌, ◌≤◌, ℕ, ◌+◌, List,
 use Rattle.std.specs.Prelude.{IsSome, ⊤}
 use Rattle.silage_syntax.specs.Tree.{Manifest, Place}
 use Rattle.silage_syntax.specs.Names.{element_count, IsOffset}
-use Rattle.typed_source.specs.declared.typed.TypedConst.{TypedConst}
+use Rattle.type_rules.specs.declared.typed.TypedConst.{TypedConst}
 use Rattle.silage_syntax.specs.Manifests.{Indices, LooksBack}
-use Rattle.typed_source.specs.TypedTree as typed
+use Rattle.type_rules.specs.TypedTree as typed
 use Rattle.loop_expand.specs.Private.Amounts.{IsKnownAmount}
 use Rattle.loop_expand.specs.Private.Facts.{signal_named, typed_named, number_at}
 use Rattle.loop_expand.specs.Private.Scopes.{Signal, Body, Scope, total}

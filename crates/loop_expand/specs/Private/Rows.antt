@@ -1,7 +1,7 @@
 -- The parts of an operation as lists.
 use Rattle.std.specs.Prelude.{List, [], ◌∷◌, map}
-use Rattle.typed_source.specs.TypedTree as typed
-use Rattle.typed_source.specs.declared.typed.TypedExpr.{TypedExpr}
+use Rattle.type_rules.specs.TypedTree as typed
+use Rattle.type_rules.specs.declared.typed.TypedExpr.{TypedExpr}
 use Rattle.signal_graph.specs.declared.flat.FlatExpr.{FlatExpr}
 use Rattle.signal_graph.specs.Flat.{Expr, Parts, no_part, part, view_expr}
 

@@ -4,13 +4,13 @@ use Rattle.std.specs.Prelude.{◌++◌, map, find, Option, Some, None}
 use Rattle.std.specs.List.{list_any}
 use Rattle.silage_syntax.specs.declared.tree.Decl.{Decl}
 use Rattle.silage_syntax.specs.Names.{element_count}
-use Rattle.source_elements.specs.ElementRules.{elements_of}
-use Rattle.source_elements.specs.declared.elements.Instance.{Instance}
-use Rattle.typed_source.specs.declared.typed.TypedConst.{TypedConst}
-use Rattle.typed_source.specs.TypedTree.{TypedFunc, view_func}
+use Rattle.element_rules.specs.ElementRules.{elements_of}
+use Rattle.element_rules.specs.declared.elements.Instance.{Instance}
+use Rattle.type_rules.specs.declared.typed.TypedConst.{TypedConst}
+use Rattle.type_rules.specs.TypedTree.{TypedFunc, view_func}
 use Rattle.loop_expand.specs.declared.body.Signal.{Signal as RustSignal}
 use Rattle.loop_expand.specs.declared.body.Body.{Body as RustBody}
-use Rattle.source_elements.specs.Sizes.{AreSized}
+use Rattle.element_rules.specs.Sizes.{AreSized}
 use Rattle.loop_expand.specs.Private.Sizes.{decls_of}
 use Rattle.loop_expand.specs.Private.Groups.{Group, view_groups, HaveBounds, groups_of}
 

@@ -4,13 +4,13 @@ use Rattle.silage_syntax.specs.Tree.{Item, Func, Program}
 use Rattle.silage_syntax.specs.Manifests.{Indices}
 use Rattle.silage_syntax.specs.Names.{decls}
 use Rattle.silage_meaning.specs.Instances.{Instance as Path, IsInstance, Occurs}
-use Rattle.source_elements.specs.declared.elements.Instance.{Instance}
-use Rattle.source_elements.specs.declared.elements.Elements.{Elements}
-use Rattle.source_elements.specs.Expansion.{IsExpansion}
-use Rattle.source_elements.specs.Numbering.{HasPath}
-use Rattle.typed_source.specs.declared.typed.TypedConst.{TypedConst}
-use Rattle.typed_source.specs.Translation.{typed_item, typed_program}
-use Rattle.typed_source.specs.TypedTree as typed
+use Rattle.element_rules.specs.declared.elements.Instance.{Instance}
+use Rattle.element_rules.specs.declared.elements.Elements.{Elements}
+use Rattle.element_rules.specs.Expansion.{IsExpansion}
+use Rattle.element_rules.specs.Numbering.{HasPath}
+use Rattle.type_rules.specs.declared.typed.TypedConst.{TypedConst}
+use Rattle.type_rules.specs.Translation.{typed_item, typed_program}
+use Rattle.type_rules.specs.TypedTree as typed
 use Rattle.loop_expand.specs.Checked.{IsChecked}
 use Rattle.loop_expand.specs.Private.Groups.{Group}
 use Rattle.loop_expand.specs.Private.Scopes.{Body, Scope, bodies_for, signals_from, firsts_from}

@@ -4,7 +4,7 @@ use Rattle.std.specs.Prelude.{IsSome, ⊤}
 use Rattle.std.specs.List.{range_with_len}
 use Rattle.silage_syntax.specs.Tree.{Manifest}
 use Rattle.silage_syntax.specs.Manifests.{Indices, manifest_value}
-use Rattle.source_elements.specs.ElementRules.{loop_turns}
+use Rattle.element_rules.specs.ElementRules.{loop_turns}
 use Rattle.loop_expand.specs.declared.columns.Column.{Column as RustColumn}
 use Rattle.loop_expand.specs.declared.columns.Turns.{Turns}
 use Rattle.loop_expand.specs.declared.columns.InnerTurn.{InnerTurn}

@@ -3,8 +3,8 @@ use Rattle.std.specs.Prelude.{◌≡◌, ℕ, ◌<◌, ◌≤◌, List, length}
 use Rattle.operations.specs.declared.units.PortRef.{PortRef}
 use Rattle.plan_core.specs.Arcs.{arc_of, IsArcFor}
 use Rattle.plan_core.specs.declared.registers.Arc.{Arc}
-use Rattle.buckets.specs.Linked.{AreBuckets}
-use Rattle.buckets.specs.declared.Buckets.{Buckets}
+use Rattle.bucket_sort.specs.Linked.{AreBuckets}
+use Rattle.bucket_sort.specs.declared.Buckets.{Buckets}
 
 -- the lifetimes by the node whose words they keep
 abbrev pub AreKept : (nodes : ℕ) → List Arc → Buckets → Type 0

@@ -6,9 +6,9 @@ use Rattle.datapath.specs.declared.types.Datapath.{Datapath}
 use Rattle.signal_graph.specs.declared.graph.Graph.{Graph}
 use Rattle.plan_core.specs.Arcs.{IsArcBefore}
 use Rattle.plan_core.specs.declared.plan.Plan.{Plan}
-use Rattle.plan_run.specs.Machine.{IsMachine}
-use Rattle.plan_run.specs.Parts.{nodes_of, node_at, arc_at}
-use Rattle.plan_run.specs.Feasible.{IsFeasiblePlan}
+use Rattle.plan_soundness.specs.Machine.{IsMachine}
+use Rattle.plan_soundness.specs.Parts.{nodes_of, node_at, arc_at}
+use Rattle.plan_soundness.specs.Feasible.{IsFeasiblePlan}
 
 -- the numbers of the samples before sample 0 that have an initial value
 abbrev pub samples_of : List (ℕ × ℤ) → List ℕ

@@ -8,8 +8,8 @@ use Rattle.micro_image.specs.declared.image.UnitDesc.{UnitDesc}
 use Rattle.micro_image.specs.declared.image.Image.{Image}
 use Rattle.micro_image.specs.Fields.{microprogram_of, nth, no_unit}
 use Rattle.micro_image.specs.Log.{Place, Register, Cell, Latch, initial}
-use Rattle.plan_run.specs.Parts.{node_at, line_at}
-use Rattle.plan_run.specs.ImageOf.{IsUnitOf, IsPreloadOf, IsCellPreload}
+use Rattle.plan_soundness.specs.Parts.{node_at, line_at}
+use Rattle.plan_soundness.specs.ImageOf.{IsUnitOf, IsPreloadOf, IsCellPreload}
 
 abbrev pub zeros : ℕ → List ℤ
 zeros count = replicate count (pos 0)

@@ -10,15 +10,16 @@ use Rattle.micro_image.specs.declared.image.Take.{Take}
 use Rattle.micro_image.specs.declared.image.Word.{Word}
 use Rattle.micro_image.specs.Fields.{nth, no_word}
 use Rattle.micro_image.specs.Valid.{EnableBefore, TakeBefore}
-use Rattle.plan_run.specs.Parts.{nodes_of, node_at, edge_at, cycle_at, transfers_at, arc_at, register_at, ReadsThrough}
-use Rattle.plan_run.specs.Parts.{IsTransferOf, ends_at, IsCopy}
-use Rattle.plan_run.specs.ImageOf.{IsIssueOf, IsWordOf, enable_of, take_of}
+use Rattle.plan_soundness.specs.Parts.{nodes_of, node_at, edge_at, cycle_at, transfers_at, arc_at, register_at}
+use Rattle.plan_soundness.specs.Parts.{ReadsThrough}
+use Rattle.plan_soundness.specs.Parts.{IsTransferOf, ends_at, IsCopy}
+use Rattle.plan_soundness.specs.ImageOf.{IsIssueOf, IsWordOf, enable_of, take_of}
 use Rattle.microcode_asm.specs.Private.Ready.{IsReady}
-use Rattle.buckets.specs.Linked.{AreBuckets}
+use Rattle.bucket_sort.specs.Linked.{AreBuckets}
 use Rattle.microcode_asm.specs.Private.Linked.{IsReached}
 use Rattle.microcode_asm.specs.Private.Order.{IsUnitOrder}
 use Rattle.microcode_asm.specs.Private.Lifetimes.{AreKept}
-use Rattle.buckets.specs.declared.Buckets.{Buckets}
+use Rattle.bucket_sort.specs.declared.Buckets.{Buckets}
 use Rattle.microcode_asm.specs.declared.issues.Issuer.{Issuer}
 
 -- the node that is the i-th one in order

@@ -1,7 +1,7 @@
 use Rattle.std.proofs.Common.{sym, subst}
 use Rattle.silage_syntax.specs.Tree.{view}
-use Rattle.ranked_faults.specs.Ranked.{IsFirst}
-use Rattle.source_names.specs.NameFaults.{name_faults}
+use Rattle.fault_order.specs.Ranked.{IsFirst}
+use Rattle.name_rules.specs.NameFaults.{name_faults}
 use Rattle.name_check.proofs.NameAnswers.{twice_first, inside_first, recursive_first, no_main_first, names_clear}
 use Rattle.name_check.proofs.MainFound.{no_main_given, main_given, error_told, error_each_ok, error_each_fault}
 use Rattle.name_check.proofs.check_names.Goals as goal

@@ -1,7 +1,7 @@
 -- What the code knows of names, as the rules see it.
 use Rattle.std.specs.Prelude.{ℕ, List, [], ◌∷◌}
 use Rattle.silage_syntax.specs.Tree.{view, view_func}
-use Rattle.source_names.specs.Contexts.{Context}
+use Rattle.name_rules.specs.Contexts.{Context}
 use Rattle.name_check.specs.declared.context.Context.{Context as RustContext}
 use Rattle.name_check.specs.declared.context.Indices.{Indices, Outermost, Inside'}
 

@@ -10,16 +10,16 @@ use Rattle.micro_image.specs.declared.image.Image.{Image}
 use Rattle.micro_image.specs.Fields.{Microprogram}
 use Rattle.micro_image.specs.Run.{Stands, IsRunOut, spread}
 use Rattle.plan_core.specs.declared.plan.Plan.{Plan}
-use Rattle.plan_run.specs.ImageOf.{IsImageOf}
+use Rattle.plan_soundness.specs.ImageOf.{IsImageOf}
 use Rattle.plan_core.specs.IsPlan.{IsPlan}
 use Rattle.signal_graph.specs.declared.graph.Graph.{Graph}
 use Rattle.silage_syntax.specs.Tree.{Program}
-use Rattle.cascade.specs.Cascade.{cascade_source, cascade_datapath, cascade_rows, words_of, sum_of, last_of}
+use Rattle.demo_cascade.specs.Cascade.{cascade_source, cascade_datapath, cascade_rows, words_of, sum_of, last_of}
 use Rattle.plan_commands.specs.Headline.{RunsTheSolution}
 use Rattle.plan_commands.specs.Plans.{IsPlannedOver}
 use Rattle.loop_expand.specs.GraphFor.{IsGraphFor}
 use Rattle.sample_commands.specs.Loaded.{IsFresh}
-use Rattle.cascade.specs.declared.Totals.{Totals}
+use Rattle.demo_cascade.specs.declared.Totals.{Totals}
 use Rattle.plan_commands.specs.declared.planning.Planned.{Planned}
 
 -- the plan of the cascade's program over its datapath

@@ -1,8 +1,8 @@
 use Rattle.std.proofs.Common.{refl}
 use Rattle.std.proofs.lemmas.Result.{err_from_is_err_and}
 use Rattle.silage_syntax.specs.Tree.{view}
-use Rattle.source_elements.specs.ElementFaults.{without_place}
-use Rattle.source_elements.proofs.PlacedFaults.{told_first, told_ok, told_fault}
+use Rattle.element_rules.specs.ElementFaults.{without_place}
+use Rattle.element_rules.proofs.PlacedFaults.{told_first, told_ok, told_fault}
 use Rattle.single_def.proofs.check_defs.Goals as goal
 
 pub returns-in_err-check_elements-clause-fault : goal.returns-in_err-check_elements-clause-fault

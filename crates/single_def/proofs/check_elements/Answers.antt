@@ -1,5 +1,5 @@
 use Rattle.silage_syntax.specs.Tree.{view}
-use Rattle.source_elements.proofs.SoundNames.{all_sized}
+use Rattle.element_rules.proofs.SoundNames.{all_sized}
 use Rattle.single_def.proofs.DefAnswers.{told_answer, words_fail, walk_answer}
 use Rattle.single_def.proofs.check_elements.Goals as goal
 

@@ -1,12 +1,12 @@
 use Rattle.std.proofs.Common.{◌∙◌, Result, sym, ap, map, option_map, subst}
 use Rattle.silage_syntax.specs.Tree.{view}
-use Rattle.source_elements.specs.declared.elements.Elements.{Elements}
-use Rattle.source_elements.specs.declared.fault.PlacedFault.{PlacedFault}
-use Rattle.element_actions.specs.Actions.{GivesValue}
-use Rattle.element_actions.specs.Bodies.{view_body}
-use Rattle.element_actions.specs.ItemActions.{run_bodies}
-use Rattle.source_elements.proofs.SoundNames.{names_apart}
-use Rattle.action_tables.proofs.ProgramTables.{program_meant}
+use Rattle.element_rules.specs.declared.elements.Elements.{Elements}
+use Rattle.element_rules.specs.declared.fault.PlacedFault.{PlacedFault}
+use Rattle.elaboration_code.specs.Actions.{GivesValue}
+use Rattle.elaboration_code.specs.Bodies.{view_body}
+use Rattle.elaboration_code.specs.ItemActions.{run_bodies}
+use Rattle.element_rules.proofs.SoundNames.{names_apart}
+use Rattle.elaboration_code.proofs.ProgramTables.{program_meant}
 use Rattle.single_def.proofs.walk_program.Goals as goal
 
 pub invariant_of-tops-clause-apart : goal.invariant_of-tops-clause-apart

@@ -1,16 +1,16 @@
 -- The error that the fault of a phase comes to.
-use Rattle.typed_source.specs.declared.fault.TypeFault.{TypeFault}
-use Rattle.typed_source.specs.declared.fault.TypeFault.TheVariants as kind
+use Rattle.type_rules.specs.declared.fault.TypeFault.{TypeFault}
+use Rattle.type_rules.specs.declared.fault.TypeFault.TheVariants as kind
 use Rattle.flow_graph.specs.declared.fault.GraphFault.{GraphFault}
 use Rattle.flow_graph.specs.declared.fault.GraphFault.TheVariants as graph
-use Rattle.source_names.specs.declared.fault.NameFault.{NameFault}
-use Rattle.source_names.specs.declared.fault.NameFault.TheVariants as name
+use Rattle.name_rules.specs.declared.fault.NameFault.{NameFault}
+use Rattle.name_rules.specs.declared.fault.NameFault.TheVariants as name
 use Rattle.silage_lex.specs.declared.LexFault.{LexFault}
 use Rattle.silage_lex.specs.declared.LexFault.TheVariants as lex
 use Rattle.silage_parse.specs.declared.ParseFault.{ParseFault}
 use Rattle.silage_parse.specs.declared.ParseFault.TheVariants as parse
-use Rattle.source_elements.specs.declared.fault.DefFault.{DefFault}
-use Rattle.source_elements.specs.declared.fault.DefFault.TheVariants as def
+use Rattle.element_rules.specs.declared.fault.DefFault.{DefFault}
+use Rattle.element_rules.specs.declared.fault.DefFault.TheVariants as def
 use Rattle.source_faults.specs.declared.fault.FrontError.{FrontError}
 use Rattle.source_faults.specs.declared.fault.FrontError.TheVariants.{Fault, Memory}
 use Rattle.source_faults.specs.declared.fault.FrontFault.TheVariants.{Lex, Parse, Name, Def, Kind, Loop}

@@ -1,5 +1,5 @@
 use Rattle.std.proofs.Common.{◌≡◌, ◌≤◌, ◌*◌}
-use Rattle.plan_run.proofs.Origins.{first_of}
+use Rattle.plan_soundness.proofs.Origins.{first_of}
 use Rattle.delay_memory.specs.Private.Numbers.{AreNumbers}
 use Rattle.delay_memory.proofs.numbers.numbers_of.Given as goal
 

@@ -1,8 +1,8 @@
 use Rattle.std.proofs.Common.{◌∙◌, ◌++◌, List, refl, ap}
 use Rattle.silage_syntax.specs.Tree.{view_arms}
 use Rattle.fix_word.specs.declared.types.Format.{Format}
-use Rattle.typed_source.specs.TypedTree.{view_expr}
-use Rattle.typed_source.specs.declared.typed.TypedExpr.{TypedExpr as RustTyped}
+use Rattle.type_rules.specs.TypedTree.{view_expr}
+use Rattle.type_rules.specs.declared.typed.TypedExpr.{TypedExpr as RustTyped}
 use Rattle.fix_types.specs.Private.Choosing.{nested, view_pairs, typed_pairs}
 use Rattle.fix_types.specs.Private.Scopes.{program_of, function_of}
 use Rattle.fix_types.proofs.Choices.{arms_sound, arms_typed}

@@ -1,11 +1,11 @@
 use Rattle.std.proofs.Common.{◌≡◌, ◌++◌, drop}
-use Rattle.ranked_faults.specs.Rules.{parts}
-use Rattle.ranked_faults.specs.Private.FirstMet.{first}
+use Rattle.fault_order.specs.Rules.{parts}
+use Rattle.fault_order.specs.Private.FirstMet.{first}
 use Rattle.silage_syntax.specs.Tree.{view_arms}
-use Rattle.typed_source.specs.TypeRules.{branch_rules}
+use Rattle.type_rules.specs.TypeRules.{branch_rules}
 use Rattle.fix_types.specs.Private.Choosing.{view_pairs, typed_pairs}
 use Rattle.fix_types.specs.Private.Scopes.{program_of, function_of}
-use Rattle.typed_source.specs.Private.Sound.{AreSound, HaveTypedReads}
+use Rattle.type_rules.specs.Private.Sound.{AreSound, HaveTypedReads}
 use Rattle.fix_types.proofs.expressions.+exprs.Given as goal
 
 abbrev pub invariant-typed-loop-arm : goal.invariant-typed-loop-arm

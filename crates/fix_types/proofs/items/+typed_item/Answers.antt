@@ -1,7 +1,7 @@
 use Rattle.std.proofs.Common.{◌++◌, List, refl, map, ap}
 use Rattle.silage_syntax.specs.Tree.{view_items}
-use Rattle.typed_source.specs.TypedTree.{view_item}
-use Rattle.typed_source.specs.declared.typed.TypedItem.{TypedItem as RustTypedItem}
+use Rattle.type_rules.specs.TypedTree.{view_item}
+use Rattle.type_rules.specs.declared.typed.TypedItem.{TypedItem as RustTypedItem}
 use Rattle.fix_types.specs.Private.ItemLists.{typed_list}
 use Rattle.fix_types.specs.Private.Scopes.{program_of, function_of}
 use Rattle.fix_types.proofs.ItemSteps.{items_named, items_sound, items_typed, inner_fails, loop_typed}

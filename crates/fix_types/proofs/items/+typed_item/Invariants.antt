@@ -1,12 +1,12 @@
 use Rattle.std.proofs.Common.{◌≡◌, ◌++◌, drop, map}
-use Rattle.ranked_faults.specs.Rules.{parts}
-use Rattle.ranked_faults.specs.Private.FirstMet.{first}
+use Rattle.fault_order.specs.Rules.{parts}
+use Rattle.fault_order.specs.Private.FirstMet.{first}
 use Rattle.silage_syntax.specs.Tree.{view_items}
-use Rattle.typed_source.specs.TypeRules.{items_rules}
-use Rattle.typed_source.specs.TypedTree.{view_item}
+use Rattle.type_rules.specs.TypeRules.{items_rules}
+use Rattle.type_rules.specs.TypedTree.{view_item}
 use Rattle.fix_types.specs.Private.ItemLists.{typed_list}
 use Rattle.fix_types.specs.Private.Scopes.{program_of, function_of}
-use Rattle.typed_source.specs.Private.Sound.{AreSoundItems, HaveTypedNames}
+use Rattle.type_rules.specs.Private.Sound.{AreSoundItems, HaveTypedNames}
 use Rattle.fix_types.proofs.items.+typed_item.Given as goal
 
 abbrev pub invariant-loop-item : goal.invariant-loop-item

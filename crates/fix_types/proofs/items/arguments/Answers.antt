@@ -1,9 +1,9 @@
 use Rattle.std.proofs.Common.{◌∙◌, ◌++◌, List, map, sym, ap, append-nil, arith}
 use Rattle.std.proofs.lemmas.Option.{slice_get-get_or}
-use Rattle.ranked_faults.specs.Private.FirstMet.{first_in}
-use Rattle.typed_source.specs.TypedTree.{TypedExpr, view_expr}
+use Rattle.fault_order.specs.Private.FirstMet.{first_in}
+use Rattle.type_rules.specs.TypedTree.{TypedExpr, view_expr}
 use Rattle.fix_types.specs.Private.Scopes.{program_of, function_of}
-use Rattle.typed_source.specs.Private.Sound.{IsSound, HasTypedReads}
+use Rattle.type_rules.specs.Private.Sound.{IsSound, HasTypedReads}
 use Rattle.fix_types.proofs.ItemSteps.{expr_of_all, arguments_end}
 use Rattle.fix_types.proofs.items.arguments.Goals as goal
 

@@ -1,10 +1,10 @@
 use Rattle.std.proofs.Common.{◌≡◌, ◌++◌, drop, map}
-use Rattle.ranked_faults.specs.Rules.{parts}
-use Rattle.ranked_faults.specs.Private.FirstMet.{first}
+use Rattle.fault_order.specs.Rules.{parts}
+use Rattle.fault_order.specs.Private.FirstMet.{first}
 use Rattle.silage_syntax.specs.Tree.{view_expr}
-use Rattle.typed_source.specs.TypeRules.{argument_rules}
-use Rattle.typed_source.specs.TypedTree.{view_expr as view_typed}
-use Rattle.typed_source.specs.Translation.{typed_arguments}
+use Rattle.type_rules.specs.TypeRules.{argument_rules}
+use Rattle.type_rules.specs.TypedTree.{view_expr as view_typed}
+use Rattle.type_rules.specs.Translation.{typed_arguments}
 use Rattle.fix_types.specs.Private.Scopes.{program_of, function_of}
 use Rattle.fix_types.proofs.items.arguments.Given as goal
 

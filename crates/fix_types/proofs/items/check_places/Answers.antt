@@ -1,7 +1,7 @@
 use Rattle.std.proofs.Common.{◌∙◌, sym, ap, arith}
-use Rattle.ranked_faults.specs.Private.FirstMet.{first_in}
+use Rattle.fault_order.specs.Private.FirstMet.{first_in}
 use Rattle.fix_types.specs.Private.Scopes.{program_of, function_of}
-use Rattle.typed_source.specs.Private.Sound.{HasType}
+use Rattle.type_rules.specs.Private.Sound.{HasType}
 use Rattle.fix_types.proofs.ItemSteps.{places_end, place_of_all}
 use Rattle.fix_types.proofs.items.check_places.Goals as goal
 

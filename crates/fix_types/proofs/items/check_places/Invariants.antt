@@ -1,8 +1,8 @@
 use Rattle.std.proofs.Common.{◌≡◌, drop, map}
-use Rattle.ranked_faults.specs.Rules.{parts}
-use Rattle.ranked_faults.specs.Private.FirstMet.{first}
+use Rattle.fault_order.specs.Rules.{parts}
+use Rattle.fault_order.specs.Private.FirstMet.{first}
 use Rattle.silage_syntax.specs.Tree.{view_place}
-use Rattle.typed_source.specs.TypeRules.{place_rules}
+use Rattle.type_rules.specs.TypeRules.{place_rules}
 use Rattle.fix_types.specs.Private.Scopes.{program_of, function_of}
 use Rattle.fix_types.proofs.items.check_places.Given as goal
 

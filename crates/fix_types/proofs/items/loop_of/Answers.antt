@@ -1,4 +1,4 @@
-use Rattle.typed_source.proofs.TypedRows.{view_Loop}
+use Rattle.type_rules.proofs.TypedRows.{view_Loop}
 use Rattle.fix_types.proofs.items.loop_of.Goals as goal
 
 pub returns : goal.returns

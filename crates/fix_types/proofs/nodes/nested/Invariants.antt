@@ -1,5 +1,5 @@
 use Rattle.std.proofs.Common.{◌≡◌, length}
-use Rattle.typed_source.specs.TypedTree.{view_expr}
+use Rattle.type_rules.specs.TypedTree.{view_expr}
 use Rattle.fix_types.specs.Private.Choosing.{nested, view_pairs}
 use Rattle.fix_types.proofs.nodes.nested.Given as goal
 

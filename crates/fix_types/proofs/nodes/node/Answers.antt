@@ -1,4 +1,4 @@
-use Rattle.typed_source.proofs.TypedRows.{view_Node}
+use Rattle.type_rules.proofs.TypedRows.{view_Node}
 use Rattle.fix_types.proofs.nodes.node.Goals as goal
 
 pub returns : goal.returns

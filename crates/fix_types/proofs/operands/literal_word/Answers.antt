@@ -1,4 +1,4 @@
-use Rattle.typed_source.proofs.Literals.{number_out}
+use Rattle.type_rules.proofs.Literals.{number_out}
 use Rattle.fix_types.proofs.operands.literal_word.Goals as goal
 
 pub returns-in-Err-Range-clause-met : goal.returns-in-Err-Range-clause-met

@@ -2,7 +2,7 @@ use Rattle.std.proofs.Common.{◌≡◌, drop}
 use Rattle.silage_syntax.specs.Tree.{view_arms}
 use Rattle.silage_meaning.specs.Types.{branches_type}
 use Rattle.fix_types.specs.Private.Scopes.{program_of, function_of}
-use Rattle.typed_source.specs.Private.Sound.{AreSound}
+use Rattle.type_rules.specs.Private.Sound.{AreSound}
 use Rattle.fix_types.proofs.synthesis.+own_type.Given as goal
 
 abbrev pub invariant-loop-arm : goal.invariant-loop-arm

@@ -1,7 +1,7 @@
 use Rattle.std.proofs.Common.{arith}
 use Rattle.silage_syntax.specs.Tree.{view, view_top}
-use Rattle.typed_source.specs.TypedTree.{view_typed}
-use Rattle.typed_source.specs.Private.Sound.{IsSoundTop}
+use Rattle.type_rules.specs.TypedTree.{view_typed}
+use Rattle.type_rules.specs.Private.Sound.{IsSoundTop}
 use Rattle.fix_types.proofs.TopSteps.{top_here, top_at_is, top_fails, next_typed}
 use Rattle.fix_types.proofs.tops.typed_tops.Goals as goal
 

@@ -1,5 +1,5 @@
 use Rattle.silage_syntax.specs.Tree.{view}
-use Rattle.typed_source.specs.TypedTree.{view_typed}
+use Rattle.type_rules.specs.TypedTree.{view_typed}
 use Rattle.fix_types.proofs.TopSteps.{HasTyped}
 use Rattle.fix_types.proofs.tops.typed_tops.Given as goal
 

@@ -1,9 +1,9 @@
 use Rattle.std.proofs.Common.{◌≡◌, ◌++◌, drop, map}
-use Rattle.ranked_faults.specs.Rules.{parts, each}
-use Rattle.ranked_faults.specs.Private.FirstMet.{first}
+use Rattle.fault_order.specs.Rules.{parts, each}
+use Rattle.fault_order.specs.Private.FirstMet.{first}
 use Rattle.fix_word.specs.declared.types.SigType.TheVariants.{Fix}
-use Rattle.typed_source.specs.TypeRules.{literal_rules}
-use Rattle.typed_source.specs.Translation.{word_of}
+use Rattle.type_rules.specs.TypeRules.{literal_rules}
+use Rattle.type_rules.specs.Translation.{word_of}
 use Rattle.fix_types.proofs.tops.words.Given as goal
 
 abbrev pub invariant-loop-number : goal.invariant-loop-number

@@ -1,7 +1,7 @@
 use Rattle.std.proofs.Common.{arith}
 use Rattle.std.proofs.lemmas.Result.{err_from_is_err_and}
 use Rattle.silage_syntax.specs.Tree.{view}
-use Rattle.source_elements.proofs.PlacedFaults.{elements_clear}
+use Rattle.element_rules.proofs.PlacedFaults.{elements_clear}
 use Rattle.front_end.proofs.Counts.{few_tops, short_numbers, results}
 use Rattle.front_end.proofs.FirstFaults.{name_error, def_error, type_error}
 use Rattle.front_end.proofs.FaultPlaces.{name_about, def_about, type_about}

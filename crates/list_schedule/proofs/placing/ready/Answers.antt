@@ -6,8 +6,8 @@ use Rattle.plan_core.specs.Heights.{latency_of}
 use Rattle.plan_core.specs.ListSchedule.{no_slot}
 use Rattle.plan_core.specs.declared.schedule.Slot.{Slot}
 use Rattle.list_schedule.specs.Private.Placing.{slot_at}
-use Rattle.schedule_order.proofs.Problems.{read_now, not_now, operand_in, short}
-use Rattle.schedule_order.proofs.Greater.{greater}
+use Rattle.schedule_priority.proofs.Problems.{read_now, not_now, operand_in, short}
+use Rattle.schedule_priority.proofs.Greater.{greater}
 use Rattle.list_schedule.proofs.Placings.{IsReadyUpTo, ready_more, ready_past}
 use Rattle.list_schedule.proofs.placing.ready.Goals as goal
 use Rattle.list_schedule.proofs.placing.ready.Goals.{then-edge-eq0, else-edge-eq0}

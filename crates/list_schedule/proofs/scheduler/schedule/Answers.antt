@@ -1,5 +1,5 @@
 use Rattle.std.proofs.Common.{◌≡◌, rules, refl, Ok, Err}
-use Rattle.schedule_order.specs.Problem.{IsProblem}
+use Rattle.schedule_priority.specs.Problem.{IsProblem}
 use Rattle.list_schedule.proofs.OneFault.{ok_found, ok_refused, err_found, err_refused}
 use Rattle.list_schedule.proofs.scheduler.schedule.Goals as goal
 

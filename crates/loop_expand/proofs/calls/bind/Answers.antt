@@ -1,6 +1,6 @@
 use Rattle.std.proofs.Common.{List, Option, ℕ, ◌++◌, ap, ap₂, sym, subst, ◌∙◌, map, length, arith}
 use Rattle.silage_syntax.specs.Tree.{view_place}
-use Rattle.typed_source.specs.TypedTree as typed
+use Rattle.type_rules.specs.TypedTree as typed
 use Rattle.loop_expand.specs.declared.body.Signal.{Signal}
 use Rattle.loop_expand.specs.Private.Elements.{Puts}
 use Rattle.loop_expand.specs.Private.Facts.{Fact, all_passed, all_taken, bound_by}

@@ -1,6 +1,6 @@
 use Rattle.std.proofs.Common.{map}
 use Rattle.silage_syntax.specs.Tree.{view_place}
-use Rattle.typed_source.specs.TypedTree as typed
+use Rattle.type_rules.specs.TypedTree as typed
 use Rattle.loop_expand.specs.Private.Views.{view_scope}
 use Rattle.loop_expand.proofs.KnownItems.{call_known}
 use Rattle.loop_expand.proofs.Sites.{call_of, child_there}

@@ -1,6 +1,6 @@
 use Rattle.std.proofs.Common.{◌≡◌, ◌<◌, ◌≤◌, ℕ, Some, false, slice_get}
 use Rattle.silage_meaning.specs.Instances.{turns_of}
-use Rattle.source_elements.specs.declared.elements.Instance.{Instance}
+use Rattle.element_rules.specs.declared.elements.Instance.{Instance}
 use Rattle.loop_expand.specs.Private.Children.{is_child}
 use Rattle.loop_expand.proofs.calls.child_from.Given as goal
 

@@ -1,5 +1,5 @@
 use Rattle.std.proofs.Common.{◌∙◌, arith}
-use Rattle.typed_source.specs.TypedTree as typed
+use Rattle.type_rules.specs.TypedTree as typed
 use Rattle.loop_expand.specs.Private.Facts.{passed}
 use Rattle.loop_expand.specs.Private.Scopes.{view_signal}
 use Rattle.loop_expand.specs.Private.Views.{view_scope}

@@ -1,5 +1,5 @@
 use Rattle.std.proofs.Common.{◌≡◌, drop, map}
-use Rattle.typed_source.specs.TypedTree as typed
+use Rattle.type_rules.specs.TypedTree as typed
 use Rattle.loop_expand.specs.Private.Elements.{view_elems, with_facts}
 use Rattle.loop_expand.specs.Private.Facts.{all_passed}
 use Rattle.loop_expand.specs.Private.Scopes.{view_signals}

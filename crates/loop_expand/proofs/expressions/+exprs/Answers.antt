@@ -1,7 +1,7 @@
 use Rattle.std.proofs.Common.{◌≡◌, ◌<◌, length, List, ap, ap₂, sym, subst, ◌∙◌, arith}
-use Rattle.typed_source.specs.TypedTree as typed
-use Rattle.typed_source.specs.declared.typed.TypedExpr.{TypedExpr}
-use Rattle.typed_source.proofs.TypedRows.{view_Node}
+use Rattle.type_rules.specs.TypedTree as typed
+use Rattle.type_rules.specs.declared.typed.TypedExpr.{TypedExpr}
+use Rattle.type_rules.proofs.TypedRows.{view_Node}
 use Rattle.signal_graph.specs.Flat.{calculation}
 use Rattle.loop_expand.specs.Private.Facts.{flat_of, flat_parts}
 use Rattle.loop_expand.specs.Private.Known.{IsKnownExpr, AreKnownParts}

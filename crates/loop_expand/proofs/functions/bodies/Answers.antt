@@ -1,5 +1,5 @@
 use Rattle.std.proofs.Common.{arith}
-use Rattle.typed_source.specs.TypedTree.{view_func}
+use Rattle.type_rules.specs.TypedTree.{view_func}
 use Rattle.loop_expand.proofs.FactSteps.{item_at}
 use Rattle.loop_expand.proofs.functions.bodies.Goals as goal
 

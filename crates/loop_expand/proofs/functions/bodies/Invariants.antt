@@ -1,5 +1,5 @@
 use Rattle.std.proofs.Common.{◌≡◌, ◌++◌, drop, map}
-use Rattle.typed_source.specs.TypedTree.{view_func}
+use Rattle.type_rules.specs.TypedTree.{view_func}
 use Rattle.loop_expand.specs.Private.Scopes.{view_bodies, bodies_for}
 use Rattle.loop_expand.proofs.functions.bodies.Given as goal
 

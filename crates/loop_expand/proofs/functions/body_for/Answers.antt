@@ -1,10 +1,10 @@
 use Rattle.std.proofs.Common.{◌≡◌, ◌+◌, [], refl, ap, ap₂, subst, ◌∙◌, ◌++◌, List}
-use Rattle.typed_source.specs.TypedTree.{view_func, view_items}
-use Rattle.typed_source.specs.declared.typed.TypedItem.{TypedItem}
+use Rattle.type_rules.specs.TypedTree.{view_func, view_items}
+use Rattle.type_rules.specs.declared.typed.TypedItem.{TypedItem}
 use Rattle.silage_syntax.specs.declared.tree.Decl.{Decl}
 use Rattle.loop_expand.specs.Private.Groups.{groups_of, view_groups}
 use Rattle.loop_expand.specs.Private.Scopes.{Signal, signals_from, view_signals}
-use Rattle.source_elements.specs.ElementRules.{elements_of}
+use Rattle.element_rules.specs.ElementRules.{elements_of}
 use Rattle.loop_expand.proofs.FactSteps.{body_made}
 use Rattle.loop_expand.proofs.functions.body_for.Goals as goal
 

@@ -1,5 +1,5 @@
 use Rattle.std.proofs.Common.{◌≡◌, ◌+◌, ◌++◌, drop}
-use Rattle.source_elements.specs.ElementRules.{elements_of}
+use Rattle.element_rules.specs.ElementRules.{elements_of}
 use Rattle.loop_expand.specs.Private.Scopes.{signals_from, view_signals}
 use Rattle.loop_expand.proofs.functions.put_signals.Given as goal
 

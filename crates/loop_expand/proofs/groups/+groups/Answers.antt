@@ -1,8 +1,8 @@
 use Rattle.std.proofs.Common.{◌≡◌, ◌<◌, ◌∙◌, ◌++◌, length, List, ap, sym, subst, arith}
 use Rattle.silage_syntax.specs.Manifests.{Indices}
-use Rattle.typed_source.specs.TypedTree as typed
-use Rattle.typed_source.specs.declared.typed.TypedItem.{TypedItem}
-use Rattle.typed_source.proofs.TypedRows.{view_Loop}
+use Rattle.type_rules.specs.TypedTree as typed
+use Rattle.type_rules.specs.declared.typed.TypedItem.{TypedItem}
+use Rattle.type_rules.proofs.TypedRows.{view_Loop}
 use Rattle.silage_syntax.specs.Tree.{view_manifest}
 use Rattle.loop_expand.specs.Private.Turns.{indices_at, view_turns}
 use Rattle.loop_expand.specs.Private.Groups.{Group, view_groups, HasBounds, HaveBoundsIn, groups_in, loop_groups}

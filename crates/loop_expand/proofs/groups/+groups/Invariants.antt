@@ -1,5 +1,5 @@
 use Rattle.std.proofs.Common.{◌≡◌, ◌++◌, drop}
-use Rattle.typed_source.specs.TypedTree as typed
+use Rattle.type_rules.specs.TypedTree as typed
 use Rattle.loop_expand.specs.Private.Turns.{view_turns}
 use Rattle.loop_expand.specs.Private.Groups.{view_groups, loops_groups}
 use Rattle.loop_expand.proofs.Bounds.{size_of, size_in}

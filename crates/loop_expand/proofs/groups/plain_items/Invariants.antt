@@ -1,5 +1,5 @@
 use Rattle.std.proofs.Common.{◌≡◌, ◌++◌, drop, map}
-use Rattle.typed_source.specs.TypedTree as typed
+use Rattle.type_rules.specs.TypedTree as typed
 use Rattle.loop_expand.specs.Private.Groups as is
 use Rattle.loop_expand.specs.Private.Groups.{view_ref}
 use Rattle.loop_expand.proofs.groups.plain_items.Given as goal

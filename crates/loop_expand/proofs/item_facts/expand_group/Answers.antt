@@ -1,7 +1,7 @@
 use Rattle.std.proofs.Common.{◌∙◌, ◌+◌, ◌-◌, ap, ap₂, List, map, arith}
 use Rattle.std.specs.List.{range_with_len}
 use Rattle.silage_syntax.specs.Manifests.{Indices}
-use Rattle.typed_source.specs.TypedTree as typed
+use Rattle.type_rules.specs.TypedTree as typed
 use Rattle.loop_expand.specs.Private.Elements.{view_elems, with_facts}
 use Rattle.loop_expand.specs.Private.Facts.{joined, turn_facts, group_facts}
 use Rattle.loop_expand.specs.Private.Groups.{view_ref, view_group}

@@ -1,8 +1,8 @@
 use Rattle.std.proofs.Common.{◌∙◌, ap, subst}
 use Rattle.silage_syntax.specs.Tree.{view_manifest, view_place}
-use Rattle.typed_source.specs.TypedTree as typed
-use Rattle.typed_source.specs.declared.typed.TypedItem.{TypedItem}
-use Rattle.typed_source.proofs.TypedRows.{view_Loop}
+use Rattle.type_rules.specs.TypedTree as typed
+use Rattle.type_rules.specs.declared.typed.TypedItem.{TypedItem}
+use Rattle.type_rules.proofs.TypedRows.{view_Loop}
 use Rattle.loop_expand.specs.Private.Sites.{IsItemOf}
 use Rattle.loop_expand.specs.Private.Views.{view_scope}
 use Rattle.loop_expand.proofs.KnownItems.{equation_known, initial_known}

@@ -1,5 +1,5 @@
 use Rattle.std.proofs.Common.{◌≡◌, ◌+◌, drop}
-use Rattle.source_elements.specs.ElementRules.{elements_of}
+use Rattle.element_rules.specs.ElementRules.{elements_of}
 use Rattle.loop_expand.proofs.program.count.Given as goal
 
 abbrev pub invariant-loop-decl : goal.invariant-loop-decl

@@ -1,9 +1,9 @@
 use Rattle.std.proofs.Common.{◌≡◌, ◌∙◌, sym, subst, ap}
 use Rattle.silage_syntax.specs.Tree.{Program}
-use Rattle.source_elements.specs.declared.elements.Elements.{Elements}
-use Rattle.typed_source.specs.declared.typed.Typed.{Typed}
-use Rattle.typed_source.specs.Translation.{typed_program}
-use Rattle.typed_source.specs.TypedTree.{Typed as Tree, view_typed}
+use Rattle.element_rules.specs.declared.elements.Elements.{Elements}
+use Rattle.type_rules.specs.declared.typed.Typed.{Typed}
+use Rattle.type_rules.specs.Translation.{typed_program}
+use Rattle.type_rules.specs.TypedTree.{Typed as Tree, view_typed}
 use Rattle.signal_graph.specs.Flat as flat
 use Rattle.loop_expand.specs.Expanded.{AreOf}
 use Rattle.loop_expand.specs.FlatOf.{IsFlatOf}

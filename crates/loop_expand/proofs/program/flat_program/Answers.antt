@@ -1,7 +1,7 @@
 use Rattle.std.proofs.Common.{◌≡◌, ◌∙◌, refl, ap, ap₂, map, List, rules, arith, length, slice_get}
-use Rattle.source_elements.specs.declared.elements.Instance.{Instance}
-use Rattle.typed_source.specs.declared.typed.TypedFunc.{TypedFunc}
-use Rattle.typed_source.specs.TypedTree.{Typed as Tree, view_func, view_typed}
+use Rattle.element_rules.specs.declared.elements.Instance.{Instance}
+use Rattle.type_rules.specs.declared.typed.TypedFunc.{TypedFunc}
+use Rattle.type_rules.specs.TypedTree.{Typed as Tree, view_func, view_typed}
 use Rattle.loop_expand.specs.Private.Scopes.{Body, bodies_for, body_at, view_body, view_bodies}
 use Rattle.loop_expand.proofs.FlatMade.{few_inputs}
 use Rattle.loop_expand.proofs.Sites.{bounded, of_program, some_instances, have_bodies}

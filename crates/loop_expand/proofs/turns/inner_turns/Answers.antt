@@ -1,7 +1,7 @@
 use Rattle.std.proofs.Common.{◌<◌, ◌∙◌, Some, sym, ap₂, arith}
 use Rattle.silage_syntax.specs.Manifests.{manifest_value}
 use Rattle.silage_syntax.specs.Tree.{view_manifest}
-use Rattle.source_elements.specs.ElementRules.{loop_turns}
+use Rattle.element_rules.specs.ElementRules.{loop_turns}
 use Rattle.loop_expand.specs.Private.Turns.{indices_at, value_in}
 use Rattle.loop_expand.proofs.TurnRows.{inner_same, inner_inside, if_ok}
 use Rattle.loop_expand.proofs.turns.inner_turns.Goals as goal

@@ -1,7 +1,7 @@
 use Rattle.std.proofs.Common.{◌<◌, ◌++◌, ◌∙◌, ℤ, Some, map, ap₂, sym, arith, rules, w32}
 use mir.Val.{SFits}
 use Rattle.std.proofs.lemmas.Int.{to_z-of_z}
-use Rattle.source_elements.specs.ElementRules.{loop_turns}
+use Rattle.element_rules.specs.ElementRules.{loop_turns}
 use Rattle.loop_expand.specs.Private.Turns.{value_in, inner_at}
 use Rattle.loop_expand.proofs.TurnRows.{inner_more, none_within, no_turns}
 use Rattle.loop_expand.proofs.turns.known_turns.Goals as goal

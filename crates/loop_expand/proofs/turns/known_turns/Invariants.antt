@@ -1,6 +1,6 @@
 use Rattle.std.proofs.Common.{◌≡◌, ◌++◌, ◌+◌, ◌-◌, Some}
 use Rattle.std.specs.List.{range_with_len}
-use Rattle.source_elements.specs.ElementRules.{loop_turns}
+use Rattle.element_rules.specs.ElementRules.{loop_turns}
 use Rattle.loop_expand.specs.Private.Turns.{value_in, inner_of}
 use Rattle.loop_expand.proofs.turns.known_turns.Given as goal
 

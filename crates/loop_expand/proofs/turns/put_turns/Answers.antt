@@ -1,7 +1,7 @@
 use Rattle.std.proofs.Common.{◌≡◌, ◌<◌, ◌+ℤ◌, pos, ap, arith, rules, w32}
 use mir.Val.{SFits}
 use Rattle.std.proofs.lemmas.Int.{to_z-of_z}
-use Rattle.source_elements.specs.ElementRules.{count_up}
+use Rattle.element_rules.specs.ElementRules.{count_up}
 use Rattle.loop_expand.specs.Private.Turns.{inner_at}
 use Rattle.loop_expand.proofs.TurnRows.{turns_more}
 use Rattle.loop_expand.proofs.turns.put_turns.Goals as goal

@@ -1,6 +1,6 @@
 use Rattle.std.proofs.Common.{◌≡◌, ◌++◌, ◌+◌, ◌-◌, ◌+ℤ◌, pos, map, Some}
 use Rattle.std.specs.List.{range_with_len}
-use Rattle.source_elements.specs.ElementRules.{count_up, loop_turns}
+use Rattle.element_rules.specs.ElementRules.{count_up, loop_turns}
 use Rattle.loop_expand.specs.Private.Turns.{inner_at}
 use Rattle.loop_expand.proofs.turns.put_turns.Given as goal
 

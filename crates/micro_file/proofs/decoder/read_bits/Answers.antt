@@ -1,7 +1,7 @@
 use Rattle.std.proofs.Common.{rules, ◌≡◌, Ok}
 use Rattle.std.proofs.lemmas.Result.{err_from_is_err_and}
 use Rattle.micro_image.specs.declared.image.Image.{Image}
-use Rattle.packed_file.proofs.Bits.{IsDigits}
+use Rattle.micro_bits.proofs.Bits.{IsDigits}
 use Rattle.micro_file.specs.Bits.{at_bits}
 use Rattle.micro_file.specs.Hardware.{hardware_at}
 use Rattle.micro_file.specs.PackedWords.{packed_word_at}

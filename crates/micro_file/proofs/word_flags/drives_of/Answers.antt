@@ -1,5 +1,5 @@
 use Rattle.std.proofs.Common.{◌≡◌, ◌++◌, [], length, sym, ap, ◌∙◌, arith}
-use Rattle.packed_file.proofs.Encoded.{next_put}
+use Rattle.micro_bits.proofs.Encoded.{next_put}
 use Rattle.micro_file.specs.Private.WordFlags.{unit_drives, every_drive}
 use Rattle.micro_file.proofs.word_flags.drives_of.Goals as goal
 

@@ -1,6 +1,6 @@
 use Rattle.std.proofs.Common.{◌≡◌, ◌++◌, [], length, sym, ap, refl, ◌∙◌, arith}
 use Rattle.std.proofs.lemmas.List.{get_or_read_under}
-use Rattle.packed_file.proofs.Encoded.{next_put}
+use Rattle.micro_bits.proofs.Encoded.{next_put}
 use Rattle.micro_image.specs.Fields.{nth, no_unit}
 use Rattle.micro_file.specs.Private.WordFlags.{unit_files, every_file}
 use Rattle.micro_file.proofs.word_flags.files_of.Goals as goal

@@ -1,5 +1,5 @@
 use Rattle.std.proofs.Common.{◌++◌, ◌∷◌, [], ap, ◌∙◌}
-use Rattle.packed_file.proofs.Encoded.{next_put}
+use Rattle.micro_bits.proofs.Encoded.{next_put}
 use Rattle.micro_file.specs.Private.WordFlags.{drive_of}
 use Rattle.micro_file.proofs.word_flags.put_unit_drives.Goals as goal
 

@@ -1,6 +1,6 @@
 use Rattle.std.proofs.Common.{◌≡◌, ◌++◌, ◌∷◌, [], length, ap, refl, ◌∙◌}
 use Rattle.std.proofs.lemmas.List.{get_or_read_under}
-use Rattle.packed_file.proofs.Encoded.{next_put}
+use Rattle.micro_bits.proofs.Encoded.{next_put}
 use Rattle.micro_image.specs.Fields.{nth}
 use Rattle.micro_file.specs.Private.WordFlags.{file_of}
 use Rattle.micro_file.proofs.word_flags.put_unit_files.Goals as goal

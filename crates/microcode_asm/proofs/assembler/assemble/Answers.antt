@@ -1,6 +1,6 @@
 use Rattle.micro_image.specs.Valid.{IsValid}
-use Rattle.plan_run.specs.ImageOf.{IsImageOf}
-use Rattle.plan_run.specs.Run.{RunsSolution}
+use Rattle.plan_soundness.specs.ImageOf.{IsImageOf}
+use Rattle.plan_soundness.specs.Run.{RunsSolution}
 use Rattle.microcode_asm.proofs.ImageSteps.{if_ok}
 use Rattle.microcode_asm.proofs.ReadyPlans.{ready, planned_valid, planned_runs}
 use Rattle.microcode_asm.proofs.assembler.assemble.Goals as goal

@@ -1,5 +1,5 @@
 use Rattle.std.proofs.Common.{◌+◌, ◌-◌, ◌%◌, subst, sym, ℕ}
-use Rattle.plan_run.specs.Parts.{IsCopy}
+use Rattle.plan_soundness.specs.Parts.{IsCopy}
 use Rattle.microcode_asm.proofs.IssueSteps.{copy_in_turn}
 use Rattle.microcode_asm.proofs.issues.copy_ago.Goals as goal
 

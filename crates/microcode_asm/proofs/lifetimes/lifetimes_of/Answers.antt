@@ -1,8 +1,8 @@
 use Rattle.std.proofs.Common.{ℕ, ◌-◌, ◌∙◌, ap, arith, length}
 use Rattle.plan_core.specs.declared.registers.Arc.{Arc}
-use Rattle.plan_run.specs.Parts.{nodes_of, arc_at}
+use Rattle.plan_soundness.specs.Parts.{nodes_of, arc_at}
 use Rattle.microcode_asm.proofs.IssueSteps.{arc_is}
-use Rattle.buckets.proofs.Linked.{one_linked}
+use Rattle.bucket_sort.proofs.Linked.{one_linked}
 use Rattle.microcode_asm.proofs.lifetimes.lifetimes_of.Goals as goal
 
 pub put_first-requires-clause-bucket : goal.put_first-requires-clause-bucket

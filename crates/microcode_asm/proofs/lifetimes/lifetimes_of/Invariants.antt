@@ -1,6 +1,6 @@
 use Rattle.std.proofs.Common.{ℕ, length}
-use Rattle.plan_run.specs.Parts.{nodes_of, arc_at}
-use Rattle.buckets.specs.Linked.{AreLinked}
+use Rattle.plan_soundness.specs.Parts.{nodes_of, arc_at}
+use Rattle.bucket_sort.specs.Linked.{AreLinked}
 use Rattle.microcode_asm.proofs.lifetimes.lifetimes_of.Given as goal
 
 abbrev pub invariant-loop-k : goal.invariant-loop-k

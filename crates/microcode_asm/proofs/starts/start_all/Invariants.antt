@@ -1,6 +1,6 @@
 use Rattle.std.proofs.Common.{length}
 use Rattle.micro_image.specs.declared.image.Image.{Image}
-use Rattle.plan_run.specs.ImageOf.{IsImageOf}
+use Rattle.plan_soundness.specs.ImageOf.{IsImageOf}
 use Rattle.microcode_asm.specs.Private.Starts.{AreStarted, AreUnitsOf}
 use Rattle.microcode_asm.proofs.starts.start_all.Given as goal
 

@@ -1,5 +1,5 @@
 use Rattle.micro_image.specs.declared.image.Image.{Image}
-use Rattle.plan_run.specs.ImageOf.{IsImageOf}
+use Rattle.plan_soundness.specs.ImageOf.{IsImageOf}
 use Rattle.microcode_asm.specs.Private.Starts.{AreStarted, AreUnitsOf, ArePreloaded}
 use Rattle.microcode_asm.proofs.starts.start_registers.Given as goal
 

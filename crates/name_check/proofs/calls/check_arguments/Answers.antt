@@ -1,8 +1,8 @@
 use Rattle.std.proofs.Common.{ap, ◌∙◌, arith}
-use Rattle.ranked_faults.specs.Private.FirstMet.{first}
-use Rattle.ranked_faults.proofs.TableFaults.{next_fails, next_passes}
+use Rattle.fault_order.specs.Private.FirstMet.{first}
+use Rattle.fault_order.proofs.TableFaults.{next_fails, next_passes}
 use Rattle.silage_syntax.specs.Tree.{view_expr}
-use Rattle.source_names.specs.NameRules.{argument_rules, passing_rules}
+use Rattle.name_rules.specs.NameRules.{argument_rules, passing_rules}
 use Rattle.name_check.specs.Private.Views.{context_of}
 use Rattle.name_check.proofs.calls.check_arguments.Goals as goal
 

@@ -1,8 +1,8 @@
 use Rattle.std.proofs.Common.{◌≡◌, map, drop}
-use Rattle.ranked_faults.specs.Rules.{parts, each_from}
-use Rattle.ranked_faults.specs.Private.FirstMet.{first}
+use Rattle.fault_order.specs.Rules.{parts, each_from}
+use Rattle.fault_order.specs.Private.FirstMet.{first}
 use Rattle.silage_syntax.specs.Tree.{view_expr}
-use Rattle.source_names.specs.NameRules.{passing_rules}
+use Rattle.name_rules.specs.NameRules.{passing_rules}
 use Rattle.name_check.specs.Private.Views.{context_of}
 use Rattle.name_check.proofs.calls.check_arguments.Given as goal
 

@@ -1,9 +1,9 @@
 use Rattle.std.proofs.Common.{ap, ◌∙◌, arith, map}
-use Rattle.ranked_faults.specs.Private.FirstMet.{first}
-use Rattle.ranked_faults.proofs.TableFaults.{next_fails, next_passes}
+use Rattle.fault_order.specs.Private.FirstMet.{first}
+use Rattle.fault_order.proofs.TableFaults.{next_fails, next_passes}
 use Rattle.silage_syntax.specs.Tree.{view_place, view_manifest}
-use Rattle.source_names.specs.Meanings.{takes}
-use Rattle.source_names.specs.NameRules.{target_rules, taking_rules}
+use Rattle.name_rules.specs.Meanings.{takes}
+use Rattle.name_rules.specs.NameRules.{target_rules, taking_rules}
 use Rattle.name_check.specs.Private.Views.{context_of}
 use Rattle.name_check.proofs.calls.check_places.Goals as goal
 

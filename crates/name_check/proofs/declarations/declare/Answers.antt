@@ -1,7 +1,7 @@
 -- A name that is a table's or function's, or an earlier signal's, is a duplicate.
 use Rattle.std.proofs.Common.{◌≡◌, true, sym, ap, ◌∙◌}
 use Rattle.std.proofs.lemmas.Bool.{not-true, not-false, or_left, or_right}
-use Rattle.source_names.specs.Meanings.{are_dims, is_signal_type}
+use Rattle.name_rules.specs.Meanings.{are_dims, is_signal_type}
 use Rattle.name_check.proofs.Declared.{declared_twice, declared_once}
 use Rattle.name_check.proofs.declarations.declare.Goals as goal
 use Rattle.name_check.proofs.declarations.declare.Goals.{then-is_top-via-then-is_top}

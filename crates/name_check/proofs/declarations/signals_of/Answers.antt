@@ -1,7 +1,7 @@
 -- The parameters, the results and the locals are declared one after another.
 use Rattle.std.proofs.Common.{◌≡◌, ◌∙◌, ◌++◌, sym, ap₂}
 use Rattle.silage_syntax.specs.Tree.{view_func}
-use Rattle.source_names.specs.Meanings.{names_of}
+use Rattle.name_rules.specs.Meanings.{names_of}
 use Rattle.name_check.proofs.Declared.{met, all_names, params_fail, results_fail, locals_fail, after_results}
 use Rattle.name_check.proofs.declarations.signals_of.Goals as goal
 

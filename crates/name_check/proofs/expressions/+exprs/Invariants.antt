@@ -1,8 +1,8 @@
 use Rattle.std.proofs.Common.{◌≡◌, drop}
 use Rattle.silage_syntax.specs.Tree.{view_arms}
-use Rattle.ranked_faults.specs.Rules.{parts}
-use Rattle.ranked_faults.specs.Private.FirstMet.{first}
-use Rattle.source_names.specs.NameRules.{branch_rules}
+use Rattle.fault_order.specs.Rules.{parts}
+use Rattle.fault_order.specs.Private.FirstMet.{first}
+use Rattle.name_rules.specs.NameRules.{branch_rules}
 use Rattle.name_check.specs.Private.Views.{context_of}
 use Rattle.name_check.proofs.expressions.+exprs.Given as goal
 

@@ -1,7 +1,7 @@
 use Rattle.std.proofs.Common.{ap, sym, ◌∙◌, is_some}
 use Rattle.silage_syntax.specs.Names.{declared}
 use Rattle.name_check.specs.Private.Views.{context_of}
-use Rattle.source_names.proofs.FoundNames.{is_some-map, is_some-copied}
+use Rattle.name_rules.proofs.FoundNames.{is_some-map, is_some-copied}
 use Rattle.name_check.proofs.lookups.is_signal.Goals as goal
 
 pub returns : goal.returns

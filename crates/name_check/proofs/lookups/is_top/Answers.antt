@@ -1,5 +1,5 @@
 use Rattle.std.proofs.Common.{◌∙◌}
-use Rattle.source_names.proofs.FoundNames.{is_there}
+use Rattle.name_rules.proofs.FoundNames.{is_there}
 use Rattle.name_check.proofs.lookups.is_top.Goals as goal
 
 pub returns : goal.returns

@@ -1,7 +1,7 @@
 use Rattle.std.proofs.Common.{ap, ◌∙◌, Some, None}
 use Rattle.std.specs.Option.{option_copied}
 use Rattle.name_check.specs.Private.Views.{context_of}
-use Rattle.source_names.proofs.FoundNames.{signal_is}
+use Rattle.name_rules.proofs.FoundNames.{signal_is}
 use Rattle.name_check.proofs.lookups.signal.Goals as goal
 
 pub returns-in_err-position : goal.returns-in_err-position

@@ -1,8 +1,8 @@
 -- A call adds the place of its function, a loop what its items call.
 use Rattle.std.proofs.Common.{ap, sym, ◌∙◌, ◌++◌, refl}
 use Rattle.silage_syntax.specs.Tree.{view_item, view_items}
-use Rattle.source_names.specs.Calls.{called, all_called}
-use Rattle.source_names.specs.Private.CallLists.{places}
+use Rattle.name_rules.specs.Calls.{called, all_called}
+use Rattle.name_rules.specs.Private.CallLists.{places}
 use Rattle.name_check.proofs.Callees.{adds_none, item_added, items_added, loop_called, has_place, has_no_place, ends}
 use Rattle.name_check.proofs.recursion.+items.Goals as goal
 

@@ -1,8 +1,8 @@
 -- The list of each table or function goes behind those before.
 use Rattle.std.proofs.Common.{◌≡◌, ◌<◌, length, get_or, ap, ◌∙◌, arith, map}
 use Rattle.silage_syntax.specs.Tree.{view_top}
-use Rattle.source_names.specs.Calls.{called_by}
-use Rattle.source_names.specs.Private.CallLists.{places}
+use Rattle.name_rules.specs.Calls.{called_by}
+use Rattle.name_rules.specs.Private.CallLists.{places}
 use Rattle.name_check.proofs.CallGraph.{list_more, all_lists}
 use Rattle.name_check.proofs.recursion.calls_of_all.Goals as goal
 

@@ -2,10 +2,10 @@
 use Rattle.std.proofs.Common.{◌<◌, length, sym, subst, ap, ◌∙◌, arith}
 use Rattle.std.proofs.lemmas.List.{length-map}
 use Rattle.silage_syntax.specs.Tree.{view, view_top}
-use Rattle.source_names.specs.declared.fault.NameFault.TheVariants.{Recursive}
+use Rattle.name_rules.specs.declared.fault.NameFault.TheVariants.{Recursive}
 use Rattle.digraph.specs.Arcs.{HasArc, IsWithin, HasNoCycle, IsFirstCyclic, IsCycleIn}
 use Rattle.digraph.proofs.Arcs.{leaves}
-use Rattle.source_names.proofs.FirstPlaces.{top_stands}
+use Rattle.name_rules.proofs.FirstPlaces.{top_stands}
 use Rattle.name_check.proofs.CallGraph.{lists_within, lists_length, none_recursive, first_recursive_of}
 use Rattle.name_check.proofs.recursion.check_recursion.Goals as goal
 

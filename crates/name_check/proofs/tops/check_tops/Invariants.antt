@@ -1,8 +1,8 @@
 use Rattle.std.proofs.Common.{◌≡◌, map, drop}
-use Rattle.ranked_faults.specs.Rules.{parts, each}
-use Rattle.ranked_faults.specs.Private.FirstMet.{first}
+use Rattle.fault_order.specs.Rules.{parts, each}
+use Rattle.fault_order.specs.Private.FirstMet.{first}
 use Rattle.silage_syntax.specs.Tree.{view, view_top}
-use Rattle.source_names.specs.NameRules.{top_rules}
+use Rattle.name_rules.specs.NameRules.{top_rules}
 use Rattle.name_check.proofs.tops.check_tops.Given as goal
 
 abbrev pub invariant-loop-top : goal.invariant-loop-top

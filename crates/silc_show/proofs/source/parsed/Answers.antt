@@ -1,4 +1,4 @@
-use Rattle.typed_source.proofs.ShortNumbers.{short_numbers}
+use Rattle.type_rules.proofs.ShortNumbers.{short_numbers}
 use Rattle.silage_syntax.specs.Tree.{view}
 use Rattle.loop_expand.proofs.SomeSignals.{parameters_and_results}
 use Rattle.silc_show.proofs.source.parsed.Goals as goal

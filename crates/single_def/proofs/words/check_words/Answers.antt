@@ -1,6 +1,6 @@
 use Rattle.std.proofs.Common.{◌∙◌, ap}
 use Rattle.silage_syntax.specs.Tree.{function, view_func, view_top}
-use Rattle.source_elements.specs.Sizes.{top_is_sized}
+use Rattle.element_rules.specs.Sizes.{top_is_sized}
 use Rattle.lists.proofs.Each.{all_pass}
 use Rattle.single_def.proofs.MainTops.{no_top_at, top_at, no_table, same_function}
 use Rattle.single_def.proofs.words.check_words.Goals as goal

@@ -1,4 +1,4 @@
-use Rattle.typed_source.proofs.SignalTypes.{HasAdded}
+use Rattle.type_rules.proofs.SignalTypes.{HasAdded}
 use Rattle.fix_types.proofs.signals.Signals.declare_all.Given as goal
 
 abbrev pub invariant-loop-decl : goal.invariant-loop-decl

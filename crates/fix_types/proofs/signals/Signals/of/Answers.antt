@@ -2,8 +2,8 @@ use Rattle.std.proofs.Common.{◌∙◌, ap, List}
 use Rattle.std.specs.Option.{option_or}
 use Rattle.silage_syntax.specs.declared.tree.Decl.{Decl}
 use Rattle.silage_syntax.specs.Tree.{view_func}
-use Rattle.typed_source.specs.Private.Signals.{type_in, decl_type}
-use Rattle.typed_source.proofs.SignalTypes.{signals_are}
+use Rattle.type_rules.specs.Private.Signals.{type_in, decl_type}
+use Rattle.type_rules.proofs.SignalTypes.{signals_are}
 use Rattle.fix_types.proofs.signals.Signals.of.Goals as goal
 
 pub returns : goal.returns

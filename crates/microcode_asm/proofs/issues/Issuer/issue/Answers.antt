@@ -1,5 +1,5 @@
 use Rattle.std.proofs.Common.{◌≡◌, rules, sym, subst, to_z, of_z, w64, ℤ}
-use Rattle.plan_run.specs.ImageOf.{IsIssueOf}
+use Rattle.plan_soundness.specs.ImageOf.{IsIssueOf}
 use Rattle.microcode_asm.proofs.IssueSteps.{issue_is}
 use Rattle.microcode_asm.proofs.issues.Issuer.issue.Goals as goal
 

@@ -1,7 +1,0 @@
-use Rattle.std.proofs.Common.{◌≡◌, ◌++◌, drop}
-use Rattle.element_actions.specs.Actions.{signal_elements}
-use Rattle.action_walk.proofs.entries.put_elements.Given as goal
-
-abbrev pub invariant-loop-d : goal.invariant-loop-d
-invariant-loop-d l =
-    l.elements ++ signal_elements l.inst l.d (drop l.d l.signals) ≡ l.fn.elements ++ signal_elements l.inst 0 l.signals

@@ -1,6 +1,0 @@
-use Rattle.std.proofs.Common.{◌≡◌, ◌++◌}
-use Rattle.element_actions.specs.Actions.{places_of}
-use Rattle.action_walk.proofs.entries.put_signal.Given as goal
-
-abbrev pub invariant-loop-place : goal.invariant-loop-place
-invariant-loop-place l = l.elements ≡ l.fn.elements ++ places_of l.inst l.decl l.place

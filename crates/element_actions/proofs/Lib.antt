@@ -1,4 +1,0 @@
-pub mod Stacks
-pub mod ReadyCode
-pub mod ActionRows
-pub mod InsideActions

@@ -1,5 +1,0 @@
-use Rattle.std.proofs.Common.{length}
-use Rattle.item_actions.proofs.checks.+put_subscripts.Given as goal
-
-abbrev pub decreases-put_subscripts : goal.decreases-put_subscripts
-decreases-put_subscripts l = length l.dims.now

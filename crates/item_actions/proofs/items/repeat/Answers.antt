@@ -1,5 +1,0 @@
-use Rattle.element_actions.proofs.ActionRows.{view_Repeat}
-use Rattle.item_actions.proofs.items.repeat.Goals as goal
-
-pub returns : goal.returns
-returns c = view_Repeat c.args.lo c.args.hi c.args.actions c.args.at

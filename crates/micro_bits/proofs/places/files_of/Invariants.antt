@@ -1,0 +1,9 @@
+use Rattle.std.proofs.Common.{◌≡◌, ◌*◌, ◌≤◌}
+use Rattle.micro_bits.specs.Idle.{sizes, files_of}
+use Rattle.micro_bits.proofs.places.files_of.Given as goal
+
+abbrev pub invariant-loop-unit : goal.invariant-loop-unit
+invariant-loop-unit l = record {
+  files : l.files ≡ sizes (files_of l.image) 0 l.unit-index;
+  few : l.files ≤ 256 * l.unit-index;
+}

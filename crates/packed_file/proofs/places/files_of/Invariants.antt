@@ -1,9 +1,0 @@
-use Rattle.std.proofs.Common.{◌≡◌, ◌*◌, ◌≤◌}
-use Rattle.packed_file.specs.Idle.{sizes, files_of}
-use Rattle.packed_file.proofs.places.files_of.Given as goal
-
-abbrev pub invariant-loop-unit : goal.invariant-loop-unit
-invariant-loop-unit l = record {
-  files : l.files ≡ sizes (files_of l.image) 0 l.unit-index;
-  few : l.files ≤ 256 * l.unit-index;
-}

@@ -1,5 +1,0 @@
-use Rattle.schedule_order.specs.Private.Destinations.{AddsReads}
-use Rattle.schedule_order.proofs.destinations.add_reads.Given as goal
-
-abbrev pub invariant-loop-port : goal.invariant-loop-port
-invariant-loop-port l = AddsReads l.problem.assigned.now l.c l.port l.fn.readers l.readers

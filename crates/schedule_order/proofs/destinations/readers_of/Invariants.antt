@@ -1,5 +1,0 @@
-use Rattle.schedule_order.specs.Private.Destinations.{AreReaders}
-use Rattle.schedule_order.proofs.destinations.readers_of.Given as goal
-
-abbrev pub invariant-loop-c : goal.invariant-loop-c
-invariant-loop-c l = AreReaders l.problem.assigned.now l.c l.readers

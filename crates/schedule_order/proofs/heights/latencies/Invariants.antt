@@ -1,5 +1,0 @@
-use Rattle.schedule_order.specs.Private.Heights.{AreAlone}
-use Rattle.schedule_order.proofs.heights.latencies.Given as goal
-
-abbrev pub invariant-loop-v : goal.invariant-loop-v
-invariant-loop-v l = AreAlone l.problem.datapath.now l.problem.assigned.now l.v l.heights

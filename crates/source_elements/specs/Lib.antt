@@ -1,9 +1,0 @@
-pub mod Tables
-pub mod ElementRules
-pub mod ElementFaults
-pub mod Expansion
-pub mod Numbering
-pub mod Signatures
-pub mod Subscripts
-pub mod Sizes
-pub mod Numbers
