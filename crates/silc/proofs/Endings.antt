@@ -2,7 +2,8 @@
 use Rattle.std.proofs.Common.{◌≡◌, subst, ⊎_elim, ℕ}
 use Rattle.std.specs.Prelude.{String, List}
 use Rattle.std.specs.declared.alloc.Global.{Global}
-use Rattle.command_words.specs.Command.{Command, compile, schedule, list, sim, eval, run, demo, IsCommandIn}
+use Rattle.command_words.specs.Command.{Command, compile, schedule, list, sim, eval, run, demo}
+use Rattle.command_words.specs.Command.{IsCommand, IsCommandIn}
 use Rattle.desk_core.specs.View.{Name, View}
 use Rattle.desk_core.specs.Desk.{IfSpecified}
 use Rattle.plan_commands.specs.Compile.{IsDone}
@@ -45,6 +46,15 @@ never_words (sim mic samples out) old new kept h = h.0
 never_words (eval src samples out) old new kept h = h.0
 never_words (run src datapath samples out) old new kept h = plan_not_words src datapath old new h.0
 never_words (demo sections samples) old new kept h = demo_not_words sections samples old new kept h.0
+
+-- so words that are a command are not told as bad
+pub not_words : (words : List (String Global)) (old new : View) (kept : Kept) (status : Status)
+    → ((command : Command) → IsCommandIn words command → IsEnding command old new kept status)
+    → IsCommand words
+    → status ≡ Words
+    → ⊥
+not_words words old new kept status ending (command, form) e =
+    never_words command old new kept (subst (λ (s : Status). IsEnding command old new kept s) e (ending command form))
 
 -- where `compile` is done
 pub headline : (words : List (String Global)) (old new : View) (kept : Kept) (status : Status)
