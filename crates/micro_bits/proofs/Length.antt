@@ -23,9 +23,10 @@ use Rattle.operations.specs.declared.units.Kind.{Kind}
 use Rattle.operations.specs.declared.units.Kind.TheVariants as kind
 use Rattle.micro_image.specs.declared.image.UnitDesc.{UnitDesc}
 use Rattle.micro_image.specs.declared.image.Word.{Word}
-use Rattle.micro_image.specs.Bits.{bits, raw_bits, are_zeros, preload_bits, choice_width, choice_bits, format_bits}
+use Rattle.micro_image.specs.Bits.{bits, raw_bits, are_zeros, preload_bits, place_bits, format_bits}
 use Rattle.micro_image.specs.Bits.{argument_bits, in_bits, issue_bits, enable_bit, enable_bits, take_bits, takes_bits}
 use Rattle.micro_image.specs.Bits.{ports_bits, word_bits, image_bits}
+use Rattle.micro_image.specs.Codes.{place_width}
 use Rattle.micro_image.specs.Fields.{nth, no_unit}
 use Rattle.micro_image.specs.Form.{Form, spelled_file, spelled_memory, spelled_unit, spelled_operation}
 use Rattle.micro_image.specs.Form.{spelled_hardware}
@@ -187,11 +188,11 @@ preload_within words = by (are_zeros words)
     by true = omega arith
     by false = omega (arith, all)
 
-choice_within : (op : Op) → length (choice_bits op) ≤ 4
-unfolding choice_bits
-choice_within op = omega (arith, length-bits (choice_width (kind_of op)), width (kind_of op))
+place_within : (op : Op) → length (place_bits op) ≤ 4
+unfolding place_bits
+place_within op = omega (arith, length-bits (place_width (kind_of op)), width (kind_of op))
   where
-    width : (k : Kind) → choice_width k ≤ 4
+    width : (k : Kind) → place_width k ≤ 4
     width kind.Input = omega arith
     width kind.Output = omega arith
     width kind.Rom = omega arith
@@ -223,7 +224,7 @@ unfolding spelled_operation
 operation_within i le =
     simp length-append (omega (
       arith,
-      choice_within i.op,
+      place_within i.op,
       format_within (is_formatted i.op) i.fmt,
       argument_within (operation i.op).argument i.arg,
       named_within (reads i.op) i.regs le,

@@ -1,4 +1,6 @@
 pub mod Lists
+pub mod Tables
+pub mod Places
 pub mod Each
 pub mod LogLaws
 pub mod Newest
