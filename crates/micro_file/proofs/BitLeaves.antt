@@ -21,7 +21,7 @@ use Rattle.micro_image.specs.Valid.{IsWithin, IsBelow}
 use Rattle.micro_image.proofs.Places.{operation_only, once_placed, places_held}
 use Rattle.micro_image.proofs.Tables.{Placed, only_placed}
 use Rattle.micro_bits.proofs.Bits.{IsDigits, bits_back, bits_mod, number_below, number_bits}
-use Rattle.micro_bits.proofs.Length.{length-bits}
+use Rattle.micro_image.proofs.Length.{length-bits}
 use Rattle.micro_bits.specs.Numbers.{number_of, some_at, numbered}
 use Rattle.micro_bits.specs.declared.fault.BitFault.TheVariants as fault
 use Rattle.micro_file.specs.Bits.{unless_short, number_at, number_less_1_at, number_upto, number_below as below_at}

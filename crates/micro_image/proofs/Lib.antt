@@ -16,3 +16,5 @@ pub mod Echo
 pub mod EchoConflicts
 pub mod IncrementValid
 pub mod Counts
+pub mod Length
+pub mod ByteLength

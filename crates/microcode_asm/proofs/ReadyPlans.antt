@@ -10,6 +10,7 @@ use Rattle.plan_core.specs.IsPlan.{IsPlan}
 use Rattle.plan_core.specs.Lowered.{Origin, own, address, store, load, IsNumber, IsOwn, IsAddress, IsStore, IsLoad}
 use Rattle.plan_core.specs.declared.plan.Plan.{Plan}
 use Rattle.micro_image.specs.declared.image.Image.{Image}
+use Rattle.micro_image.specs.Size.{IsShort}
 use Rattle.micro_image.specs.Valid.{IsValid}
 use Rattle.plan_soundness.specs.ImageOf.{IsImageOf}
 use Rattle.plan_soundness.specs.Machine.{IsMachine}
@@ -18,7 +19,7 @@ use Rattle.plan_soundness.specs.Run.{RunsSolution}
 use Rattle.plan_soundness.specs.Feasible.{IsFeasiblePlan}
 use Rattle.plan_soundness.proofs.FromLowered.{made_at, made_as, own_below, graph_node}
 use Rattle.plan_soundness.proofs.RunsSolution.{plan_feasible, image_runs_solution}
-use Rattle.plan_soundness.proofs.Valid.{image_valid}
+use Rattle.plan_soundness.proofs.Valid.{image_valid, image_short}
 use Rattle.microcode_asm.specs.Planned.{IsPlanned}
 use Rattle.microcode_asm.specs.Private.Ready.{IsReady, samples_of}
 
@@ -85,6 +86,15 @@ pub planned_valid : (d : Datapath) (p : Plan) (image : Image)
     → IsValid image
 planned_valid d p image path planned of =
     image_valid planned.graph d p image planned.sound (machine_of d path) planned.plan of
+
+-- what spells it is short
+pub planned_short : (d : Datapath) (p : Plan) (image : Image)
+    → IsDatapath d
+    → IsPlanned d p
+    → IsImageOf d p image
+    → IsShort image
+planned_short d p image path planned of =
+    image_short planned.graph d p image planned.sound (machine_of d path) planned.plan of
 
 -- and it runs the solution of the graph
 pub planned_runs : (g : Graph) (d : Datapath) (p : Plan) (image : Image)
