@@ -158,7 +158,7 @@ module _ (g : Graph) (d : Datapath) (p : Plan) (sound : IsGraph g) (machine : Is
       absurd (never (subst IsMachineWord
       (sym (is.starts.other_cell ram cell (λ l ago (of : IsCellPreload p ram cell l ago).
       never (subst IsMachineWord (sym (is.starts.cell ram cell l ago of))
-      (word_of_node (line_at p l).node ago (feasible.lines l of.there).node)))))
+      (word_of_node (line_at p l).node ago (feasible.memory.lines l of.there).node)))))
       zero_word)))
       (word_cases (initial (microprogram_of image) (Cell ram cell)))
 
