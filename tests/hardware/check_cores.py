@@ -4,6 +4,7 @@
 usage: tests/hardware/check_cores.py [--long] [PART ..]
 
 Without --long it takes less than four minutes on a machine with nothing else to do. Each part has more with it:
+  numbers      the file of parts has each operation of an alu, by its number in the tools' table
   images       images of this folder: 60 directed ones and 30 random ones, or 300; both builds in turn, or each
   hazards      images with structural hazards, 200 or 1000, are refused for the first one of a run without end
   examples     the processors of the examples, on the first 10 rows or on all, without waits, and with waits at both sides
@@ -39,6 +40,7 @@ from hardware.hazards import first_hazard
 from images import broken_images, directed_images, random_images
 from machine import Wordless
 from micro_file import image_of
+from micro_file.operations import OF_KIND, number_of
 from planted import PARTS as PARTS_FILE, PLANTED
 
 EXAMPLES = ROOT / "examples"
@@ -52,6 +54,8 @@ FAST = ["biquads/one_multiplier", "mulaw/telephone", "echo/two_multipliers"]
 INCREMENT, BIQUADS, REVERB = "increment/plain", "biquads/one_multiplier", "reverb/one_multiplier"
 SECONDS_BETWEEN = 10
 NOT_ALL_THERE = 77
+# A number of an operation in the parts, and the operations that have none there: what a sum or a truth value is otherwise.
+ALU_NUMBER, UNNUMBERED = re.compile(r"\b([A-Z]+) = 4'd([0-9]+)"), ("sub", "not")
 WORDS_AS_NAMES = """
 period = 4
 word = 16
@@ -115,6 +119,17 @@ class Example:
 
 
 # The parts. Each check is a name and what is called with a new folder.
+
+
+def check_numbers(_):
+    numbers = {name.lower(): int(number) for name, number in ALU_NUMBER.findall((ROOT / "hardware" / PARTS_FILE).read_text())}
+    wanted = {name: number_of(name) for name in OF_KIND["alu"] if name not in UNNUMBERED}
+    if numbers != wanted:
+        raise Fault(f"{PARTS_FILE} has the numbers {numbers}, and the table {wanted}")
+
+
+def number_checks(_):
+    yield "operations of an alu", check_numbers
 
 
 def image_checks(is_long):
@@ -460,9 +475,10 @@ def synthesis_checks(is_long):
         yield f"{one[0]} {' '.join(one[1])} by {one[2].split()[0]}", lambda folder, one=one: check_sizes(folder, *one)
 
 
-PARTS = {"images": image_checks, "hazards": hazard_checks, "examples": example_checks, "planted": planted_checks,
-         "full": full_checks, "restart": restart_checks, "missing": missing_checks, "files": files_checks,
-         "board": board_checks, "lint": lint_checks, "verilator": verilator_checks, "synthesis": synthesis_checks}
+PARTS = {"numbers": number_checks, "images": image_checks, "hazards": hazard_checks, "examples": example_checks,
+         "planted": planted_checks, "full": full_checks, "restart": restart_checks, "missing": missing_checks,
+         "files": files_checks, "board": board_checks, "lint": lint_checks, "verilator": verilator_checks,
+         "synthesis": synthesis_checks}
 
 
 def judged(check):

@@ -7,8 +7,9 @@ from typing import NamedTuple
 
 
 class Operation(NamedTuple):
-    """What an operation reads, of how many of the first ports of its unit, and what it has beside that."""
+    """Its number in version 1, how many of the first ports of its unit it reads, and what it has beside that."""
     name: str
+    opcode: int
     reads: int
     is_formatted: bool = False
     is_truth: bool = False
@@ -26,28 +27,28 @@ class Kind(NamedTuple):
 
 
 TABLE = {
-    "in": Kind(0, (Operation("input", 0, has_argument=True),)),
-    "out": Kind(1, (Operation("output", 1, has_argument=True, gives=False),)),
-    "rom": Kind(0, (Operation("const", 0, has_argument=True),)),
-    "alu": Kind(2, (Operation("add", 2, is_formatted=True), Operation("sub", 2, is_formatted=True),
-                    Operation("neg", 1, is_formatted=True), Operation("pass", 1, is_formatted=True),
-                    Operation("lt", 2, is_truth=True), Operation("le", 2, is_truth=True),
-                    Operation("eq", 2, is_truth=True), Operation("ne", 2, is_truth=True),
-                    Operation("and", 2, is_truth=True), Operation("or", 2, is_truth=True),
-                    Operation("not", 1, is_truth=True))),
-    "mul": Kind(2, (Operation("mul", 2, is_formatted=True),)),
-    "sel": Kind(3, (Operation("sel", 3),)),
-    "ram": Kind(2, (Operation("load", 1), Operation("store", 2, gives=False))),
-    "acu": Kind(0, (Operation("addr", 0, has_argument=True),)),
+    "in": Kind(0, (Operation("input", 0, 0, has_argument=True),)),
+    "out": Kind(1, (Operation("output", 1, 1, has_argument=True, gives=False),)),
+    "rom": Kind(0, (Operation("const", 2, 0, has_argument=True),)),
+    "alu": Kind(2, (Operation("add", 3, 2, is_formatted=True), Operation("sub", 4, 2, is_formatted=True),
+                    Operation("neg", 5, 1, is_formatted=True), Operation("pass", 6, 1, is_formatted=True),
+                    Operation("lt", 7, 2, is_truth=True), Operation("le", 8, 2, is_truth=True),
+                    Operation("eq", 9, 2, is_truth=True), Operation("ne", 10, 2, is_truth=True),
+                    Operation("and", 11, 2, is_truth=True), Operation("or", 12, 2, is_truth=True),
+                    Operation("not", 13, 1, is_truth=True))),
+    "mul": Kind(2, (Operation("mul", 14, 2, is_formatted=True),)),
+    "sel": Kind(3, (Operation("sel", 15, 3),)),
+    "ram": Kind(2, (Operation("load", 16, 1), Operation("store", 17, 2, gives=False))),
+    "acu": Kind(0, (Operation("addr", 18, 0, has_argument=True),)),
 }
 KINDS = tuple(TABLE)
 PORTS = {name: kind.ports for name, kind in TABLE.items()}
 OF_KIND = {name: kind.names() for name, kind in TABLE.items()}
 KIND_OF = {operation: kind for kind, operations in OF_KIND.items() for operation in operations}
 CALLED = {operation.name: operation for kind in TABLE.values() for operation in kind.operations}
+OPCODE = {name: operation.opcode for name, operation in CALLED.items()}
 # By their numbers in version 1.
-OPERATIONS = tuple(CALLED)
-OPCODE = {name: number for number, name in enumerate(OPERATIONS)}
+OPERATIONS = tuple(sorted(OPCODE, key=OPCODE.get))
 
 FORMATTED = tuple(name for name, operation in CALLED.items() if operation.is_formatted)
 TRUTHS = tuple(name for name, operation in CALLED.items() if operation.is_truth)

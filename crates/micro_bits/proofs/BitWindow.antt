@@ -17,7 +17,7 @@ use Rattle.std.specs.Int.{w64, from_be_bytes}
 use Rattle.std.specs.Int.Count.{count_leading_zeros}
 use Rattle.micro_image.specs.Bits.{bits}
 use Rattle.micro_image.specs.Spells.{bits_of}
-use Rattle.micro_bits.proofs.Length.{length-bits, length-bits_of}
+use Rattle.micro_image.proofs.Length.{length-bits, length-bits_of}
 use Rattle.micro_bits.specs.declared.fault.BitFault.TheVariants.{Short}
 use Rattle.micro_bits.specs.Numbers.{number_of, number_at, some_at}
 use Rattle.micro_bits.proofs.Bits.{bits_split, bits_mod, number_bits}

@@ -4,7 +4,7 @@ use Rattle.std.proofs.Common.{get_or, refl, sym, ap, ◌∙◌, arith}
 use Rattle.std.proofs.Math.Nat.{div-div-eq-div-mul, mod-one, mod-lt}
 use Rattle.std.proofs.lemmas.Nat.{pow-add, mod-pow-add, pow_pos, div-mul-add, mod-mul-add}
 use Rattle.micro_image.specs.Bits.{bits}
-use Rattle.micro_bits.proofs.Length.{length-bits}
+use Rattle.micro_image.proofs.Length.{length-bits}
 use Rattle.micro_bits.specs.Numbers.{number_of}
 
 -- each element is below the base: a bit, or a byte

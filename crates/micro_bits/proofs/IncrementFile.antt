@@ -7,7 +7,7 @@ use Rattle.std.proofs.lemmas.List.Sums.{AllPass-from_list_all}
 use Rattle.micro_image.proofs.Increment.{increment}
 use Rattle.micro_image.proofs.IncrementFile.{two_drivers}
 use Rattle.micro_image.proofs.IncrementValid.{increment-valid}
-use Rattle.micro_image.specs.Bits.{bits, preload_bits, choice_bits, format_bits, issue_bits, enable_bits, take_bits}
+use Rattle.micro_image.specs.Bits.{bits, preload_bits, place_bits, format_bits, issue_bits, enable_bits, take_bits}
 use Rattle.micro_image.specs.Bits.{takes_bits, ports_bits, word_bits, image_bits}
 use Rattle.micro_image.specs.Form.{spelled_file, spelled_memory, spelled_unit, spelled_operation, spelled_hardware}
 use Rattle.micro_image.specs.Spells.{AreBytes, bits_of, begun, SpellsIn}
@@ -39,14 +39,14 @@ packed-are_bytes k d lt =
 
 -- its bits are those of the image, and six zeros
 pub increment-packed : bits_of packed_rest ≡ image_bits increment ++ replicate 6 0
-unfolding image_bits bits preload_bits choice_bits format_bits issue_bits enable_bits take_bits takes_bits ports_bits
+unfolding image_bits bits preload_bits place_bits format_bits issue_bits enable_bits take_bits takes_bits ports_bits
     word_bits spelled_file spelled_memory spelled_unit spelled_operation spelled_hardware
 increment-packed = refl
 
 -- with two units that drive the bus in cycle 2 byte 34 is another
 pub two_drivers-packed : bits_of (take 29 packed_rest ++ 0x18 ∷ drop 30 packed_rest)
     ≡ image_bits two_drivers ++ replicate 6 0
-unfolding image_bits bits preload_bits choice_bits format_bits issue_bits enable_bits take_bits takes_bits ports_bits
+unfolding image_bits bits preload_bits place_bits format_bits issue_bits enable_bits take_bits takes_bits ports_bits
     word_bits spelled_file spelled_memory spelled_unit spelled_operation spelled_hardware
 two_drivers-packed = refl
 

@@ -1,5 +1,4 @@
 pub mod Bits
-pub mod Length
 pub mod Levels
 pub mod BitNumbers
 pub mod BitWindow

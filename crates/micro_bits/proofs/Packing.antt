@@ -9,7 +9,7 @@ use Rattle.micro_image.specs.Bits.{bits, image_bits}
 use Rattle.micro_image.specs.Spells.{AreBytes, bits_of, begun, Holds, IsPacked, SpellsIn}
 use Rattle.micro_image.specs.declared.version.Version.TheVariants.{Two}
 use Rattle.micro_image.specs.Valid.{IsValid}
-use Rattle.micro_bits.proofs.Length.{length-bits, length-bits_of}
+use Rattle.micro_image.proofs.Length.{length-bits, length-bits_of}
 use Rattle.micro_bits.specs.Numbers.{number_of}
 use Rattle.micro_bits.specs.Private.Writes.{Padded}
 use Rattle.micro_bits.proofs.Bits.{number_bits}

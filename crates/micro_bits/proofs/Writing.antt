@@ -9,7 +9,7 @@ use Rattle.std.proofs.lemmas.List.{take-replicate, append-nil}
 use Rattle.std.proofs.lemmas.Nat.{pow-add, pow_pos}
 use Rattle.micro_image.specs.Bits.{bits}
 use Rattle.micro_image.specs.Spells.{bits_of}
-use Rattle.micro_bits.proofs.Length.{length-bits}
+use Rattle.micro_image.proofs.Length.{length-bits}
 use Rattle.micro_bits.proofs.Bits.{bits_split, bits_mod, bits_behind}
 use Rattle.micro_bits.proofs.BitNumbers.{bits_of-append, bits_of-bytes, bits_none}
 use Rattle.micro_bits.proofs.BitWindow.{take_bytes}

@@ -4,11 +4,11 @@ ghost use Rattle.std.specs.Prelude.{◌≡◌, ◌<◌, ◌≤◌, ◌^◌, ◌-
 ghost use Rattle.std.specs.Prelude.{replicate, IsTrue};
 ghost use Rattle.std.specs.List.{flat_map};
 ghost use Rattle.micro_image.specs.Codes.{kind_number, mode_number};
-ghost use Rattle.micro_image.specs.Bits.{bits, raw_bits, preload_bits, choice_bits, format_bits, argument_bits, in_bits};
+ghost use Rattle.micro_image.specs.Bits.{bits, raw_bits, preload_bits, place_bits, format_bits, argument_bits, in_bits};
 ghost use Rattle.micro_image.specs.Bits.{take_bits, word_bits, image_bits};
 ghost use Rattle.micro_image.specs.Form.{spelled_file, spelled_memory, spelled_unit, spelled_operation};
 ghost use Rattle.micro_image.specs.Form.{spelled_hardware};
-ghost use Rattle.micro_image.specs.Operations.{opcode, operation, is_formatted};
+ghost use Rattle.micro_image.specs.Operations.{operation, is_formatted};
 ghost use Rattle.micro_image.specs.Spells.{AreBytes, begun, bits_of, SpellsIn};
 ghost use Rattle.micro_image.specs.declared.version.Version.TheVariants.{Two};
 ghost use Rattle.micro_image.specs.Size.{most_bytes};
@@ -20,7 +20,7 @@ ghost use Rattle.micro_bits.specs.Private.Writes.{Padded};
 
 use crate::bit_writer::BitWriter;
 use crate::fault::CodeFault;
-use crate::fields::{are_zeros, choice_width_of, first_opcode_of};
+use crate::fields::are_zeros;
 use crate::places::{files_of, idle_bits_of, starts_of};
 use crate::widths::{
     BUS, CELLS, CHANNELS, CYCLES, FLAG, KIND, MODE, OFFSET, PERIOD, RAW_WORD, REGISTER, SHIFT,
@@ -29,7 +29,8 @@ use crate::widths::{
 use fix_word::{Format, Mode, Op};
 use lists::{Bytes, List};
 use micro_image::{
-    Enable, Enables, Image, Issue, Kind, Take, Takes, UnitDesc, Word, is_formatted, reads,
+    Enable, Enables, Image, Issue, Kind, Take, Takes, UnitDesc, Word, is_formatted, place_of,
+    place_width_of, reads,
 };
 use std::alloc::{AllocError, Global};
 
@@ -58,12 +59,6 @@ fn kind_number_of(kind: Kind) -> u8
     ensures { result ≡ kind_number kind }
 {
     kind as u8
-}
-
-fn opcode_of(op: Op) -> u8
-    ensures { result ≡ opcode op }
-{
-    op as u8
 }
 
 fn mode_number_of(mode: Mode) -> u8
@@ -203,13 +198,11 @@ fn put_hardware(out: &mut BitWriter, image: &Image) -> Result<(), AllocError>
 
 /// Which of its kind's operations it is.
 #[inline]
-#[tactic(auto, unfolding(micro_image::specs::Bits::choice_bits))]
-fn put_choice(out: &mut BitWriter, op: Op) -> Result<(), AllocError>
-    ensures { OnOk result (out.new ≡ out.old ++ choice_bits op) }
+#[tactic(auto, unfolding(micro_image::specs::Bits::place_bits))]
+fn put_place(out: &mut BitWriter, op: Op) -> Result<(), AllocError>
+    ensures { OnOk result (out.new ≡ out.old ++ place_bits op) }
 {
-    let kind = Kind::of(op);
-    let place = opcode_of(op).saturating_sub(first_opcode_of(kind));
-    out.put(choice_width_of(kind), u64::from(place))
+    out.put(place_width_of(Kind::of(op)), place_of(op) as u64)
 }
 
 #[tactic(auto, unfolding(micro_image::specs::Bits::format_bits))]
@@ -264,7 +257,7 @@ fn put_registers(out: &mut BitWriter, regs: &[u8], read: usize) -> Result<(), Al
 fn put_operation(out: &mut BitWriter, issue: &Issue) -> Result<(), AllocError>
     ensures { OnOk result (out.new ≡ out.old ++ spelled_operation in_bits issue.now) }
 {
-    put_choice(out, issue.op)?;
+    put_place(out, issue.op)?;
     put_format(out, issue.op, &issue.fmt)?;
     put_argument(out, issue.op, issue.arg)?;
     put_registers(out, issue.regs.as_slice(), reads(issue.op))

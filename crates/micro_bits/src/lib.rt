@@ -12,5 +12,5 @@ pub mod widths;
 pub use bit_reader::BitReader;
 pub use encoder::encode;
 pub use fault::{BitFault, CodeFault};
-pub use fields::{are_zeros, choice_width_of};
+pub use fields::are_zeros;
 pub use places::idle_bits_of;

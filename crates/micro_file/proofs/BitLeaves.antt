@@ -1,5 +1,5 @@
 -- The readers of single fields of version 2, in bits.
-use Rattle.std.proofs.Common.{◌≡◌, ℕ, zero, suc, ◌+◌, ◌-◌, ◌/◌, ◌%◌, ◌^◌, ◌<◌, ◌≤◌, Bool, true, false, cond, ltb, List}
+use Rattle.std.proofs.Common.{◌≡◌, ℕ, ◌+◌, ◌-◌, ◌/◌, ◌%◌, ◌^◌, ◌<◌, ◌≤◌, Bool, true, false, cond, ltb, List}
 use Rattle.std.proofs.Common.{[], ◌∷◌, ◌++◌, length, take, drop, Some, Ok, Err, ℤ, pos, negsuc, refl, sym, ap, subst}
 use Rattle.std.proofs.Common.{◌∙◌, arith, inl, inr}
 use Rattle.std.proofs.Math.Nat.{mod-eq_of_lt}
@@ -10,21 +10,22 @@ use Rattle.std.specs.Int.{w64, cast_unsigned}
 use Rattle.std.specs.Prelude.{slice_get}
 use Rattle.fix_word.specs.Words.{IsMachineWord}
 use Rattle.fix_word.specs.declared.operation.Op.{Op}
-use Rattle.fix_word.specs.declared.operation.Op.TheVariants as op
 use Rattle.fix_word.specs.declared.types.Mode.{Mode}
 use Rattle.fix_word.specs.declared.types.Mode.TheVariants.{Trunc, Round, Sat, RoundSat}
 use Rattle.operations.specs.declared.units.Kind.{Kind}
 use Rattle.operations.specs.declared.units.Kind.TheVariants as kind
-use Rattle.micro_image.specs.Bits.{bits, bits_less_1, signed_bits, raw_bits, choice_width, first_opcode, choice_bits}
-use Rattle.micro_image.specs.Codes.{kind_number, mode_number}
-use Rattle.micro_image.specs.Operations.{kind_of, opcode}
+use Rattle.micro_image.specs.Bits.{bits, bits_less_1, signed_bits, raw_bits, place_bits}
+use Rattle.micro_image.specs.Codes.{kind_number, mode_number, operations_of, place_of, place_width}
+use Rattle.micro_image.specs.Operations.{kind_of}
 use Rattle.micro_image.specs.Valid.{IsWithin, IsBelow}
+use Rattle.micro_image.proofs.Places.{operation_only, once_placed, places_held}
+use Rattle.micro_image.proofs.Tables.{Placed, only_placed}
 use Rattle.micro_bits.proofs.Bits.{IsDigits, bits_back, bits_mod, number_below, number_bits}
-use Rattle.micro_bits.proofs.Length.{length-bits}
+use Rattle.micro_image.proofs.Length.{length-bits}
 use Rattle.micro_bits.specs.Numbers.{number_of, some_at, numbered}
 use Rattle.micro_bits.specs.declared.fault.BitFault.TheVariants as fault
 use Rattle.micro_file.specs.Bits.{unless_short, number_at, number_less_1_at, number_upto, number_below as below_at}
-use Rattle.micro_file.specs.Bits.{number_less_1_upto, entry_at, as_raw_word, raw_word_at, operations_of, operation_at}
+use Rattle.micro_file.specs.Bits.{number_less_1_upto, entry_at, as_raw_word, raw_word_at, operation_at}
 use Rattle.micro_file.specs.Bits.{as_argument}
 use Rattle.micro_file.specs.Fields.{Reading, ◌>>=◌, found, element}
 use Rattle.micro_file.specs.Tables.{kinds, modes}
@@ -220,34 +221,6 @@ entry_reader {A} Allowed w table place is = record {
       (Ok (x, rest)) (number_again w (place x) rest (is.fits x ok)) (rw (is.there x ok) refl);
 }
 
--- each element of a table, from this place on, is allowed and at its place
-abbrev Placed : {A : Type 0} → (A → Type 0) → (A → ℕ) → ℕ → List A → Type 0
-Placed Allowed place first [] = Unit {0}
-Placed Allowed place first (x ∷ xs) = ((place x ≡ first) × Allowed x) × Placed Allowed place (suc first) xs
-
--- an element of such a table is allowed, and at its place
-placed_only : {A : Type 0} (Allowed : A → Type 0) (place : A → ℕ) (first : ℕ) (table : List A)
-    → Placed Allowed place first table
-    → (k : ℕ) (x : A)
-    → slice_get table k ≡ Some x
-    → (place x ≡ first + k) × Allowed x
-placed_only Allowed place first [] h k x e = absurd cc
-placed_only {A} Allowed place first (y ∷ ys) h zero x e =
-    let same : y ≡ x = cc in
-    subst (λ (z : A). (place z ≡ first + 0) × Allowed z) same ((omega (arith, h.0.0), h.0.1))
-placed_only Allowed place first (y ∷ ys) h (suc k) x e =
-    let more = placed_only Allowed place (suc first) ys h.1 k x e in
-    (omega (arith, more.0), more.1)
-
--- the same of a whole table
-only_placed : {A : Type 0} (Allowed : A → Type 0) (place : A → ℕ) (table : List A)
-    → Placed Allowed place 0 table
-    → (k : ℕ) (x : A)
-    → slice_get table k ≡ Some x
-    → (place x ≡ k) × Allowed x
-only_placed Allowed place table h k x e =
-    let all = placed_only Allowed place 0 table h k x e in (omega (arith, all.0), all.1)
-
 -- each kind is in the table, and three bits hold its place
 kind_there : (x : Kind) → (slice_get kinds (kind_number x) ≡ Some x) × (kind_number x < 2 ^ 3)
 kind_there kind.Input = (refl, omega arith)
@@ -313,54 +286,12 @@ unroll_reader = entry_reader IsUnroll 2 factors (λ n. n / 2) (record {
   only = λ k x e. only_placed IsUnroll (λ n. n / 2) factors factors_placed k x e;
 })
 
--- the place of an operation among its kind's
-abbrev choice_place : Op → ℕ
-choice_place o = opcode o - first_opcode (kind_of o)
-
--- each operation is in its kind's table, and the bits of a choice hold its place
-operation_there : (o : Op)
-    → (slice_get (operations_of (kind_of o)) (choice_place o) ≡ Some o)
-    × (choice_place o < 2 ^ choice_width (kind_of o))
-operation_there op.Input = (refl, omega arith)
-operation_there op.Output = (refl, omega arith)
-operation_there op.Const = (refl, omega arith)
-operation_there op.Add = (refl, omega arith)
-operation_there op.Sub = (refl, omega arith)
-operation_there op.Neg = (refl, omega arith)
-operation_there op.Pass = (refl, omega arith)
-operation_there op.Lt = (refl, omega arith)
-operation_there op.Le = (refl, omega arith)
-operation_there op.Eq = (refl, omega arith)
-operation_there op.Ne = (refl, omega arith)
-operation_there op.And = (refl, omega arith)
-operation_there op.Or = (refl, omega arith)
-operation_there op.Not = (refl, omega arith)
-operation_there op.Mul = (refl, omega arith)
-operation_there op.Sel = (refl, omega arith)
-operation_there op.Load = (refl, omega arith)
-operation_there op.Store = (refl, omega arith)
-operation_there op.Addr = (refl, omega arith)
-
--- at its place, and of its kind
-own : {n : ℕ} {k : Kind} → (n ≡ n) × (k ≡ k)
-own = (refl, refl)
-
-operations_placed : (k : Kind) → Placed (λ o. kind_of o ≡ k) choice_place 0 (operations_of k)
-operations_placed kind.Input = (own, tt)
-operations_placed kind.Output = (own, tt)
-operations_placed kind.Rom = (own, tt)
-operations_placed kind.Alu = (own, (own, (own, (own, (own, (own, (own, (own, (own, (own, (own, tt)))))))))))
-operations_placed kind.Mul = (own, tt)
-operations_placed kind.Sel = (own, tt)
-operations_placed kind.Ram = (own, (own, tt))
-operations_placed kind.Acu = (own, tt)
-
 -- the operations of a kind are a table
-operation_table : (k : Kind) → IsTable (λ o. kind_of o ≡ k) (choice_width k) (operations_of k) choice_place
+operation_table : (k : Kind) → IsTable (λ o. kind_of o ≡ k) (place_width k) (operations_of k) place_of
 operation_table k = record {
-  there = λ o is. subst (λ (j : Kind). slice_get (operations_of j) (choice_place o) ≡ Some o) is (operation_there o).0;
-  fits = λ o is. subst (λ (j : Kind). choice_place o < 2 ^ choice_width j) is (operation_there o).1;
-  only = λ n o e. only_placed (λ o. kind_of o ≡ k) choice_place (operations_of k) (operations_placed k) n o e;
+  there = λ o is. (once_placed o k (place_of o)).1 (is, refl);
+  fits = λ o is. subst (λ (j : Kind). place_of o < 2 ^ place_width j) is (places_held o);
+  only = λ n o e. operation_only k n o e;
 }
 
 -- the same reader, where an allowed value is spelled the same
@@ -375,12 +306,12 @@ spelled_where same reader = record {
 }
 
 -- an operation of the kind is spelled by its place
-choice_bits_are : (k : Kind) (o : Op) → kind_of o ≡ k → bits (choice_width k) (choice_place o) ≡ choice_bits o
-unfolding choice_bits
-choice_bits_are k o is = ap (λ (j : Kind). bits (choice_width j) (choice_place o)) (sym is)
+place_bits_are : (k : Kind) (o : Op) → kind_of o ≡ k → bits (place_width k) (place_of o) ≡ place_bits o
+unfolding place_bits
+place_bits_are k o is = ap (λ (j : Kind). bits (place_width j) (place_of o)) (sym is)
 
 -- an operation of a kind
-pub operation_reader : (k : Kind) → IsReader bit_values (λ o. kind_of o ≡ k) choice_bits (operation_at k)
+pub operation_reader : (k : Kind) → IsReader bit_values (λ o. kind_of o ≡ k) place_bits (operation_at k)
 operation_reader k =
-    spelled_where (choice_bits_are k)
-    (entry_reader (λ o. kind_of o ≡ k) (choice_width k) (operations_of k) choice_place (operation_table k))
+    spelled_where (place_bits_are k)
+    (entry_reader (λ o. kind_of o ≡ k) (place_width k) (operations_of k) place_of (operation_table k))

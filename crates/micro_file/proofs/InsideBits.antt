@@ -6,7 +6,8 @@ use Rattle.std.proofs.lemmas.Bool.Decides.{nat_tests}
 use Rattle.std.proofs.lemmas.List.{length-drop}
 use Rattle.fix_word.specs.declared.operation.Op.{Op}
 use Rattle.operations.specs.declared.units.Kind.{Kind}
-use Rattle.micro_image.specs.Bits.{are_zeros, choice_width}
+use Rattle.micro_image.specs.Bits.{are_zeros}
+use Rattle.micro_image.specs.Codes.{place_width, operations_of}
 use Rattle.micro_image.specs.Fields.{nth}
 use Rattle.micro_image.specs.Operations.{Argument, nothing, input_word, output_word, raw_word, offset, operation}
 use Rattle.micro_image.specs.Operations.{is_formatted}
@@ -17,7 +18,7 @@ use Rattle.micro_file.specs.Tables.{kinds, modes}
 use Rattle.micro_file.specs.Fields.{Reading, ◌>>=◌, kept, found, element, many_at}
 use Rattle.micro_file.specs.Bits.{unless_short, at_bits, number_at, number_less_1_at, number_upto, number_below}
 use Rattle.micro_file.specs.Bits.{number_less_1_upto}
-use Rattle.micro_file.specs.Bits.{entry_at, as_raw_word, raw_word_at, some_words_at, preload_at, operations_of}
+use Rattle.micro_file.specs.Bits.{entry_at, as_raw_word, raw_word_at, some_words_at, preload_at}
 use Rattle.micro_file.specs.Bits.{operation_at}
 use Rattle.micro_file.specs.Bits.{some_format_at, no_format, format_at, as_argument, argument_at, register_at}
 use Rattle.micro_file.specs.Bits.{registers_at}
@@ -100,7 +101,7 @@ preload_in count bits =
     flag_in bits (replicate count (pos 0)) (some_words_at count bits) (λ rest le. some_words_in count bits rest le)
 
 operation_in : (k : Kind) (bits : List ℕ) → IsInside (length bits) (operation_at k bits)
-operation_in k bits = entry_in (choice_width k) (operations_of k) bits
+operation_in k bits = entry_in (place_width k) (operations_of k) bits
 
 some_format_in : (bits : List ℕ) → IsInside (length bits) (some_format_at bits)
 unfolding some_format_at

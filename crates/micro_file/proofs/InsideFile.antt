@@ -3,7 +3,7 @@ use Rattle.std.proofs.Common.{◌≡◌, ℕ, ◌*◌, ◌%◌, ◌≤◌, Bool,
 use Rattle.std.proofs.Common.{Result, Ok, Err, subst, arith}
 use Rattle.std.specs.List.{list_all}
 use Rattle.std.proofs.lemmas.List.{length-drop}
-use Rattle.micro_bits.proofs.Length.{length-bits_of}
+use Rattle.micro_image.proofs.Length.{length-bits_of}
 use Rattle.micro_image.specs.declared.image.Image.{Image}
 use Rattle.micro_image.specs.declared.version.Version.{Version}
 use Rattle.micro_image.specs.declared.version.Version.TheVariants.{One, Two}

@@ -2,12 +2,11 @@
 use Rattle.std.specs.Prelude.{ℕ, ◌+◌, ◌-◌, ◌^◌, ◌==◌, List, [], ◌∷◌, ◌++◌, length, Result, Ok, Err, nat_lt}
 use Rattle.std.specs.Prelude.{nat_le, not, if◌then◌else◌, ℤ, pos, ◌-ℤ◌, replicate}
 use Rattle.fix_word.specs.declared.operation.Op.{Op}
-use Rattle.fix_word.specs.declared.operation.Op.TheVariants as op
 use Rattle.fix_word.specs.declared.types.Format.{Format}
 use Rattle.fix_word.specs.declared.types.Mode.TheVariants.{Trunc}
 use Rattle.operations.specs.declared.units.Kind.{Kind}
-use Rattle.operations.specs.declared.units.Kind.TheVariants as kind
-use Rattle.micro_image.specs.Bits.{are_zeros, choice_width}
+use Rattle.micro_image.specs.Bits.{are_zeros}
+use Rattle.micro_image.specs.Codes.{place_width, operations_of}
 use Rattle.micro_image.specs.Fields.{nth}
 use Rattle.micro_image.specs.Operations.{Argument, nothing, input_word, output_word, raw_word, offset, operation}
 use Rattle.micro_image.specs.Operations.{is_formatted}
@@ -67,21 +66,9 @@ preload_at count bits =
     number_at 1 bits >>= λ flag.
     if flag.0 == 0 then Ok (replicate count (pos 0), flag.1) else some_words_at count bits flag.1
 
--- the operations of a kind, in the order of their codes
-abbrev pub operations_of : Kind → List Op
-operations_of kind.Input = op.Input ∷ []
-operations_of kind.Output = op.Output ∷ []
-operations_of kind.Rom = op.Const ∷ []
-operations_of kind.Alu =
-    op.Add ∷ op.Sub ∷ op.Neg ∷ op.Pass ∷ op.Lt ∷ op.Le ∷ op.Eq ∷ op.Ne ∷ op.And ∷ op.Or ∷ op.Not ∷ []
-operations_of kind.Mul = op.Mul ∷ []
-operations_of kind.Sel = op.Sel ∷ []
-operations_of kind.Ram = op.Load ∷ op.Store ∷ []
-operations_of kind.Acu = op.Addr ∷ []
-
 -- an operation of the kind
 abbrev pub operation_at : Kind → List ℕ → Reading Op
-operation_at kind = entry_at (choice_width kind) (operations_of kind)
+operation_at kind = entry_at (place_width kind) (operations_of kind)
 
 -- the shift plus 40, the mode, the width less 1
 unfoldable pub some_format_at : List ℕ → Reading Format

@@ -8,8 +8,7 @@ use Rattle.micro_file.specs.declared.misread.Misread.TheVariants.{Magic, Version
 use Rattle.micro_file.specs.File.{whole_at}
 
 -- what was misread, with its place in a file of so many bytes: the byte in which a field that is not allowed begins,
--- the
--- first byte behind the last field, or where a file that is too short ends
+-- the first byte behind the last field, or where a file that is too short ends
 abbrev pub placed : ℕ → Misread → FormFault
 placed size Magic = form.Magic
 placed size Version = form.Version

@@ -1,6 +1,5 @@
 -- Fields that are read. Each is read from the front of what is left, bytes or bits, and judged when it is whole: it is
--- a
--- value and what is left behind it, or why there is none.
+-- a value and what is left behind it, or why there is none.
 use Rattle.std.specs.Prelude.{ℕ, zero, suc, ◌+◌, ◌-◌, ◌^◌, List, [], ◌∷◌, ◌++◌, length, Option, Some, None, Result, Ok}
 use Rattle.std.specs.Prelude.{Err}
 use Rattle.std.specs.Prelude.{Bool, ◌&&◌, if◌then◌else◌, ℤ, pos, neg_ℤ, int_le, int_lt, slice_get}

@@ -1,9 +1,10 @@
 //! The fields of a microcode file of version 2, which are read from packed bits.
-ghost use Rattle.std.specs.Prelude.{◌≡◌, ◌<◌, ◌≤◌, ◌^◌, [], ◌∷◌, length, replicate, slice_get, IfOk, pos};
-ghost use Rattle.micro_image.specs.Bits.{choice_width};
+ghost use Rattle.std.specs.Prelude.{◌≡◌, ◌<◌, ◌≤◌, ◌^◌, [], ◌∷◌, length, replicate, IfOk, pos};
 ghost use Rattle.micro_image.specs.Fields.{nth};
 ghost use Rattle.micro_image.specs.Operations.{operation};
-ghost use Rattle.micro_file.specs.Bits.{number_at, number_less_1_at, number_upto, number_below, number_less_1_upto, entry_at, as_raw_word, raw_word_at, preload_at, operations_of, some_format_at, format_at, argument_at, register_at, registers_at};
+ghost use Rattle.micro_file.specs.Bits.{number_at, number_less_1_at, number_upto, number_below, number_less_1_upto};
+ghost use Rattle.micro_file.specs.Bits.{entry_at, as_raw_word, raw_word_at, preload_at, operation_at, some_format_at};
+ghost use Rattle.micro_file.specs.Bits.{format_at, argument_at, register_at, registers_at};
 ghost use Rattle.micro_file.specs.Fields.{many_at};
 ghost use Rattle.micro_file.specs.Private.Reads.{Reads};
 ghost use Rattle.micro_file.specs.Tables.{kinds, modes};
@@ -17,8 +18,8 @@ use micro_bits::widths::{
     BUS, CELLS, CHANNELS, CYCLES, FLAG, KIND, MODE, OFFSET, PERIOD, RAW_WORD, REGISTER, SHIFT,
     UNIT, UNROLL, WIDTH, WORD_NUMBER,
 };
-use micro_bits::{BitFault, BitReader, are_zeros, choice_width_of};
-use micro_image::{Kind, PortRegisters, is_formatted};
+use micro_bits::{BitFault, BitReader, are_zeros};
+use micro_image::{Kind, PortRegisters, is_formatted, operations_of, place_width_of};
 use std::alloc::{AllocError, Global};
 
 /// The greatest width.
@@ -35,21 +36,6 @@ const HALF_RANGE: u64 = 1 << (RAW_WORD - 1);
 
 /// How many raw words there are.
 const RANGE: i64 = 1 << RAW_WORD;
-
-/// The operations of an alu.
-const ALU_OPERATIONS: [Op; 11] = [
-    Op::Add,
-    Op::Sub,
-    Op::Neg,
-    Op::Pass,
-    Op::Lt,
-    Op::Le,
-    Op::Eq,
-    Op::Ne,
-    Op::And,
-    Op::Or,
-    Op::Not,
-];
 
 /// A number of so many bits.
 #[inline]
@@ -188,33 +174,14 @@ fn read_preload(
     }
 }
 
-/// The operation at this place among the kind's.
-#[inline]
-fn operation_of(kind: Kind, place: usize) -> Option<Op>
-    ensures { result ≡ slice_get (operations_of kind) place }
-{
-    match (kind, place) {
-        (Kind::Input, 0) => Some(Op::Input),
-        (Kind::Output, 0) => Some(Op::Output),
-        (Kind::Rom, 0) => Some(Op::Const),
-        (Kind::Mul, 0) => Some(Op::Mul),
-        (Kind::Sel, 0) => Some(Op::Sel),
-        (Kind::Ram, 0) => Some(Op::Load),
-        (Kind::Ram, 1) => Some(Op::Store),
-        (Kind::Acu, 0) => Some(Op::Addr),
-        (Kind::Alu, _) => ALU_OPERATIONS.get(place).copied(),
-        _ => None,
-    }
-}
-
 #[inline]
 fn read_operation(kind: Kind, reader: &mut BitReader<'_>) -> Result<Op, Unread>
-    ensures { Reads (entry_at (choice_width kind) (operations_of kind)) reader.old result reader.new }
+    ensures { Reads (operation_at kind) reader.old result reader.new }
 {
     let left = reader.count();
-    let place = number(reader, choice_width_of(kind))?;
-    match operation_of(kind, place as usize) {
-        Some(op) => Ok(op),
+    let place = number(reader, place_width_of(kind))?;
+    match operations_of(kind).get(place as usize) {
+        Some(op) => Ok(*op),
         None => Err(refused(left)),
     }
 }

@@ -145,8 +145,8 @@ fn fault_at(misread: Misread, size: usize) -> FormFault
     }
 }
 
-/// The image that the bytes spell in either version. Where they spell none, the fault is the first in reading order. `Memory` says that
-/// no memory was left.
+/// The image that the bytes spell in either version. Where they spell none, the fault is the first in reading order.
+/// `Memory` says that no memory was left.
 pub fn decode(alloc: Global, bytes: &[u8]) -> Result<Image, FormFault>
     requires { length bytes.now < 2 ^ 32 }
     ensures spelled { IfOk result (λ image. Spells bytes.now image) }

@@ -1,4 +1,6 @@
 pub mod Lists
+pub mod Tables
+pub mod Places
 pub mod Each
 pub mod LogLaws
 pub mod Newest
@@ -14,3 +16,5 @@ pub mod Echo
 pub mod EchoConflicts
 pub mod IncrementValid
 pub mod Counts
+pub mod Length
+pub mod ByteLength

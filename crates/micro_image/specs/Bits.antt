@@ -7,19 +7,17 @@ use Rattle.std.specs.List.{flat_map, filter, list_all, range_with_len}
 use Rattle.std.specs.Ordering.{int_eq}
 use Rattle.fix_word.specs.declared.operation.Op.{Op}
 use Rattle.fix_word.specs.declared.types.Format.{Format}
-use Rattle.operations.specs.declared.units.Kind.{Kind}
-use Rattle.operations.specs.declared.units.Kind.TheVariants as kind
 use Rattle.micro_image.specs.declared.image.Enable.{Enable}
 use Rattle.micro_image.specs.declared.image.Image.{Image}
 use Rattle.micro_image.specs.declared.image.Issue.{Issue}
 use Rattle.micro_image.specs.declared.image.Take.{Take}
 use Rattle.micro_image.specs.declared.image.UnitDesc.{UnitDesc}
 use Rattle.micro_image.specs.declared.image.Word.{Word}
-use Rattle.micro_image.specs.Codes.{kind_number, mode_number}
+use Rattle.micro_image.specs.Codes.{kind_number, mode_number, place_width, place_of}
 use Rattle.micro_image.specs.Fields.{nth, no_unit}
 use Rattle.micro_image.specs.Form.{Form, spelled_operation, spelled_hardware}
 use Rattle.micro_image.specs.Operations.{Argument, nothing, input_word, output_word, raw_word, offset, operation}
-use Rattle.micro_image.specs.Operations.{opcode, kind_of, reads, is_formatted}
+use Rattle.micro_image.specs.Operations.{kind_of, reads, is_formatted}
 
 -- the lowest bits of a number, so many
 unfoldable pub bits : ℕ → ℕ → List ℕ
@@ -45,26 +43,9 @@ are_zeros = list_all (λ z. int_eq z (pos 0))
 unfoldable pub preload_bits : List ℤ → List ℕ
 preload_bits words = if are_zeros words then 0 ∷ [] else (1 ∷ flat_map raw_bits words)
 
--- how many bits say which of its kind's operations an issue has
-abbrev pub choice_width : Kind → ℕ
-choice_width kind.Alu = 4
-choice_width kind.Ram = 1
-choice_width _ = 0
-
--- the opcode of the first operation of a kind
-abbrev pub first_opcode : Kind → ℕ
-first_opcode kind.Input = 0
-first_opcode kind.Output = 1
-first_opcode kind.Rom = 2
-first_opcode kind.Alu = 3
-first_opcode kind.Mul = 14
-first_opcode kind.Sel = 15
-first_opcode kind.Ram = 16
-first_opcode kind.Acu = 18
-
 -- the place of an operation among its kind's
-unfoldable pub choice_bits : Op → List ℕ
-choice_bits op = bits (choice_width (kind_of op)) (opcode op - first_opcode (kind_of op))
+unfoldable pub place_bits : Op → List ℕ
+place_bits op = bits (place_width (kind_of op)) (place_of op)
 
 -- the shift plus 40, the mode, the width less 1
 unfoldable pub format_bits : Format → List ℕ
@@ -92,7 +73,7 @@ in_bits = record {
   initial = preload_bits;
   ram = bits 5;
   buses = bits_less_1 5;
-  operation = choice_bits;
+  operation = place_bits;
   format = λ op fmt. if is_formatted op then format_bits fmt else [];
   argument = λ op. argument_bits (operation op).argument;
   named = λ op regs. flat_map (bits 8) (take (reads op) regs);

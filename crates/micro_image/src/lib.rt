@@ -5,10 +5,12 @@
 //! `Spells`.
 #![tactic(auto)]
 
+mod codes;
 mod conflict;
 mod image;
 mod version;
 
+pub use codes::{operations_have_places, operations_of, place_of, place_width_of};
 pub use conflict::{Conflict, ConflictKind};
 pub use image::{Enable, Enables, Image, Issue, PortRegisters, Take, Takes, UnitDesc, Word};
 pub use operations::{Kind, PortRef, is_formatted, reads};

@@ -10,15 +10,18 @@ use Rattle.plan_core.specs.IsPlan.{IsPlan}
 use Rattle.plan_core.specs.Lowered.{Origin, own, address, store, load, IsNumber, IsOwn, IsAddress, IsStore, IsLoad}
 use Rattle.plan_core.specs.declared.plan.Plan.{Plan}
 use Rattle.micro_image.specs.declared.image.Image.{Image}
+use Rattle.micro_image.specs.Size.{IsShort}
 use Rattle.micro_image.specs.Valid.{IsValid}
 use Rattle.plan_soundness.specs.ImageOf.{IsImageOf}
+use Rattle.plan_soundness.specs.Instances.{FindsInstances}
 use Rattle.plan_soundness.specs.Machine.{IsMachine}
 use Rattle.plan_soundness.specs.Parts.{nodes_of, node_at}
 use Rattle.plan_soundness.specs.Run.{RunsSolution}
 use Rattle.plan_soundness.specs.Feasible.{IsFeasiblePlan}
 use Rattle.plan_soundness.proofs.FromLowered.{made_at, made_as, own_below, graph_node}
+use Rattle.plan_soundness.proofs.Instances.{finds_instances}
 use Rattle.plan_soundness.proofs.RunsSolution.{plan_feasible, image_runs_solution}
-use Rattle.plan_soundness.proofs.Valid.{image_valid}
+use Rattle.plan_soundness.proofs.Valid.{image_valid, image_short}
 use Rattle.microcode_asm.specs.Planned.{IsPlanned}
 use Rattle.microcode_asm.specs.Private.Ready.{IsReady, samples_of}
 
@@ -86,6 +89,15 @@ pub planned_valid : (d : Datapath) (p : Plan) (image : Image)
 planned_valid d p image path planned of =
     image_valid planned.graph d p image planned.sound (machine_of d path) planned.plan of
 
+-- what spells it is short
+pub planned_short : (d : Datapath) (p : Plan) (image : Image)
+    → IsDatapath d
+    → IsPlanned d p
+    → IsImageOf d p image
+    → IsShort image
+planned_short d p image path planned of =
+    image_short planned.graph d p image planned.sound (machine_of d path) planned.plan of
+
 -- and it runs the solution of the graph
 pub planned_runs : (g : Graph) (d : Datapath) (p : Plan) (image : Image)
     → IsDatapath d
@@ -94,3 +106,12 @@ pub planned_runs : (g : Graph) (d : Datapath) (p : Plan) (image : Image)
     → IsImageOf d p image
     → RunsSolution g image
 planned_runs g d p image path sound plan of = image_runs_solution g d p image sound (machine_of d path) plan of
+
+-- and each read of it finds its instance
+pub planned_finds : (g : Graph) (d : Datapath) (p : Plan) (image : Image)
+    → IsDatapath d
+    → IsGraph g
+    → (plan : IsPlan g d p)
+    → IsImageOf d p image
+    → FindsInstances plan image
+planned_finds g d p image path sound plan of = finds_instances g d p image sound (machine_of d path) plan of

@@ -429,7 +429,7 @@ module _ (d : Datapath) (p : Plan) (ready : IsReady d p) where
         are
         ∙ ap (λ (node : Node). node.inits)
         (read_at (nodes_of p) line.node node no_node
-        (subst (λ (line : Line). line.node < length (nodes_of p)) (sym at) (feasible.lines l in-l).node) node-is
+        (subst (λ (line : Line). line.node < length (nodes_of p)) (sym at) (feasible.memory.lines l in-l).node) node-is
         ∙ ap (λ (line : Line). node_at p line.node) at)
 
     -- the next initial value is put into its cell
@@ -483,7 +483,7 @@ module _ (d : Datapath) (p : Plan) (ready : IsReady d p) where
         word' : init.1 ≡ initial_of image (Cell line.ram (line.offset + number))
         word' =
             ap (λ (x : ℕ × ℤ). x.1) init'
-            ∙ sym (init_word (inits_of p l) m (ready.inits (line_at p l).node (feasible.lines l in-l).node)
+            ∙ sym (init_word (inits_of p l) m (ready.inits (line_at p l).node (feasible.memory.lines l in-l).node)
             (subst (λ (xs : List (ℕ × ℤ)). m < length xs) from in-m))
             ∙ ap (λ (x : ℕ × ℤ). word_before (inits_of p l) x.0) (sym init')
             ∙ sym (is.starts.cell line.ram (line.offset + number) l init.0 of-it)

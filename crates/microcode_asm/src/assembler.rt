@@ -5,8 +5,10 @@ ghost use Rattle.datapath.specs.Allowed.{IsDatapath};
 ghost use Rattle.signal_graph.specs.GraphRules.{IsGraph};
 ghost use Rattle.signal_graph.specs.declared.graph.Graph.{Graph};
 ghost use Rattle.plan_core.specs.IsPlan.{IsPlan};
+ghost use Rattle.micro_image.specs.Size.{IsShort};
 ghost use Rattle.micro_image.specs.Valid.{IsValid};
 ghost use Rattle.plan_soundness.specs.ImageOf.{IsImageOf, width_of as width_in_file};
+ghost use Rattle.plan_soundness.specs.Instances.{FindsInstances};
 ghost use Rattle.plan_soundness.specs.Run.{RunsSolution};
 ghost use Rattle.microcode_asm.specs.Planned.{IsPlanned};
 ghost use Rattle.microcode_asm.specs.Private.Ready.{IsReady};
@@ -67,8 +69,11 @@ pub fn assemble(alloc: Global, plan: &Plan, datapath: &Datapath) -> Result<Image
     requires plan { IsPlanned datapath.now plan.now }
     ensures image { IfOk result (IsImageOf datapath.now plan.now) }
     ensures valid { IfOk result IsValid }
+    ensures short { IfOk result IsShort }
     // The image runs the solution.
     ensures runs { (g : Graph) → IsGraph g → IsPlan g datapath.now plan.now → IfOk result (RunsSolution g) }
+    // Each read finds its instance.
+    ensures finds { (g : Graph) → IsGraph g → (of : IsPlan g datapath.now plan.now) → IfOk result (FindsInstances of) }
 {
     image_of(alloc, plan, datapath)
 }

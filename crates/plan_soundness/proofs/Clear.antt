@@ -260,7 +260,7 @@ module _ {o : Overlap} (d : Datapath) (p : Plan) (words : Counted) (plan : IsFea
 
   some_cells : (l : ℕ) → l < length p.assigned.lowered.lines → 0 < cells_on d (line_at p l).ram
   some_cells l in-l =
-      omega (arith, (plan.lines l in-l).room)
+      omega (arith, (plan.memory.lines l in-l).room)
 
   no_outside : (t u : ℕ) (issue : Issue)
       → t < length stream * d.period
@@ -284,13 +284,13 @@ module _ {o : Overlap} (d : Datapath) (p : Plan) (words : Counted) (plan : IsFea
       ⊎_elim
       (λ (o : issue.op ≡ op.Load).
       let e : (node_at p v).op ≡ op.Load = sym is.op ∙ o in
-      let l = plan.loads v as'.there e in
+      let l = plan.memory.loads v as'.there e in
       let loads : LoadsFrom d p v l.0 l.1 = l.2 in
       address_inside t v n (line_at p l.0).ram ((line_at p l.0).offset + l.1) issue as'.there in-n (omega arith) as'.at
       is (some_edges v op.Load as'.there e (omega arith)) loads.address loads.unit (some_cells l.0 loads.there) out')
       (λ (o : issue.op ≡ op.Store).
       let e : (node_at p v).op ≡ op.Store = sym is.op ∙ o in
-      let l = plan.stores v as'.there e in
+      let l = plan.memory.stores v as'.there e in
       let stores : StoresTo d p v l.0 = l.1 in
       address_inside t v n (line_at p l.0).ram (line_at p l.0).offset issue as'.there in-n (omega arith) as'.at is
       (some_edges v op.Store as'.there e (omega arith)) stores.address stores.unit (some_cells l.0 stores.there) out')

@@ -139,9 +139,9 @@ module _ {o : Overlap} (d : Datapath) (p : Plan) (words : Counted) (plan : IsFea
       → n < length stream
       → RightAt t
       → t ≡ n * d.period + ends_at d p (store_of (line_at p l))
-      → IsWritten t (place_of o d p words (stored_at l n (plan.lines l there).stores.there))
+      → IsWritten t (place_of o d p words (stored_at l n (plan.memory.lines l there).stores.there))
   write_cell l n t in-l in-n right at =
-      let line : IsFeasibleLine o d p l = plan.lines l in-l in
+      let line : IsFeasibleLine o d p l = plan.memory.lines l in-l in
       let v : ℕ = store_of (line_at p l) in
       let in-v : v < length (nodes_of p) = line.store in
       let issue : Issue = (runs.issue v n in-v).0 in

@@ -279,11 +279,8 @@ module _ (o : Overlap) (d : Datapath) (p : Plan) where
         read = λ v q in-v in-q. let by = (read v in-v q in-q).0 in (by.0, by.2);
         read_in = λ v q k in-v through. (read v in-v q through.reads.port).1 k through.there through;
         registers = λ j k a b in-j in-k in-a in-b port same. (file j in-j k in-k port).1 a in-a b in-b same;
-        lines = memory.lines;
-        lines_apart = memory.lines_apart;
-        loads = memory.loads;
+        memory = memory;
         load_in = load_in;
-        stores = memory.stores;
       }
     where
       transfer_at : (v : ℕ) (t : Transfer)

@@ -521,10 +521,7 @@ module _ (d : Datapath) (p : Plan) (lowered : IsSoundLowered d p)
       omega (arith, upto v q k through),
     );
     registers = registers;
-    lines = lines.lines;
-    lines_apart = lines.lines_apart;
-    loads = lines.loads;
+    memory = lines;
     load_in = λ v l ago in-v _ from.
         omega (arith, ends_before d p gaps fits _ ago (lines.lines l from.there).store from.before);
-    stores = lines.stores;
   }

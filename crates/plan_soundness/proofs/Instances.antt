@@ -1,4 +1,5 @@
--- Each read finds its instance: the newest write below a read is that of the word that it wants.
+-- Each read finds its instance: the newest write below a read is that of the word that it wants, which is what the
+-- register holds.
 use Rattle.std.proofs.Common.{◌≡◌, ℕ, suc, ◌+◌, ◌-◌, ◌*◌, ◌<◌, ◌≤◌, nat_lt, refl, sym, ap, ◌∙◌, arith, ⊎_elim, List, []}
 use Rattle.std.proofs.Common.{◌++◌, length, Option, Some, None, Bool, true, false, if◌then◌else◌, subst, ◌⊎◌, inl, inr}
 use Rattle.std.proofs.Math.Nat.{add-mul, mul-le-mul_right}
@@ -6,13 +7,17 @@ use Rattle.std.proofs.lemmas.Bool.{cases_lt}
 use Rattle.lists.specs.Rows.{Rows}
 use Rattle.datapath.specs.declared.types.Datapath.{Datapath}
 use Rattle.signal_graph.specs.GraphRules.{IsGraph}
+use Rattle.signal_graph.specs.GraphSolves.{GraphSolves}
+use Rattle.signal_graph.specs.Values.{Words, operand, operand_words}
 use Rattle.signal_graph.specs.declared.graph.Graph.{Graph}
 use Rattle.plan_core.specs.IsPlan.{IsPlan}
+use Rattle.plan_core.specs.Lowered.{own, IsNumber}
+use Rattle.plan_core.specs.Operands.{node_of}
 use Rattle.plan_core.specs.declared.plan.Plan.{Plan}
 use Rattle.micro_image.specs.declared.image.Issue.{Issue}
 use Rattle.micro_image.specs.declared.image.Image.{Image}
 use Rattle.micro_image.specs.Fields.{Microprogram, microprogram_of, nth, issue_at}
-use Rattle.micro_image.specs.Log.{Place, Entry, same_place, stamp_le, newest, Log, entries_by}
+use Rattle.micro_image.specs.Log.{Place, Entry, same_place, stamp_le, newest, Log, Content, entries_by}
 use Rattle.micro_image.specs.Run.{spread}
 use Rattle.micro_image.proofs.Each.{In, In-append_left, In-append_right, In-append_cases, Each, Each-at, Each-then}
 use Rattle.micro_image.proofs.LogLaws.{IsOfCycle, IsBefore, IsElsewhere, entries-of_cycle, Log-before}
@@ -20,7 +25,7 @@ use Rattle.micro_image.proofs.Newest.{is_of, IsNewest, unwritten, greatest, newe
 use Rattle.plan_soundness.specs.Parts.{nodes_of, node_at, edge_at, unit_at, cycle_at, arc_at, ends_at}
 use Rattle.plan_soundness.specs.Machine.{IsMachine}
 use Rattle.plan_soundness.specs.ImageOf.{IsImageOf}
-use Rattle.plan_soundness.specs.Instances.{found_write, IsInstance, FindsInstances}
+use Rattle.plan_soundness.specs.Instances.{named, IsInstance, EachFindsInstance, FindsInstances}
 use Rattle.plan_soundness.specs.Samples.{past}
 use Rattle.plan_soundness.specs.Overlap.{Overlap, shift_of}
 use Rattle.plan_soundness.specs.Private.Solution.{Counted, LoweredSolves}
@@ -29,9 +34,10 @@ use Rattle.plan_soundness.specs.Executes.{ExecutesOver, IsIssueIn}
 use Rattle.plan_soundness.proofs.Contents.{all_right, is_written}
 use Rattle.plan_soundness.proofs.FromImage.{executes}
 use Rattle.plan_soundness.proofs.LiveWords.{LiveWord, in_register, place_of, written_at, wanted_to, words_apart, lives}
-use Rattle.plan_soundness.proofs.LoweredSolution.{lowered_words, lowered_solves}
+use Rattle.plan_soundness.proofs.FromLowered.{own_count}
+use Rattle.plan_soundness.proofs.LoweredSolution.{lowered_words, lowered_solves, operand_is}
 use Rattle.plan_soundness.proofs.Ordinary.{in_period}
-use Rattle.plan_soundness.proofs.ReadsRight.{place_read}
+use Rattle.plan_soundness.proofs.ReadsRight.{place_read, reads}
 use Rattle.plan_soundness.proofs.RunsSolution.{plan_feasible}
 use Rattle.plan_soundness.proofs.Samples.{one_more}
 use Rattle.plan_soundness.proofs.Slots.{Right, Keeps, right}
@@ -228,14 +234,14 @@ module _ {o : Overlap} (d : Datapath) (p : Plan) (words : Counted) (plan : IsFea
       by (Some e) (inl less) is = none_some e.cycle (is ∙ before_run w (past * d.period) (before less))
       by (Some e) (inr le) is = (le, same _ _ (is ∙ in_run w (past * d.period) _ (later le)))
 
-  -- each read finds its instance
+  -- the newest write of the register is that of the instance
   pub read_finds : (v q n : ℕ) (issue : Issue)
       → v < length (nodes_of p)
       → q < length (node_at p v).edges
       → n * d.period + cycle_at p v ≤ length stream * d.period
       → IsIssueIn d p micro v n issue
       → IsInstance d p (edge_at p v q).node n (edge_at p v q).delay
-      (found_write micro z (n * d.period + cycle_at p v) issue q)
+      (newest (named issue q) (n * d.period + cycle_at p v) (Log micro z (n * d.period + cycle_at p v)))
   read_finds v q n issue in-v in-q in-n is =
       let through = plan.read v q in-v in-q in
       let k : ℕ = through.0 in
@@ -254,7 +260,7 @@ module _ {o : Overlap} (d : Datapath) (p : Plan) (words : Counted) (plan : IsFea
       let written : (arc_at p k).w + shift_of d p k * d.period ≡ ends_at d p (arc_at p k).node =
       (plan.arcs k in-k).written in
       let node : (arc_at p k).node ≡ (edge_at p v q).node = sym through.1.reads.node in
-      instance_by (edge_at p v q).node n ago (found_write micro z t issue q)
+      instance_by (edge_at p v q).node n ago (newest (named issue q) t (Log micro z t))
       (written_at o d p words (in_register k m in-k from)) (omega (arith, small))
       (omega (arith, start, written, ap (ends_at d p) node))
       (λ early. omega (arith, start, written, plan.early k m in-k from early))
@@ -266,38 +272,72 @@ module _ {o : Overlap} (d : Datapath) (p : Plan) (words : Counted) (plan : IsFea
       back : (n ago : ℕ) → ago ≤ past → past + n ≡ past + n - ago + ago
       back n ago small = omega (arith, small)
 
--- in the image of a feasible plan each read finds its instance
-feasible_finds : (g : Graph) (d : Datapath) (p : Plan) (image : Image)
-    → IsGraph g
-    → IsFeasiblePlan g d p
-    → IsImageOf d p image
-    → FindsInstances g d p (microprogram_of image)
-feasible_finds g d p image sound plan of stream words v q n issue solves in-v in-q in-n at =
-    let runs = executes d p plan.feasible image of in
-    let its = runs.issue v n in-v in
-    let same : its.0 ≡ issue =
-    some_same its.0 issue (issue_at (microprogram_of image) (n * d.period + cycle_at p v) (unit_at p v)) its.1 at in
-    read_finds d p (lowered_words g d p sound plan.lowered plan.assigned stream words solves) plan.feasible
-    (microprogram_of image) (spread image.period stream) stream runs
-    (lowered_solves g d p sound plan.lowered plan.assigned stream words solves)
-    (sample_rows d (microprogram_of image) stream runs.period) v q n issue in-v in-q
-    (cycle_within n (in_period d p plan.feasible v in-v) in-n)
-    (subst (IsIssueIn d p (microprogram_of image) v n) same its.2)
-  where
-    cycle_within : (n : ℕ) {c : ℕ}
-        → c < d.period
-        → n < length stream
-        → n * d.period + c ≤ length stream * d.period
-    cycle_within n below in-n =
-        let last : (n + 1) * d.period ≤ length stream * d.period = mul-le-mul_right d.period (omega (arith, in-n)) in
-        omega (arith, last, one_more n d.period, below)
+module _ (g : Graph) (d : Datapath) (p : Plan) (image : Image) (sound : IsGraph g) (plan : IsFeasiblePlan g d p)
+    (of : IsImageOf d p image) where
+  abbrev delays : List (List ℕ)
+  delays = plan.lowered.delays
+
+  abbrev micro : Microprogram
+  micro = microprogram_of image
+
+  module _ (stream : Rows) (words : Words) (solves : GraphSolves g stream words) where
+    abbrev lowered : Counted
+    lowered = lowered_words g d p sound plan.lowered plan.assigned stream words solves
+
+    abbrev rows : Rows
+    rows = spread image.period stream
+
+    -- the register holds the word of the operand
+    word_found : (v q n : ℕ) (issue : Issue)
+        → v < length (nodes_of p)
+        → q < length (node_at p v).edges
+        → n * d.period + cycle_at p v ≤ length stream * d.period
+        → IsIssueIn d p micro v n issue
+        → (w : ℕ)
+        → IsNumber delays (own w) v
+        → Content micro rows (named issue q) (n * d.period + cycle_at p v)
+        ≡ operand (operand_words words n (node_of g.nodes w).edges) q
+    word_found v q n issue in-v in-q in-n is w number =
+        let runs = executes d p plan.feasible image of in
+        let solved = lowered_solves g d p sound plan.lowered plan.assigned stream words solves in
+        let all = sample_rows d micro stream runs.period in
+        reads d p lowered plan.feasible micro rows stream runs solved all (n * d.period + cycle_at p v) v n q issue
+        (all_right d p lowered plan.feasible micro rows stream runs solved all (n * d.period + cycle_at p v) in-n)
+        in-v in-q is (omega arith)
+        ∙ operand_is g d p sound plan.lowered plan.assigned stream words solves w v n q number
+        (omega (arith, in-q, own_count g d p sound plan.lowered plan.assigned w v number))
+
+  -- in the image of a feasible plan each read finds its instance
+  feasible_finds : EachFindsInstance g d p delays micro
+  feasible_finds stream words v q n issue solves in-v in-q in-n at =
+      let runs = executes d p plan.feasible image of in
+      let its = runs.issue v n in-v in
+      let same : its.0 ≡ issue =
+      some_same its.0 issue (issue_at micro (n * d.period + cycle_at p v) (unit_at p v)) its.1 at in
+      let is : IsIssueIn d p micro v n issue = subst (IsIssueIn d p micro v n) same its.2 in
+      let within : n * d.period + cycle_at p v ≤ length stream * d.period =
+      cycle_within n (in_period d p plan.feasible v in-v) in-n in
+      record {
+        write = read_finds d p (lowered stream words solves) plan.feasible micro (rows stream words solves) stream runs
+            (lowered_solves g d p sound plan.lowered plan.assigned stream words solves)
+            (sample_rows d micro stream runs.period) v q n issue in-v in-q within is;
+        word = word_found stream words solves v q n issue in-v in-q within is;
+      }
+    where
+      cycle_within : (n : ℕ) {c : ℕ}
+          → c < d.period
+          → n < length stream
+          → n * d.period + c ≤ length stream * d.period
+      cycle_within n below in-n =
+          let last : (n + 1) * d.period ≤ length stream * d.period = mul-le-mul_right d.period (omega (arith, in-n)) in
+          omega (arith, last, one_more n d.period, below)
 
 -- in the image of a plan each read finds its instance
 pub finds_instances : (g : Graph) (d : Datapath) (p : Plan) (image : Image)
     → IsGraph g
     → IsMachine d
-    → IsPlan g d p
+    → (plan : IsPlan g d p)
     → IsImageOf d p image
-    → FindsInstances g d p (microprogram_of image)
+    → FindsInstances plan image
 finds_instances g d p image sound machine plan of =
-    feasible_finds g d p image sound (plan_feasible g d p sound machine plan) of
+    feasible_finds g d p image sound (record (plan_feasible g d p sound machine plan) { lowered = plan.lowered }) of

@@ -137,9 +137,9 @@ module _ {o : Overlap} (d : Datapath) (p : Plan) (words : Counted) (plan : IsFea
       → (l ≡ m) × (s ≡ n)
   cells_apart l m s n e f t in-l in-m ram cell after upto after' upto' =
       let cells : ℕ = cells_on d (line_at p l).ram in
-      let room-l : (line_at p l).offset + reach o (line_at p l) < cells = (plan.lines l in-l).room in
+      let room-l : (line_at p l).offset + reach o (line_at p l) < cells = (plan.memory.lines l in-l).room in
       let room-m : (line_at p m).offset + reach o (line_at p m) < cells =
-      subst (λ u. (line_at p m).offset + reach o (line_at p m) < cells_on d u) (sym ram) (plan.lines m in-m).room in
+      subst (λ u. (line_at p m).offset + reach o (line_at p m) < cells_on d u) (sym ram) (plan.memory.lines m in-m).room in
       let same : cell_in cells past (line_at p l).offset s ≡ cell_in cells past (line_at p m).offset n =
       cell ∙ ap (λ u. cell_in (cells_on d u) past (line_at p m).offset n) (sym ram) in
       let one = cells-apart cells past d.period (line_at p l).offset (reach o (line_at p l)) (line_at p m).offset
@@ -147,7 +147,7 @@ module _ {o : Overlap} (d : Datapath) (p : Plan) (words : Counted) (plan : IsFea
       ⊎_elim
       (λ (e : l ≡ m). (e, one.1 (ap (λ i. (line_at p i).offset) e)))
       (λ (apart : AreDisjoint o (line_at p l) (line_at p m)). absurd (one.0 apart))
-      (plan.lines_apart l m in-l in-m ram)
+      (plan.memory.lines_apart l m in-l in-m ram)
 
   not_later : (v s n t : ℕ)
       → s < n
@@ -247,7 +247,7 @@ module _ {o : Overlap} (d : Datapath) (p : Plan) (words : Counted) (plan : IsFea
       let life : (arc_at p k).w < (arc_at p k).r = (plan.arcs k in-k).lifetime.lives in
       omega arith
   lives (in_cell l s in-l from) =
-      let line : IsFeasibleLine o d p l = plan.lines l in-l in
+      let line : IsFeasibleLine o d p l = plan.memory.lines l in-l in
       let e : ℕ = ends_at d p (store_of (line_at p l)) in
       cell_lives (stored_in s e) e (line_at p l).depth s o.stages d.period (stored_most s e)
       (plan.fits (store_of (line_at p l)) line.store) plan.stages plan.period line.some
@@ -267,7 +267,7 @@ module _ {o : Overlap} (d : Datapath) (p : Plan) (words : Counted) (plan : IsFea
       let early : s < past = omega (arith, turn) in
       runs.first k s in-k from early upto ∙ sym (solves.before (arc_at p k).node s (plan.arcs k in-k).node early)
   preloaded micro z stream runs solves (in_cell l s in-l near) before upto =
-      let line : IsFeasibleLine o d p l = plan.lines l in-l in
+      let line : IsFeasibleLine o d p l = plan.memory.lines l in-l in
       let cells : ℕ = cells_on d (line_at p l).ram in
       let room : (line_at p l).offset + reach o (line_at p l) < cells = line.room in
       let early : s < past =

@@ -163,7 +163,7 @@ module _ {hold spare : ℕ} (g : Graph) (d : Datapath) (p : Plan) (sound : IsGra
   same_number n ago e = omega (arith, e)
 
   -- what port q of node v of the graph reads, in the lowered list
-  operand_is : (v i n q : ℕ)
+  pub operand_is : (v i n q : ℕ)
       → IsNumber lowered.delays (own v) i
       → q < length (node_of g.nodes v).edges
       → operand_in lowered_words (node_at p i) n q ≡ operand (operand_words words n (node_of g.nodes v).edges) q

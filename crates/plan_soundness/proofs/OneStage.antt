@@ -71,11 +71,13 @@ module _ (stages a b : ℕ) (d : Datapath) (p : Plan) where
     read = is.read;
     read_in = is.read_in;
     registers = is.registers;
-    lines = λ l in-l. line_from l (is.lines l in-l);
-    lines_apart = is.lines_apart;
-    loads = is.loads;
+    memory = record {
+      lines = λ l in-l. line_from l (is.memory.lines l in-l);
+      lines_apart = is.memory.lines_apart;
+      loads = is.memory.loads;
+      stores = is.memory.stores;
+    };
     load_in = is.load_in;
-    stores = is.stores;
   }
 
 module _ (g : Graph) (d : Datapath) (p : Plan) (sound : IsGraph g) (none : d.hold ≡ 0) where

@@ -76,7 +76,7 @@ module _ (d : Datapath) (p : Plan) (plan : IsFeasible d p) where
   pub room : (l : ℕ)
       → l < length (lines_of p)
       → (line_at p l).offset + (line_at p l).depth < cells_on d (line_at p l).ram
-  room l in-l = omega (arith, (plan.lines l in-l).room)
+  room l in-l = omega (arith, (plan.memory.lines l in-l).room)
 
 -- Over all samples.
 

@@ -161,7 +161,7 @@ module _ {o : Overlap} (d : Datapath) (p : Plan) (words : Counted) (plan : IsFea
       → n * d.period + cycle_at p v ≤ t
       → value_by op.Load micro z (Log micro z t) (n * d.period + cycle_at p v) issue ≡ words v (past + n)
   load_right t v n l ago issue right in-v in-n is-load loads old is below =
-      let line : IsFeasibleLine o d p l = plan.lines l loads.there in
+      let line : IsFeasibleLine o d p l = plan.memory.lines l loads.there in
       let offset : ℕ = (line_at p l).offset in
       let ram : ℕ = (line_at p l).ram in
       let m : ℕ = past + n - ago in
@@ -281,7 +281,7 @@ module _ {o : Overlap} (d : Datapath) (p : Plan) (words : Counted) (plan : IsFea
       ≡ place_of o d p words (in_cell l (past + n) stores.there (near_now n (line_at p l).depth))
   store_place t v n l issue right in-v in-n stores is below =
       let room : (line_at p l).offset + reach o (line_at p l) < cells_on d (line_at p l).ram =
-      (plan.lines l stores.there).room in
+      (plan.memory.lines l stores.there).room in
       ap₂ (λ u a. Cell u (to_nat a)) (is.unit ∙ stores.unit)
       (address_right t v n (line_at p l).ram (line_at p l).offset issue right in-v in-n
       (some_operand 0 (edges_of v op.Store in-v stores.is_store) (omega arith)) is stores.address (omega arith) below)

@@ -290,7 +290,7 @@ module _ (g : Graph) (d : Datapath) (p : Plan) (machine : IsMachine d) (plan : I
         (λ (before : (line_at p m).offset + reach one_by_one (line_at p m) < (line_at p l).offset).
         absurd (omega (arith, before, of.cell_is, by.cell_is, by.lives)))
         disjoint)
-        (feasible.lines_apart l m of.there by.there (of.ram_is ∙ sym by.ram_is))
+        (feasible.memory.lines_apart l m of.there by.there (of.ram_is ∙ sym by.ram_is))
 
     some_cell_start : (z : ℤ) × IsCellStart ram cell z
     some_cell_start = by (search HasLine line_cases (length (lines_of p)))

@@ -6,6 +6,7 @@ use Rattle.std.specs.Prelude.{◌-ℤ◌}
 use Rattle.std.specs.Int.{int_rem_euclid}
 use Rattle.std.specs.List.{find, AllPairs}
 use Rattle.std.proofs.Math.Nat.{add-mul-mod_self_left, add-mul-div_left, mod-eq_of_lt, div-eq_of_lt, mod-lt}
+use Rattle.fix_word.specs.declared.operation.Op.TheVariants.{Addr}
 use Rattle.plan_core.specs.Hardware.{latency_on, gap_on, cells_on, tie_of, port_of}
 use Rattle.plan_core.specs.declared.schedule.Transfer.{Transfer}
 use Rattle.plan_core.proofs.Tests.{Test, passed, lt, eq, nay, implies, below, all_pairs}
@@ -18,12 +19,13 @@ use Rattle.micro_image.specs.declared.image.Take.{Take}
 use Rattle.micro_image.specs.declared.image.Word.{Word}
 use Rattle.micro_image.specs.Fields.{nth, unit_of, issue_at}
 use Rattle.micro_image.proofs.Each.{In, here, there}
-use Rattle.plan_soundness.specs.Parts.{nodes_of, edge_at, unit_at, cycle_at, arc_at, line_at, register_at, ends_at}
+use Rattle.plan_soundness.specs.Parts.{nodes_of, node_at, edge_at, unit_at, cycle_at, arc_at, line_at}
+use Rattle.plan_soundness.specs.Parts.{register_at, ends_at}
 use Rattle.plan_soundness.specs.Parts.{IsTransferOf}
 use Rattle.plan_soundness.specs.Run.{RunsSolutionLate}
 use Rattle.plan_soundness.specs.Samples.{past}
 use Rattle.plan_soundness.specs.Overlap.{shift_of}
-use Rattle.plan_soundness.specs.Executes.{register_in, IsIssueIn, IsTakeIn, IsEnableOf, ExecutesOver}
+use Rattle.plan_soundness.specs.Executes.{register_in, IsCellArg, IsIssueIn, IsTakeIn, IsEnableOf, ExecutesOver}
 use Rattle.plan_soundness.proofs.Accumulator.{one_in}
 use Rattle.plan_soundness.proofs.FromImage.{is_number}
 use Rattle.plan_soundness.proofs.Elements.{find_among}
@@ -144,70 +146,33 @@ issue v = issue_of held_path delayed_plan v 0
 abbrev IsIssue : (v n : ℕ) → Type 0
 IsIssue v n = IsIssueIn held_path delayed_plan delayed_micro v n (issue v)
 
+-- the issue of a node of which all registers are register 0
+issue_row : (v n : ℕ)
+    → ((q : ℕ) → nth (issue v).regs q 0 ≡ 0)
+    → (issue v).arg ≡ (node_at delayed_plan v).arg
+    → ((node_at delayed_plan v).op ≡ Addr → IsCellArg held_path delayed_plan delayed_micro v n (issue v).arg)
+    → IsIssue v n
+issue_row v n regs arg address = record {
+  unit = refl;
+  op = refl;
+  fmt = refl;
+  arg = λ other. arg;
+  address = address;
+  regs = λ q k through. regs q ∙ sym (zero_in k (past + n - (edge_at delayed_plan v q).delay));
+}
+
 is_issue : (v n : ℕ) → v < 7 → IsIssue v n
-is_issue zero n less = record {
-  unit = refl;
-  op = refl;
-  fmt = refl;
-  arg = λ other. refl;
-  address = λ is. absurd (cc);
-  regs = λ q k through.
-      no_regs q ∙ sym (zero_in k (past + n - (edge_at delayed_plan 0 q).delay));
-}
-is_issue (suc zero) n less = record {
-  unit = refl;
-  op = refl;
-  fmt = refl;
-  arg = λ other. refl;
-  address = λ is. ap (λ m. int_rem_euclid (pos 0 -ℤ pos m) (pos 3)) (sample_is n 1 (omega arith));
-  regs = λ q k through.
-      no_regs q ∙ sym (zero_in k (past + n - (edge_at delayed_plan 1 q).delay));
-}
-is_issue (suc (suc zero)) n less = record {
-  unit = refl;
-  op = refl;
-  fmt = refl;
-  arg = λ other. refl;
-  address = λ is. absurd (cc);
-  regs = λ q k through.
-      two_regs q ∙ sym (zero_in k (past + n - (edge_at delayed_plan 2 q).delay));
-}
-is_issue (suc (suc (suc zero))) n less = record {
-  unit = refl;
-  op = refl;
-  fmt = refl;
-  arg = λ other. refl;
-  address = λ is. ap (λ m. int_rem_euclid (pos 1 -ℤ pos m) (pos 3)) (sample_is n 0 (omega arith));
-  regs = λ q k through.
-      no_regs q ∙ sym (zero_in k (past + n - (edge_at delayed_plan 3 q).delay));
-}
-is_issue (suc (suc (suc (suc zero)))) n less = record {
-  unit = refl;
-  op = refl;
-  fmt = refl;
-  arg = λ other. refl;
-  address = λ is. absurd (cc);
-  regs = λ q k through.
-      two_regs q ∙ sym (zero_in k (past + n - (edge_at delayed_plan 4 q).delay));
-}
-is_issue (suc (suc (suc (suc (suc zero))))) n less = record {
-  unit = refl;
-  op = refl;
-  fmt = refl;
-  arg = λ other. refl;
-  address = λ is. absurd (cc);
-  regs = λ q k through.
-      two_regs q ∙ sym (zero_in k (past + n - (edge_at delayed_plan 5 q).delay));
-}
-is_issue (suc (suc (suc (suc (suc (suc zero)))))) n less = record {
-  unit = refl;
-  op = refl;
-  fmt = refl;
-  arg = λ other. refl;
-  address = λ is. absurd (cc);
-  regs = λ q k through.
-      one_reg q ∙ sym (zero_in k (past + n - (edge_at delayed_plan 6 q).delay));
-}
+is_issue zero n less = issue_row 0 n no_regs refl (λ is. absurd (cc))
+is_issue (suc zero) n less =
+    issue_row 1 n no_regs refl
+    (λ is. ap (λ m. int_rem_euclid (pos 0 -ℤ pos m) (pos 3)) (sample_is n 1 (omega arith)))
+is_issue (suc (suc zero)) n less = issue_row 2 n two_regs refl (λ is. absurd (cc))
+is_issue (suc (suc (suc zero))) n less =
+    issue_row 3 n no_regs refl
+    (λ is. ap (λ m. int_rem_euclid (pos 1 -ℤ pos m) (pos 3)) (sample_is n 0 (omega arith)))
+is_issue (suc (suc (suc (suc zero)))) n less = issue_row 4 n two_regs refl (λ is. absurd (cc))
+is_issue (suc (suc (suc (suc (suc zero))))) n less = issue_row 5 n two_regs refl (λ is. absurd (cc))
+is_issue (suc (suc (suc (suc (suc (suc zero)))))) n less = issue_row 6 n one_reg refl (λ is. absurd (cc))
 is_issue (suc (suc (suc (suc (suc (suc (suc v))))))) n less = absurd (omega (arith, less))
 
 -- what a word issues is what is issued in its cycle

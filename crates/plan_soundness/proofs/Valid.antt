@@ -32,7 +32,11 @@ use Rattle.micro_image.specs.declared.image.Word.{Word}
 use Rattle.micro_image.specs.declared.image.Image.{Image}
 use Rattle.micro_image.specs.Fields.{microprogram_of, nth, no_word}
 use Rattle.micro_image.specs.Log.{Register, Cell, initial}
+use Rattle.micro_image.specs.Size.{IsShort}
 use Rattle.micro_image.specs.Valid as valid
+use Rattle.micro_image.specs.declared.version.Version.TheVariants.{One, Two}
+use Rattle.micro_image.proofs.ByteLength.{image_bytes_within}
+use Rattle.micro_image.proofs.Length.{packed_within}
 use Rattle.plan_soundness.specs.Parts.{nodes_of, node_at, arc_at, line_at}
 use Rattle.plan_soundness.specs.Machine.{IsMachine}
 use Rattle.plan_soundness.specs.ImageOf.{IsUnitOf, IsWordOf, IsImageOf, IsPreloadOf, IsCellPreload, width_of}
@@ -43,7 +47,7 @@ use Rattle.plan_soundness.proofs.FromLowered.{made_at, made_as, own_below, graph
 use Rattle.plan_soundness.proofs.FromRules.{all_at}
 use Rattle.plan_soundness.proofs.RunsSolution.{plan_feasible}
 use Rattle.plan_soundness.proofs.Samples.{below_count, split}
-use Rattle.plan_soundness.proofs.ValidWords.{valid_word, file_count, file_length, inputs_are, outs_are}
+use Rattle.plan_soundness.proofs.ValidWords.{most_takes, valid_word, file_count, file_length, inputs_are, outs_are}
 
 -- Words.
 
@@ -154,7 +158,7 @@ module _ (g : Graph) (d : Datapath) (p : Plan) (sound : IsGraph g) (machine : Is
       absurd (never (subst IsMachineWord
       (sym (is.starts.other_cell ram cell (λ l ago (of : IsCellPreload p ram cell l ago).
       never (subst IsMachineWord (sym (is.starts.cell ram cell l ago of))
-      (word_of_node (line_at p l).node ago (feasible.lines l of.there).node)))))
+      (word_of_node (line_at p l).node ago (feasible.memory.lines l of.there).node)))))
       zero_word)))
       (word_cases (initial (microprogram_of image) (Cell ram cell)))
 
@@ -214,6 +218,7 @@ module _ (g : Graph) (d : Datapath) (p : Plan) (sound : IsGraph g) (machine : Is
   word : (x : ℕ) (default : Word)
       → x < length image.words
       → valid.IsWordOf image (slice_index_or image.words x default)
+      × (length (slice_index_or image.words x default).takes ≤ most_takes)
   word x default below =
       let n : ℕ = x / d.period in
       let c : ℕ = x % d.period in
@@ -222,7 +227,7 @@ module _ (g : Graph) (d : Datapath) (p : Plan) (sound : IsGraph g) (machine : Is
       let in-n : n < p.unroll = below_count n d.period x p.unroll (omega (arith, at)) in-x in
       let of : IsWordOf d p n c (nth image.words (n * d.period + c) no_word) =
       is.words n c in-n (mod-lt x feasible.period) in
-      subst (valid.IsWordOf image)
+      subst (λ word. valid.IsWordOf image word × (length word.takes ≤ most_takes))
       (ap (λ x. nth image.words x no_word) (sym at) ∙ default_any image.words x no_word default below)
       (valid_word g d p sound machine plan image is n c _ in-n of)
 
@@ -244,11 +249,18 @@ module _ (g : Graph) (d : Datapath) (p : Plan) (sound : IsGraph g) (machine : Is
         (valid_unit u (omega (arith, below, is.unit_count)));
     buses = subst (valid.IsWithin 1 32) (sym is.buses) machine.bus_count;
     word_count = is.word_count ∙ product p.unroll d.period is.unroll is.period;
-    words = word;
+    words = λ x default below. (word x default below).0;
   }
     where
       product : (u q : ℕ) → image.unroll ≡ u → image.period ≡ q → u * q ≡ image.period * image.unroll
       product u q e f = grind (arith, e, f)
+
+  -- and what spells it is no longer than such a file may be
+  feasible_short : IsShort image
+  feasible_short One bytes spells =
+      let most = image_bytes_within most_takes image spells.valid (λ x default below. (word x default below).1) in
+      omega (arith, most, ap length spells.spelled)
+  feasible_short Two bytes spells = packed_within bytes image spells.valid spells.spelled
 
 -- the image of a plan is one that a microcode file can hold
 pub image_valid : (g : Graph) (d : Datapath) (p : Plan) (image : Image)
@@ -259,3 +271,13 @@ pub image_valid : (g : Graph) (d : Datapath) (p : Plan) (image : Image)
     → valid.IsValid image
 image_valid g d p image sound machine plan of =
     feasible_valid g d p sound machine (plan_feasible g d p sound machine plan) image of
+
+-- and what spells it is no longer than such a file may be
+pub image_short : (g : Graph) (d : Datapath) (p : Plan) (image : Image)
+    → IsGraph g
+    → IsMachine d
+    → IsPlan g d p
+    → IsImageOf d p image
+    → IsShort image
+image_short g d p image sound machine plan of =
+    feasible_short g d p sound machine (plan_feasible g d p sound machine plan) image of

@@ -133,7 +133,7 @@ enable_number : (a b : Enable) → valid.EnableBefore a b → a.bus < 32 → 32 
 enable_number a b before small = omega (arith, before, small)
 
 -- of 32 units with at most 3 ports
-abbrev most_takes : ℕ
+abbrev pub most_takes : ℕ
 most_takes = 96
 
 take_number : (a b : Take)
@@ -345,37 +345,40 @@ module _ (g : Graph) (d : Datapath) (p : Plan) (sound : IsGraph g) (machine : Is
           omega (arith, none, some, size))
           (cases_lt q (length (node_at p v).edges))
 
-  -- a word is valid
+  -- a word is valid, and it has at most one take for each register file
   pub valid_word : (n c : ℕ) (word : Word)
       → n < p.unroll
       → IsWordOf d p n c word
-      → valid.IsWordOf image word
-  valid_word n c word in-n of = record {
-    issues = λ k default below.
-        let issue : Issue = slice_index_or word.issues k default in
-        let only = of.issue_only issue (k, below, default_any word.issues k issue default below) in
-        valid_issue only.0 n issue only.1 in-n only.3;
-    issues_rise = rising_units word.issues of.issues_rise;
-    enable_count = few (λ (e : Enable). 32 * e.unit + e.bus) 1024 word.enables
-        (λ j k default less below.
-        enable_number _ _ (of.enables_rise j k default less below)
-        (enable_small j default (omega (arith, less, below))).1)
-        (λ k default below.
-        let small = enable_small k default below in
-        omega (arith, small.0, small.1));
-    enables = λ k default below.
-        let e : Enable = slice_index_or word.enables k default in
-        let only = of.enable_only e (k, below, default_any word.enables k e default below) in
-        record {
-          unit = omega (arith, ap (λ (e : Enable). e.unit) only.5, in_image _ (feasible.units only.0 only.2));
-          bus =
-              omega (arith, ap (λ (e : Enable). e.bus) only.5, feasible.buses only.0 only.1 only.2 only.4, is.buses);
-        };
-    enables_rise = adjacent valid.EnableBefore word.enables of.enables_rise;
-    take_count = omega (arith, few_takes);
-    takes = λ k default below. valid_take k default below;
-    takes_rise = adjacent valid.TakeBefore word.takes of.takes_rise;
-  }
+      → valid.IsWordOf image word × (length word.takes ≤ most_takes)
+  valid_word n c word in-n of = (
+    record {
+      issues = λ k default below.
+          let issue : Issue = slice_index_or word.issues k default in
+          let only = of.issue_only issue (k, below, default_any word.issues k issue default below) in
+          valid_issue only.0 n issue only.1 in-n only.3;
+      issues_rise = rising_units word.issues of.issues_rise;
+      enable_count = few (λ (e : Enable). 32 * e.unit + e.bus) 1024 word.enables
+          (λ j k default less below.
+          enable_number _ _ (of.enables_rise j k default less below)
+          (enable_small j default (omega (arith, less, below))).1)
+          (λ k default below.
+          let small = enable_small k default below in
+          omega (arith, small.0, small.1));
+      enables = λ k default below.
+          let e : Enable = slice_index_or word.enables k default in
+          let only = of.enable_only e (k, below, default_any word.enables k e default below) in
+          record {
+            unit = omega (arith, ap (λ (e : Enable). e.unit) only.5, in_image _ (feasible.units only.0 only.2));
+            bus =
+                omega (arith, ap (λ (e : Enable). e.bus) only.5, feasible.buses only.0 only.1 only.2 only.4, is.buses);
+          };
+      enables_rise = adjacent valid.EnableBefore word.enables of.enables_rise;
+      take_count = omega (arith, few_takes);
+      takes = λ k default below. valid_take k default below;
+      takes_rise = adjacent valid.TakeBefore word.takes of.takes_rise;
+    },
+    few_takes,
+  )
     where
       enable_small : (k : ℕ) (default : Enable)
           → k < length word.enables

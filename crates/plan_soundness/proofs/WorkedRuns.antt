@@ -1,6 +1,5 @@
 -- The worked plans run: the image of the accumulator, which has one register for a word of before sample 0, and an
--- image
--- of the difference, whose delay takes two registers in turn.
+-- image of the difference, whose delay takes two registers in turn.
 use Rattle.std.proofs.Common.{◌≡◌, ◌≢◌, ℕ, zero, suc, ◌+◌, ◌<◌, ◌≤◌, List, refl, arith, [], ◌∷◌, length, All, ℤ, pos}
 use Rattle.std.specs.Prelude.{slice_get, IsSomeAnd, true}
 use Rattle.operations.specs.Ranges.{IsWithin}

@@ -277,7 +277,7 @@ module _ {o : Overlap} (d : Datapath) (p : Plan) (words : Counted) (plan : IsFea
             (output_no_store (node_at p v).op (sym is.op ∙ output)) is (omega arith);
       })
       (λ store.
-      let stores = plan.stores v in-v (sym is.op ∙ store) in
+      let stores = plan.memory.stores v in-v (sym is.op ∙ store) in
       let l : ℕ = stores.0 in
       let to : StoresTo d p v l = stores.1 in
       record {

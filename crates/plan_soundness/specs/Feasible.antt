@@ -39,6 +39,22 @@ pub record IsFeasibleLine (o : Overlap) (d : Datapath) (p : Plan) (l : ℕ) : Ty
   pub some : 0 < (line_at p l).depth
   pub depth : (line_at p l).depth < past
 
+-- the delay lines, which share no cell, and the nodes that read and write them
+pub record AreSoundLines (o : Overlap) (d : Datapath) (p : Plan) : Type 0 where
+  pub lines : (l : ℕ) → l < length (lines_of p) → IsFeasibleLine o d p l
+  pub lines_apart : (l m : ℕ)
+      → l < length (lines_of p)
+      → m < length (lines_of p)
+      → (line_at p l).ram ≡ (line_at p m).ram
+      → (l ≡ m) ⊎ AreDisjoint o (line_at p l) (line_at p m)
+  pub loads : (v : ℕ)
+      → v < length (nodes_of p)
+      → (node_at p v).op ≡ op.Load
+      → (l : ℕ) × (ago : ℕ) × LoadsFrom d p v l ago
+  pub stores : (v : ℕ)
+      → v < length (nodes_of p) → (node_at p v).op ≡ op.Store
+      → (l : ℕ) × StoresTo d p v l
+
 -- two copies in one register are one, or share no cycle of the circle
 abbrev pub AreRegistersApart : Datapath → Plan → Type 0
 AreRegistersApart d p =
@@ -133,25 +149,13 @@ pub record IsFeasibleOver (o : Overlap) (d : Datapath) (p : Plan) : Type 0 where
       → (ends_at d p (arc_at p k).node < cycle_at p v + (edge_at p v q).delay * d.period)
       × (cycle_at p v + (edge_at p v q).delay * d.period ≤ (arc_at p k).r + shift_of d p k * d.period)
   pub registers : AreRegistersApart d p
-  pub lines : (l : ℕ) → l < length (lines_of p) → IsFeasibleLine o d p l
-  pub lines_apart : (l m : ℕ)
-      → l < length (lines_of p)
-      → m < length (lines_of p)
-      → (line_at p l).ram ≡ (line_at p m).ram
-      → (l ≡ m) ⊎ AreDisjoint o (line_at p l) (line_at p m)
-  pub loads : (v : ℕ)
-      → v < length (nodes_of p)
-      → (node_at p v).op ≡ op.Load
-      → (l : ℕ) × (ago : ℕ) × LoadsFrom d p v l ago
+  pub memory : AreSoundLines o d p
   -- a load is issued behind the end of the store of the word that it reads
   pub load_in : (v l ago : ℕ)
       → v < length (nodes_of p)
       → (node_at p v).op ≡ op.Load
       → LoadsFrom d p v l ago
       → ends_at d p (store_of (line_at p l)) < cycle_at p v + ago * d.period
-  pub stores : (v : ℕ)
-      → v < length (nodes_of p) → (node_at p v).op ≡ op.Store
-      → (l : ℕ) × StoresTo d p v l
 
 -- A feasible plan of the graph, whose registers are in their files. Delays above the hold are in delay lines, each with
 -- so many spare cells.

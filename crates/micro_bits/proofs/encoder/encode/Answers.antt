@@ -1,6 +1,6 @@
 use Rattle.std.proofs.Common.{subst}
 use Rattle.micro_image.specs.Spells.{AreBytes}
-use Rattle.micro_bits.proofs.Length.{packed_within}
+use Rattle.micro_image.proofs.Length.{packed_within}
 use Rattle.micro_bits.proofs.Packing.{written_spells}
 use Rattle.micro_bits.proofs.encoder.encode.Goals as goal
 

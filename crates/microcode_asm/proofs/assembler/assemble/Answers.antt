@@ -1,8 +1,10 @@
+use Rattle.micro_image.specs.Size.{IsShort}
 use Rattle.micro_image.specs.Valid.{IsValid}
 use Rattle.plan_soundness.specs.ImageOf.{IsImageOf}
+use Rattle.plan_soundness.specs.Instances.{FindsInstances}
 use Rattle.plan_soundness.specs.Run.{RunsSolution}
 use Rattle.microcode_asm.proofs.ImageSteps.{if_ok}
-use Rattle.microcode_asm.proofs.ReadyPlans.{ready, planned_valid, planned_runs}
+use Rattle.microcode_asm.proofs.ReadyPlans.{ready, planned_valid, planned_short, planned_runs, planned_finds}
 use Rattle.microcode_asm.proofs.assembler.assemble.Goals as goal
 
 pub image_of-requires : goal.image_of-requires
@@ -13,8 +15,19 @@ returns-clause-valid c =
     if_ok (IsImageOf c.args.datapath.now c.args.plan.now) IsValid c.image_of.result c.image_of.ensures
     (λ image of. planned_valid c.args.datapath.now c.args.plan.now image c.requires.datapath c.requires.plan of)
 
+pub returns-clause-short : goal.returns-clause-short
+returns-clause-short c =
+    if_ok (IsImageOf c.args.datapath.now c.args.plan.now) IsShort c.image_of.result c.image_of.ensures
+    (λ image of. planned_short c.args.datapath.now c.args.plan.now image c.requires.datapath c.requires.plan of)
+
 pub returns-clause-runs : goal.returns-clause-runs
 returns-clause-runs c g sound plan =
     if_ok (IsImageOf c.args.datapath.now c.args.plan.now) (RunsSolution g) c.image_of.result c.image_of.ensures
     (λ image of.
     planned_runs g c.args.datapath.now c.args.plan.now image c.requires.datapath sound plan of)
+
+pub returns-clause-finds : goal.returns-clause-finds
+returns-clause-finds c g sound plan =
+    if_ok (IsImageOf c.args.datapath.now c.args.plan.now) (FindsInstances plan) c.image_of.result c.image_of.ensures
+    (λ image of.
+    planned_finds g c.args.datapath.now c.args.plan.now image c.requires.datapath sound plan of)

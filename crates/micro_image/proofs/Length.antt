@@ -23,9 +23,10 @@ use Rattle.operations.specs.declared.units.Kind.{Kind}
 use Rattle.operations.specs.declared.units.Kind.TheVariants as kind
 use Rattle.micro_image.specs.declared.image.UnitDesc.{UnitDesc}
 use Rattle.micro_image.specs.declared.image.Word.{Word}
-use Rattle.micro_image.specs.Bits.{bits, raw_bits, are_zeros, preload_bits, choice_width, choice_bits, format_bits}
+use Rattle.micro_image.specs.Bits.{bits, raw_bits, are_zeros, preload_bits, place_bits, format_bits}
 use Rattle.micro_image.specs.Bits.{argument_bits, in_bits, issue_bits, enable_bit, enable_bits, take_bits, takes_bits}
 use Rattle.micro_image.specs.Bits.{ports_bits, word_bits, image_bits}
+use Rattle.micro_image.specs.Codes.{place_width}
 use Rattle.micro_image.specs.Fields.{nth, no_unit}
 use Rattle.micro_image.specs.Form.{Form, spelled_file, spelled_memory, spelled_unit, spelled_operation}
 use Rattle.micro_image.specs.Form.{spelled_hardware}
@@ -35,7 +36,7 @@ use Rattle.micro_image.specs.Spells.{bits_of, IsPacked}
 use Rattle.micro_image.specs.Valid.{IsFile, IsUnit, IsIssue, IsIssueOn, IsWordOf, IsValid}
 
 -- at most `count` elements of at most `most` bits
-flat_map_within : {X : Type 0} (f : X → List ℕ) (count most : ℕ) (xs : List X)
+pub flat_map_within : {X : Type 0} (f : X → List ℕ) (count most : ℕ) (xs : List X)
     → All (λ x. length (f x) ≤ most) xs
     → length xs ≤ count
     → length (flat_map f xs) ≤ count * most
@@ -54,20 +55,20 @@ there_and P Q (x ∷ xs) (suc k) h all = there_and P Q xs k h (λ j d lt. all (s
 
 -- ---- the hardware, where a field has at most so many bits, a raw word so many, and an issue
 
-record IsFew (form : Form) (field word issue : ℕ) : Type 0 where
-  period : (n : ℕ) → length (form.period n) ≤ field
-  unroll : (n : ℕ) → length (form.unroll n) ≤ field
-  channels : (n : ℕ) → length (form.channels n) ≤ field
-  width : (n : ℕ) → length (form.width n) ≤ field
-  units : (n : ℕ) → length (form.units n) ≤ field
-  kind : (k : Kind) → length (form.kind k) ≤ field
-  cycles : (n : ℕ) → length (form.cycles n) ≤ field
-  registers : (n : ℕ) → length (form.registers n) ≤ field
-  cells : (n : ℕ) → length (form.cells n) ≤ field
-  initial : (words : List ℤ) → length (form.initial words) ≤ field + length words * word
-  ram : (n : ℕ) → length (form.ram n) ≤ field
-  buses : (n : ℕ) → length (form.buses n) ≤ field
-  issues : (i : Issue) → length i.regs ≤ 3 → length (spelled_operation form i) ≤ issue
+pub record IsFew (form : Form) (field word issue : ℕ) : Type 0 where
+  pub period : (n : ℕ) → length (form.period n) ≤ field
+  pub unroll : (n : ℕ) → length (form.unroll n) ≤ field
+  pub channels : (n : ℕ) → length (form.channels n) ≤ field
+  pub width : (n : ℕ) → length (form.width n) ≤ field
+  pub units : (n : ℕ) → length (form.units n) ≤ field
+  pub kind : (k : Kind) → length (form.kind k) ≤ field
+  pub cycles : (n : ℕ) → length (form.cycles n) ≤ field
+  pub registers : (n : ℕ) → length (form.registers n) ≤ field
+  pub cells : (n : ℕ) → length (form.cells n) ≤ field
+  pub initial : (words : List ℤ) → length (form.initial words) ≤ field + length words * word
+  pub ram : (n : ℕ) → length (form.ram n) ≤ field
+  pub buses : (n : ℕ) → length (form.buses n) ≤ field
+  pub issues : (i : Issue) → length i.regs ≤ 3 → length (spelled_operation form i) ≤ issue
 
 initial_within : (form : Form) (field word issue : ℕ)
     → IsFew form field word issue
@@ -79,13 +80,13 @@ initial_within form field word issue few count words le =
     omega (arith, few.initial words, total)
 
 module _ (form : Form) (field word issue : ℕ) (few : IsFew form field word issue) where
-  abbrev file_most : ℕ
+  abbrev pub file_most : ℕ
   file_most = field + (field + 256 * word)
 
-  abbrev memory_most : ℕ
+  abbrev pub memory_most : ℕ
   memory_most = field + (field + 65536 * word)
 
-  abbrev unit_most : ℕ
+  abbrev pub unit_most : ℕ
   unit_most = field + (field + (field + (3 * file_most + memory_most)))
 
   file_within : (file : List ℤ) → IsFile file → length (spelled_file form file) ≤ file_most
@@ -130,11 +131,11 @@ module _ (form : Form) (field word issue : ℕ) (few : IsFew form field word iss
         memory_by units unit unit.kind ok refl,
       ))
 
-  abbrev hardware_most : ℕ
+  abbrev pub hardware_most : ℕ
   hardware_most =
       field + (field + (field + (16 * field + (field + (field + (32 * unit_most + field))))))
 
-  hardware_within : (image : Image) → IsValid image → length (spelled_hardware form image) ≤ hardware_most
+  pub hardware_within : (image : Image) → IsValid image → length (spelled_hardware form image) ≤ hardware_most
   unfolding spelled_hardware
   hardware_within image valid =
       let widths : length (flat_map form.width image.inputs) ≤ 16 * field =
@@ -154,7 +155,7 @@ module _ (form : Form) (field word issue : ℕ) (few : IsFew form field word iss
         few.buses image.buses,
       ))
 
-  issue_within : (image : Image) (i : Issue)
+  pub issue_within : (image : Image) (i : Issue)
       → IsValid image
       → IsIssue image i
       → length (spelled_operation form i) ≤ issue
@@ -164,7 +165,7 @@ module _ (form : Form) (field word issue : ℕ) (few : IsFew form field word iss
       valid.units in
       few.issues i (omega (arith, there.1.regs.count, there.2.file_count, few_ports there.0.kind))
 
-word_count_within : (image : Image) → IsValid image → length image.words ≤ 16384
+pub word_count_within : (image : Image) → IsValid image → length image.words ≤ 16384
 word_count_within image valid =
     let unroll : image.unroll ≤ 4 = omega (arith, valid.unroll) in
     omega (arith, valid.word_count, mul-le-mul valid.period.1 unroll)
@@ -187,11 +188,11 @@ preload_within words = by (are_zeros words)
     by true = omega arith
     by false = omega (arith, all)
 
-choice_within : (op : Op) → length (choice_bits op) ≤ 4
-unfolding choice_bits
-choice_within op = omega (arith, length-bits (choice_width (kind_of op)), width (kind_of op))
+place_within : (op : Op) → length (place_bits op) ≤ 4
+unfolding place_bits
+place_within op = omega (arith, length-bits (place_width (kind_of op)), width (kind_of op))
   where
-    width : (k : Kind) → choice_width k ≤ 4
+    width : (k : Kind) → place_width k ≤ 4
     width kind.Input = omega arith
     width kind.Output = omega arith
     width kind.Rom = omega arith
@@ -223,7 +224,7 @@ unfolding spelled_operation
 operation_within i le =
     simp length-append (omega (
       arith,
-      choice_within i.op,
+      place_within i.op,
       format_within (is_formatted i.op) i.fmt,
       argument_within (operation i.op).argument i.arg,
       named_within (reads i.op) i.regs le,
