@@ -38,7 +38,6 @@ pub mod ReadableExprs
 pub mod FlatMade
 pub mod ProgramFacts
 pub mod SiteFacts
-pub mod Rows
 pub mod FactsPut
 pub mod InstanceNumbers
 pub mod Bounds
