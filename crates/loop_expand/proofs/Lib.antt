@@ -48,3 +48,5 @@ pub mod KnownItems
 pub mod TablesSized
 pub mod Offsets
 mod Examples
+pub mod InTypes
+pub mod TypedSolutions
