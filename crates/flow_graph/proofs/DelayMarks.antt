@@ -5,8 +5,8 @@ use Rattle.std.proofs.lemmas.List.{take_more, map-append}
 use Rattle.signal_graph.specs.declared.flat.FlatExpr.{FlatExpr}
 use Rattle.signal_graph.specs.declared.flat.FlatElem.{FlatElem}
 use Rattle.signal_graph.specs.Flat.{Expr, Element, view_expr, view_elem, view_body}
+use Rattle.signal_graph.specs.Expressions.{parts_of, view_exprs}
 use Rattle.signal_graph.specs.GraphOf.{delays, parts_delay, body_delays, are_delayed}
-use Rattle.flow_graph.specs.Private.Rows.{parts_of, view_exprs}
 use Rattle.flow_graph.specs.Private.Delayed.{Marks}
 
 or_false : (b : Bool) → (b || false) ≡ b

@@ -1,4 +1,3 @@
-pub mod Rows
 pub mod Adding
 pub mod ReadLists
 pub mod FirstLoops
@@ -22,3 +21,4 @@ pub mod PlaceEdges
 pub mod NodeSteps
 pub mod OutputSteps
 mod WholeGraphs
+pub mod PrunedGraphs

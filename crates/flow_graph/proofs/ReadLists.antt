@@ -7,8 +7,8 @@ use Rattle.std.proofs.lemmas.List.Elements.{Contains-append_cases}
 use Rattle.lists.proofs.Places.{none_there, only_there}
 use Rattle.signal_graph.specs.declared.flat.FlatExpr.{FlatExpr}
 use Rattle.signal_graph.specs.Flat.{Expr, raw, read, calculation, Parts, no_part, part, Body, word, value, view_expr}
+use Rattle.signal_graph.specs.Expressions.{view_exprs}
 use Rattle.signal_graph.specs.Values.{Reads, PartsRead, BodyReads}
-use Rattle.flow_graph.specs.Private.Rows.{view_exprs}
 use Rattle.flow_graph.specs.Private.ReadsNow.{reads_now, parts_read_now, body_reads_now}
 
 pub row_reads : (xs : List FlatExpr) → parts_read_now (view_exprs xs) ≡ flat_map (λ x. reads_now (view_expr x)) xs

@@ -5,8 +5,8 @@ use Rattle.std.proofs.lemmas.List.{append-nil, take_more, map-append, length-app
 use mathlib.Core.List.{append_assoc}
 use Rattle.signal_graph.specs.declared.flat.FlatExpr.{FlatExpr}
 use Rattle.signal_graph.specs.Flat.{Expr, raw, read, calculation, Parts, no_part, part, size, size_of_parts, view_expr}
+use Rattle.signal_graph.specs.Expressions.{parts_of}
 use Rattle.signal_graph.specs.GraphOf.{Made, operation, operand_at, operands_from, made_by, made_by_parts, sites_from}
-use Rattle.flow_graph.specs.Private.Rows.{parts_of}
 
 -- as many places as an expression has raw words, reads and calculations
 mutual

@@ -6,12 +6,12 @@ use mathlib.Core.List.{append_assoc}
 use Rattle.fix_word.specs.declared.operation.Op.{Op}
 use Rattle.fix_word.specs.declared.types.Format.{Format}
 use Rattle.signal_graph.specs.Flat.{Expr, calculation, Parts, no_part, size, size_of_parts}
+use Rattle.signal_graph.specs.Expressions.{parts_of}
 use Rattle.signal_graph.specs.GraphOf.{Operand, place, Made, operation, operand_at, operands_from, made_by}
 use Rattle.signal_graph.specs.GraphOf.{made_by_parts, Site, sites_from}
 use Rattle.flow_graph.specs.declared.sites.Operand.{Operand as CodeOperand}
 use Rattle.flow_graph.specs.declared.sites.Operand.TheVariants as is
 use Rattle.flow_graph.specs.declared.sites.Site.{Site as CodeSite}
-use Rattle.flow_graph.specs.Private.Rows.{parts_of}
 use Rattle.flow_graph.specs.Private.Sites.{view_operand, view_site, Extends, AddsSite, AddsPlaces, AddsParts}
 use Rattle.flow_graph.proofs.SiteLists.{length_made, length_made_parts, length_sites, sites_append, made_more}
 use Rattle.flow_graph.proofs.SiteLists.{operands_more}

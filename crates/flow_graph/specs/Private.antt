@@ -1,4 +1,3 @@
-pub mod Rows
 pub mod ReadsNow
 pub mod Sites
 pub mod Delayed

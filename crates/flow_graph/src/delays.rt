@@ -2,8 +2,8 @@
 
 ghost use Rattle.std.specs.Prelude.{◌==◌, IfOk};
 ghost use Rattle.signal_graph.specs.Flat.{view, view_expr, view_body};
+ghost use Rattle.signal_graph.specs.Expressions.{view_exprs};
 ghost use Rattle.signal_graph.specs.GraphOf.{delays, parts_delay, body_delays};
-ghost use Rattle.flow_graph.specs.Private.Rows.{view_exprs};
 ghost use Rattle.flow_graph.specs.Private.Delayed.{Marks, TellsDelayed};
 
 use signal_graph::{FlatBody, FlatExpr, FlatProgram};

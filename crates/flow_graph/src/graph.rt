@@ -10,6 +10,7 @@ ghost use Rattle.signal_graph.specs.GraphSolves.{IsGraphLoopless};
 ghost use Rattle.signal_graph.specs.Keeps.{KeepsFlatSolutions};
 ghost use Rattle.flow_graph.specs.declared.fault.GraphFault.TheVariants.{Loop, Memory};
 ghost use Rattle.flow_graph.specs.Loops.{IsFirstLoop};
+ghost use Rattle.flow_graph.specs.PrunedGraph.{IsPrunedGraphOf, KeepsFlatRows};
 ghost use Rattle.flow_graph.specs.Private.Delayed.{TellsDelayed};
 ghost use Rattle.flow_graph.specs.Private.GraphNodes.{AreGraphNodes};
 ghost use Rattle.flow_graph.specs.Private.Sites.{view_site};
@@ -21,6 +22,7 @@ use crate::loops::first_loop;
 use crate::nodes::nodes_of_places;
 use crate::numbers::number_all;
 use crate::outputs::add_outputs;
+use crate::pruning::{PruneFault, prune_owned};
 use crate::sites::{Site, sites_of};
 use lists::List;
 use signal_graph::{FlatProgram, Graph, Node};
@@ -68,6 +70,38 @@ fn graph_of(alloc: Global, flat: &FlatProgram) -> Result<Graph, AllocError>
         inputs,
         outs: flat.outs.len() as u8,
     })
+}
+
+/// Fails with the first element that depends on itself without a delay, if there is one, or where memory runs out.
+pub fn check_loops(alloc: Global, flat: &FlatProgram) -> Result<(), GraphFault>
+    requires { IsFlat (view flat.now) }
+    ensures no_loop { OnOk result (IsFlatLoopless (view flat.now)) }
+    ensures fault { (e : ℕ) → result ≡ Err (Loop e) → IsFirstLoop (view flat.now) e }
+    // A loop is always found, unless memory runs out.
+    ensures found { (e : ℕ) → IsFirstLoop (view flat.now) e → (result ≡ Err (Loop e)) ⊎ (result ≡ Err Memory) }
+{
+    match first_loop(alloc, flat)? {
+        Some(elem) => Err(GraphFault::Loop(elem)),
+        None => Ok(()),
+    }
+}
+
+/// The graph of a flat program that `check_loops` passed, without the nodes from which no output is reached: what
+/// `prune` makes of what `build` makes.
+///
+/// # Errors
+///
+/// `Memory` where no memory is left.
+pub fn pruned_graph(alloc: Global, flat: &FlatProgram) -> Result<Graph, PruneFault>
+    requires sound { IsFlat (view flat.now) }
+    requires loopless { IsFlatLoopless (view flat.now) }
+    ensures graph { IfOk result (IsPrunedGraphOf (view flat.now)) }
+    ensures sound { IfOk result IsGraph }
+    ensures loopless { IfOk result IsGraphLoopless }
+    ensures keeps { IfOk result (KeepsFlatRows (view flat.now)) }
+{
+    let whole = graph_of(alloc, flat)?;
+    Ok(prune_owned(alloc, whole)?)
 }
 
 /// The graph of a flat program: a node for each operation and input, each word that is read as a constant, each Pass

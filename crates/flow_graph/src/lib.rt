@@ -18,5 +18,5 @@ mod widths;
 mod words;
 
 pub use fault::GraphFault;
-pub use graph::build;
-pub use pruning::{PruneFault, prune};
+pub use graph::{build, check_loops, pruned_graph};
+pub use pruning::{PruneFault, prune, prune_owned};

@@ -203,14 +203,26 @@ fn nodes_of(
     Ok(nodes)
 }
 
-/// The graph without the nodes from which no output is reached over edges of any delay. The others have new numbers, in
-/// their order; where there are no such nodes it is the graph itself. Takes time in proportion to nodes and edges. Page
-/// `docs/GRAPH.md`, "The graph of a flat program".
+/// The graph of the marked nodes, numbered anew.
+fn marked_graph(alloc: Global, graph: &Graph, marks: &List<bool>) -> Result<Graph, AllocError>
+    requires sound { IsGraph graph.now }
+    requires marks { AreUsedMarks graph.now marks.now }
+    ensures { IfOk result (IsPruned graph.now) }
+{
+    let numbers = numbers_of(alloc, marks)?;
+    Ok(Graph {
+        nodes: nodes_of(alloc, graph, marks, &numbers)?,
+        inputs: List::from_slice(alloc, graph.inputs.as_slice())?,
+        outs: graph.outs,
+    })
+}
+
+/// Does what `prune` does with a graph of its own, which it gives back where no node is left out.
 ///
 /// # Errors
 ///
-/// `Memory` where no memory is left.
-pub fn prune(alloc: Global, graph: Graph) -> Result<Graph, PruneFault>
+/// Those of `prune`.
+pub fn prune_owned(alloc: Global, graph: Graph) -> Result<Graph, PruneFault>
     requires sound { IsGraph graph }
     requires loopless { IsGraphLoopless graph }
     ensures pruned { IfOk result (IsPruned graph) }
@@ -222,10 +234,23 @@ pub fn prune(alloc: Global, graph: Graph) -> Result<Graph, PruneFault>
     if are_all_marked(&marks) {
         return Ok(graph);
     }
-    let numbers = numbers_of(alloc, &marks)?;
-    Ok(Graph {
-        nodes: nodes_of(alloc, &graph, &marks, &numbers)?,
-        inputs: List::from_slice(alloc, graph.inputs.as_slice())?,
-        outs: graph.outs,
-    })
+    Ok(marked_graph(alloc, &graph, &marks)?)
+}
+
+/// The graph without the nodes from which no output is reached over edges of any delay. The others have new numbers, in
+/// their order. Takes time in proportion to nodes and edges. Page `docs/GRAPH.md`, "The graph of a flat program".
+///
+/// # Errors
+///
+/// `Memory` where no memory is left.
+pub fn prune(alloc: Global, graph: &Graph) -> Result<Graph, PruneFault>
+    requires sound { IsGraph graph.now }
+    requires loopless { IsGraphLoopless graph.now }
+    ensures pruned { IfOk result (IsPruned graph.now) }
+    ensures sound { IfOk result IsGraph }
+    ensures loopless { IfOk result IsGraphLoopless }
+    ensures keeps { IfOk result (KeepsGraphSolutions graph.now) }
+{
+    let marks = used_marks(alloc, graph)?;
+    Ok(marked_graph(alloc, graph, &marks)?)
 }

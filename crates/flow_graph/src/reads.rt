@@ -2,7 +2,7 @@
 
 ghost use Rattle.std.specs.Prelude.{◌≡◌, ◌++◌, IfOk, OnOk};
 ghost use Rattle.signal_graph.specs.Flat.{view, view_expr, view_body};
-ghost use Rattle.flow_graph.specs.Private.Rows.{view_exprs};
+ghost use Rattle.signal_graph.specs.Expressions.{view_exprs};
 ghost use Rattle.flow_graph.specs.Private.ReadsNow.{reads_now, parts_read_now, body_reads_now, read_lists};
 
 use lists::List;

@@ -5,9 +5,9 @@ ghost use Rattle.fix_word.specs.declared.operation.Op.TheVariants as op;
 ghost use Rattle.signal_graph.specs.Rules.{width_of, plain};
 ghost use Rattle.signal_graph.specs.Flat as flat_program;
 ghost use Rattle.signal_graph.specs.Flat.{view, view_expr, view_body};
+ghost use Rattle.signal_graph.specs.Expressions.{view_exprs};
 ghost use Rattle.signal_graph.specs.GraphOf as place_of;
 ghost use Rattle.signal_graph.specs.GraphOf.{sites};
-ghost use Rattle.flow_graph.specs.Private.Rows.{view_exprs};
 ghost use Rattle.flow_graph.specs.Private.Delayed.{TellsDelayed};
 ghost use Rattle.flow_graph.specs.Private.Sites.{view_operand, view_made, view_site, Extends, AddsSite, AddsPlaces, AddsParts, passes, made_of};
 

@@ -9,7 +9,7 @@ ghost use Rattle.source_faults.specs.declared.fault.FrontError.TheVariants.{Memo
 ghost use Rattle.front_end.specs.Private.Checks.{IsGraphFor, IsGraphError};
 
 use element_rules::Elements;
-use flow_graph::{build, prune};
+use flow_graph::{build, prune_owned};
 use loop_expand::expand;
 use signal_graph::{FlatProgram, Graph};
 use source_faults::FrontError;
@@ -41,5 +41,5 @@ pub(crate) fn graph_of(
 {
     let flat = flat_of(alloc, typed, elements)?;
     let graph = build(alloc, &flat)?;
-    Ok(prune(alloc, graph)?)
+    Ok(prune_owned(alloc, graph)?)
 }

@@ -3,7 +3,7 @@ use Rattle.std.proofs.Common.{◌≡◌, sym, subst, ◌∙◌, arith, ℕ, ◌<
 use Rattle.std.specs.Prelude.{pos, negsuc}
 use Rattle.std.proofs.lemmas.Int.{ints}
 use Rattle.lists.specs.Rows.{Rows}
-use Rattle.recurrences.specs.Systems as systems
+use Rattle.recurrences.proofs.Kept.{equal_to_one}
 use Rattle.fault_order.specs.Private.FirstMet.{first}
 use Rattle.fault_order.proofs.TableFaults.{then_parts}
 use Rattle.silage_syntax.specs.Tree.{Func, Program}
@@ -25,7 +25,8 @@ use Rattle.signal_graph.specs.FlatSolves.{flat_system, IsFlatLoopless}
 use Rattle.signal_graph.proofs.OneSolution.{flat_solution}
 use Rattle.loop_expand.specs.Checked.{IsChecked}
 use Rattle.loop_expand.specs.FlatOf.{IsFlatOf}
-use Rattle.loop_expand.specs.Kept.{HaveSameWords, KeepsSolutions}
+use Rattle.loop_expand.specs.Kept.{program_system, HaveSameWords, KeepsSolutions}
+use Rattle.loop_expand.proofs.ProgramSystem.{one_system}
 use Rattle.loop_expand.proofs.Numbers.{number_of, is_number_of, below}
 use Rattle.element_rules.proofs.LoadedElements.{main_there as names_main}
 use Rattle.element_rules.proofs.OnceTables.{distinct_numbers}
@@ -56,34 +57,9 @@ module _ (p : Program) (checked : IsChecked p) where
 
       -- so the program has one solution where the flat program has no delay-free loop
       module _ (sound : IsFlat f) (loopless : IsFlatLoopless f) where
-        only : (x : flat_words.Words)
-            → systems.IsOneSolution (flat_system f stream) x
-            → (words : Words)
-            → HaveSameWords es stream words x
-            → (others : Words)
-            → Solves p stream others
-            → AreSame p stream others words
-        only x one words same others solves e n element sample =
-            let flat_others = expanded_keeps.there others solves in
-            let k = number_of p es numbering e in
-            let number = is_number_of p es numbering e element in
-            let less : k < length f.elems =
-            let all = below p es numbering k e number in let count = is.count in omega arith in
-            sym (flat_others.2 k e n number sample) ∙ at (one.unique flat_others.0 flat_others.1) k less n sample
-            ∙ same k e n number sample
-          where
-            at : {a b : flat_words.Words}
-                → systems.AreSame (flat_system f stream) a b
-                → (k : ℕ)
-                → k < length f.elems
-                → (n : ℤ)
-                → IsSample (length stream) n
-                → a k n ≡ b k n
-            at same k less (pos m) sample = same.present k m less (omega (arith, ints, sample.last))
-            at same k less (negsuc j) sample = same.past k j less (omega (arith, ints, sample.first))
-
         pub program_solution : (words : Words) × IsOneSolution p stream words
         program_solution =
-            let one = flat_solution f sound stream loopless in
-            let back = expanded_keeps.back one.0 one.1.solves in
-            (back.0, record { solves = back.1; unique = λ others solves. only one.0 one.1 back.0 back.2 others solves })
+            let (numbered, one) = flat_solution f sound stream loopless in
+            let (words, solves, same) = expanded_keeps.solutions.back numbered one.solves in
+            (words, (one_system p stream words).1 (equal_to_one (program_system p stream) (flat_system f stream)
+            (HaveSameWords es stream) expanded_keeps.solutions words numbered solves same one))

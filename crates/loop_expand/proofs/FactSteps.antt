@@ -16,6 +16,7 @@ use Rattle.silage_syntax.specs.declared.tree.Decl.{Decl}
 use Rattle.silage_syntax.specs.Names.{element_count}
 use Rattle.type_rules.specs.TypedTree as typed
 use Rattle.signal_graph.specs.Flat as flat
+use Rattle.signal_graph.specs.Expressions.{parts_of, view_exprs}
 use Rattle.type_rules.specs.declared.typed.TypedConst.{TypedConst}
 use Rattle.type_rules.specs.declared.typed.TypedExpr.{TypedExpr}
 use Rattle.element_rules.specs.declared.elements.Instance.{Instance}
@@ -25,7 +26,7 @@ use Rattle.silage_syntax.specs.Manifests.{Indices}
 use Rattle.loop_expand.specs.Private.Elements.{view_elems, inserted, changed, with_fact, with_facts, Puts}
 use Rattle.loop_expand.specs.Private.Facts.{Fact, joined, zipped, flat_of, flat_parts, facts_in, facts_from}
 use Rattle.loop_expand.specs.Private.Groups.{Group, groups_of}
-use Rattle.loop_expand.specs.Private.Rows.{parts_of, parts_after, view_exprs, typed_exprs}
+use Rattle.loop_expand.specs.Private.Rows.{parts_after, typed_exprs}
 use Rattle.loop_expand.specs.Private.Scopes.{Signal, Body, Scope, signals_from, body_for, body_of, body_at}
 use Rattle.loop_expand.specs.Private.Sizes.{decls_of}
 use Rattle.loop_expand.proofs.FactsPut.{facts_length}

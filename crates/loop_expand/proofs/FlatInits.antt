@@ -20,7 +20,7 @@ use Rattle.loop_expand.specs.FlatOf.{AreInitsOf}
 use Rattle.loop_expand.proofs.PassedItems.{sample_within}
 use Rattle.loop_expand.proofs.FlatTypes.{decl_once}
 
-raw_in_type : (l : Lit) (ty : SigType) (v : ℤ) → IsRawWord l ty v → IsInType ty v
+pub raw_in_type : (l : Lit) (ty : SigType) (v : ℤ) → IsRawWord l ty v → IsInType ty v
 raw_in_type (Number negative digits places at) (Fix t) v is = is.word
 raw_in_type (Number negative digits places at) Truths v is = absurd is
 raw_in_type (Truth b at) (Fix t) v is = absurd is

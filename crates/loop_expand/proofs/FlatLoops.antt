@@ -160,7 +160,7 @@ module _ (p : Program) (es : Elements) where
         subst (λ (z : flat.Body). BodyReads z l ago) (sym b)
         (distinct other l k (subst (IsNumberOf es l) h.0 of) is, h.1)
 
-    body_on : (e : Element) (source : Source) (body : flat.Body)
+    pub body_on : (e : Element) (source : Source) (body : flat.Body)
         → IsDefined p e source
         → IsBodyOf p es source body
         → SourceReads source c ago
@@ -185,7 +185,7 @@ module _ (p : Program) (checked : IsChecked p) (es : Elements) (numbering : IsNu
   single : HasSingleDefinitions p
   single = single_definitions p checked.names checked.elements checked.calls
 
-  at_number : (k : ℕ) (e : Element) → IsNumberOf es k e → IsFlatElement p es e (element_of f k)
+  pub at_number : (k : ℕ) (e : Element) → IsNumberOf es k e → IsFlatElement p es e (element_of f k)
   at_number k e is =
       let less : k < length f.elems =
       let all = below p es numbering k e is in let count = flat_of.count in omega arith in

@@ -29,13 +29,8 @@ use Rattle.loop_expand.specs.Kept.{HaveSameWords, KeepsSolutions}
 use Rattle.loop_expand.proofs.Bodies.{source_given}
 use Rattle.loop_expand.proofs.FlatSound.{body_sound}
 use Rattle.loop_expand.proofs.Inits.{inits_initial}
+use Rattle.loop_expand.proofs.ProgramSystem.{before_0, from_0, solves_system}
 use Rattle.loop_expand.proofs.Numbers.{stands, below, element_at, is_element_at, number_of, is_number_of}
-
-before_0 : (rows j : ℕ) → j < 1023 → IsSample rows (negsuc j)
-before_0 rows j less = record { first = omega (arith, ints); last = omega (arith, ints) }
-
-from_0 : (rows n : ℕ) → n < rows → IsSample rows (pos n)
-from_0 rows n less = record { first = omega (arith, ints); last = omega (arith, ints) }
 
 module _ (p : Program) (checked : IsChecked p) (es : Elements) (numbering : IsNumbering p es)
     (distinct : HasDistinctNumbers es) (f : flat.Program) (made : IsFlatOf p es f) (stream : Rows)
@@ -48,9 +43,12 @@ module _ (p : Program) (checked : IsChecked p) (es : Elements) (numbering : IsNu
     there : slice_get f.elems k ≡ Some (element_of f k)
     is : IsFlatElement p es e (element_of f k)
 
+  inside_count : (k : ℕ) (e : Element) → IsNumberOf es k e → k < length f.elems
+  inside_count k e is = let all = below p es numbering k e is in let count = made.count in omega arith
+
   at_number : (k : ℕ) (e : Element) → IsNumberOf es k e → IsThere k e
   at_number k e is =
-      let less : k < length f.elems = let all = below p es numbering k e is in let count = made.count in omega arith in
+      let less = inside_count k e is in
       let there : slice_get f.elems k ≡ Some (element_of f k) = slice_get-get_or f.elems k no_element less in
       record { there = there; is = made.elements k e (element_of f k) is there }
 
@@ -110,10 +108,6 @@ module _ (p : Program) (checked : IsChecked p) (es : Elements) (numbering : IsNu
           ∙ x.present k n (inside_count k e number) inside in
           subst (Gives p stream words n source) (sym same) (given k e number n inside source defined);
     }
-      where
-        inside_count : (k : ℕ) (e : Element) → IsNumberOf es k e → k < length f.elems
-        inside_count k e is = let all = below p es numbering k e is in let count = made.count in omega arith
-
     row_same : (n : ℕ)
         → n < length stream
         → (ks : List ℕ) (xs : List Element)
@@ -152,25 +146,46 @@ module _ (p : Program) (checked : IsChecked p) (es : Elements) (numbering : IsNu
 
   pub keeps_solutions : KeepsSolutions p es f stream
   keeps_solutions = record {
-    there = λ words x. (flat_of words, flat_solves words (flat_of words) (flat_agrees words) x, flat_agrees words);
-    back = λ numbered x. (
-      words_of numbered,
-      program_solves (words_of numbered) numbered (words_agree numbered) x,
-      words_agree numbered,
-    );
-    one_there = λ words a b x y. record {
-      past = λ k j el less.
-          let s = stands p es numbering k (let count = made.count in omega arith) in
-          let sample = before_0 (length stream) j less in
-          x k s.of (negsuc j) s.number sample ∙ sym (y k s.of (negsuc j) s.number sample);
-      present = λ k n el inside.
-          let s = stands p es numbering k (let count = made.count in omega arith) in
-          let sample = from_0 (length stream) n inside in
-          x k s.of (pos n) s.number sample ∙ sym (y k s.of (pos n) s.number sample);
+    solutions = record {
+      forth = λ words x. (
+        flat_of words,
+        flat_solves words (flat_of words) (flat_agrees words) ((solves_system p stream words).1 x),
+        flat_agrees words,
+      );
+      back = λ numbered x. (
+        words_of numbered,
+        (solves_system p stream (words_of numbered)).0
+        (program_solves (words_of numbered) numbered (words_agree numbered) x),
+        words_agree numbered,
+      );
+      one = λ words others a b x y. (
+        λ same. record {
+          past = λ k j el less.
+              let s = stands p es numbering k (let count = made.count in omega arith) in
+              let sample = before_0 (length stream) j less in
+              x k s.of (negsuc j) s.number sample ∙ same.past s.of j s.is less
+              ∙ sym (y k s.of (negsuc j) s.number sample);
+          present = λ k n el inside.
+              let s = stands p es numbering k (let count = made.count in omega arith) in
+              let sample = from_0 (length stream) n inside in
+              x k s.of (pos n) s.number sample ∙ same.present s.of n s.is inside
+              ∙ sym (y k s.of (pos n) s.number sample);
+        },
+        λ same. record {
+          past = λ e j is less.
+              let k = number_of p es numbering e in
+              let number = is_number_of p es numbering e is in
+              let sample = before_0 (length stream) j less in
+              sym (x k e (negsuc j) number sample) ∙ same.past k j (inside_count k e number) less
+              ∙ y k e (negsuc j) number sample;
+          present = λ e n is inside.
+              let k = number_of p es numbering e in
+              let number = is_number_of p es numbering e is in
+              let sample = from_0 (length stream) n inside in
+              sym (x k e (pos n) number sample) ∙ same.present k n (inside_count k e number) inside
+              ∙ y k e (pos n) number sample;
+        },
+      );
     };
-    one_back = λ a b numbered x y e n is sample.
-        let k = number_of p es numbering e in
-        let number = is_number_of p es numbering e is in
-        sym (x k e n number sample) ∙ y k e n number sample;
     outputs = rows_same;
   }

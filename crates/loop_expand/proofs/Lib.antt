@@ -38,7 +38,6 @@ pub mod ReadableExprs
 pub mod FlatMade
 pub mod ProgramFacts
 pub mod SiteFacts
-pub mod Rows
 pub mod FactsPut
 pub mod InstanceNumbers
 pub mod Bounds
@@ -49,3 +48,5 @@ pub mod KnownItems
 pub mod TablesSized
 pub mod Offsets
 mod Examples
+pub mod InTypes
+pub mod TypedSolutions

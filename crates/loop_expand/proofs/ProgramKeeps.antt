@@ -8,7 +8,7 @@ use Rattle.lists.specs.Rows.{Rows}
 use Rattle.recurrences.specs.Systems as systems
 use Rattle.recurrences.specs.Systems.{Signals, System}
 use Rattle.recurrences.specs.Kept.{KeepsSolutions}
-use Rattle.recurrences.proofs.Kept.{AreEqualThrough, keeps_through}
+use Rattle.recurrences.proofs.Kept.{AreEqualThrough, keeps_through, keeps_the_one}
 use Rattle.fix_word.specs.declared.types.SigType.{SigType}
 use Rattle.fix_word.specs.declared.types.SigType.TheVariants.{Fix, Bool as Truths}
 use Rattle.silage_syntax.specs.Tree.{Program}
@@ -34,7 +34,7 @@ use Rattle.signal_graph.proofs.GraphKeeps.{graph_keeps}
 use Rattle.signal_graph.proofs.GraphLoopless.{graph_is_loopless}
 use Rattle.signal_graph.proofs.GraphSound.{graph_is_sound}
 use Rattle.signal_graph.proofs.Members.{zip_length}
-use Rattle.signal_graph.proofs.OneSolution.{flat_once}
+use Rattle.signal_graph.proofs.OneSolution.{flat_solution}
 use Rattle.signal_graph.proofs.PrunedKeeps.{pruned_keeps}
 use Rattle.loop_expand.specs.Checked.{IsChecked}
 use Rattle.loop_expand.specs.FlatOf.{IsFlatOf}
@@ -60,7 +60,7 @@ in_type : (ty : SigType) (word : ℤ) → meaning.IsInType ty word → graphs.Is
 in_type (Fix t) word is = is
 in_type Truths word is = is
 
-in_type_back : (ty : SigType) (word : ℤ) → graphs.IsInType ty word → meaning.IsInType ty word
+pub in_type_back : (ty : SigType) (word : ℤ) → graphs.IsInType ty word → meaning.IsInType ty word
 in_type_back (Fix t) word is = is
 in_type_back Truths word is = is
 
@@ -87,31 +87,6 @@ rows_are p stream = (
   All-weaker (IsRowOf (input_types p)) (IsRow p) (λ row. (row_is p row).1) stream,
 )
 
--- One solution of a program is one of its system.
-module _ (p : Program) (stream : Rows) (words : Words) where
-  one_system : IsOneSolution p stream words → systems.IsOneSolution (program_system p stream) words
-  one_system one = record { solves = (solves_system p stream words).0 one.solves; unique = unique }
-    where
-      unique : (others : Words)
-          → systems.Solves (program_system p stream) others
-          → systems.AreSame (program_system p stream) others words
-      unique others solves =
-          let same = one.unique others ((solves_system p stream others).1 solves) in
-          record {
-            past = λ e j is less.
-                same e (negsuc j) is (record { first = omega (arith, ints); last = omega (arith, ints) });
-            present = λ e n is inside.
-                same e (pos n) is (record { first = omega (arith, ints); last = omega (arith, ints) });
-          }
-
-  -- each solution is the one
-  once : (w : Words) × IsOneSolution p stream w → Solves p stream words → IsOneSolution p stream words
-  once (w, one) solves = record {
-    solves = solves;
-    unique = λ others theirs e n is sample.
-        one.unique others theirs e n is sample ∙ sym (one.unique words solves e n is sample);
-  }
-
 module _ (p : Program) (checked : IsChecked p) (es : Elements) (made : IsExpansion p es) (f : flat.Program)
     (flat_of : IsFlatOf p es f) (loopless : IsFlatLoopless f) where
   sound : IsFlat f
@@ -120,28 +95,16 @@ module _ (p : Program) (checked : IsChecked p) (es : Elements) (made : IsExpansi
   only_one : (stream : Rows) → IsStream p stream → (words : Words) × IsOneSolution p stream words
   only_one stream rows = program_solution p checked es made f flat_of stream rows sound loopless
 
-  equal : (stream : Rows)
-      → IsStream p stream
-      → (words : Words) (others : numbered.Words)
-      → HaveSameWords es stream words others
-      → AreEqualWords p es f stream words others
-  equal stream rows words others same =
-      let keeps = expanded_keeps p checked es made f flat_of stream rows in
-      record { elements = same; rows = sym (keeps.outputs words others same) }
-
   -- the flat program keeps the solutions of the program
   pub flat_keeps : KeepsElementSolutions p es f
   flat_keeps stream rows =
       let keeps = expanded_keeps p checked es made f flat_of stream rows in
-      record {
-        forth = λ words solves.
-            let (others, theirs, same) = keeps.there words ((solves_system p stream words).1 solves) in
-            (others, flat_once f sound stream loopless others theirs, equal stream rows words others same);
-        back = λ others theirs.
-            let (words, solves, same) = keeps.back others theirs in
-            let one = once p stream words (only_one stream rows) solves in
-            (words, one_system p stream words one, equal stream rows words others same);
-      }
+      let (numbered, one) = flat_solution f sound stream loopless in
+      keeps_weaker (program_system p stream) (flat_system f stream) (HaveSameWords es stream)
+      (AreEqualWords p es f stream)
+      (λ words others same. record { elements = same; rows = sym (keeps.outputs words others same) })
+      (keeps_the_one (program_system p stream) (flat_system f stream) (HaveSameWords es stream) keeps.solutions
+      numbered one)
 
   module _ (g : Graph) (graph_of : IsGraphOf f g) (h : Graph) (pruned : IsPruned g h) where
     same_inputs : h.inputs ≡ input_types p

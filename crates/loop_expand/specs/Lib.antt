@@ -4,4 +4,5 @@ pub mod FlatOf
 pub mod Kept
 pub mod Checked
 pub mod Expanded
+pub mod InTypes
 pub mod Private

@@ -6,11 +6,12 @@ ghost use Rattle.type_rules.specs.declared.typed.TypedConst.{TypedConst as Table
 ghost use Rattle.silage_syntax.specs.Tree.{view_place, view_delay};
 ghost use Rattle.type_rules.specs.TypedTree as typed;
 ghost use Rattle.signal_graph.specs.Flat.{view_expr, calculation};
+ghost use Rattle.signal_graph.specs.Expressions.{view_exprs};
 ghost use Rattle.loop_expand.specs.Private.Views.{view_scope};
 ghost use Rattle.loop_expand.specs.Private.Facts as is;
 ghost use Rattle.loop_expand.specs.Private.Known.{IsPlaced, IsKnownRead, IsKnownTarget, IsKnownExpr, AreKnownParts};
 ghost use Rattle.loop_expand.specs.Private.Scopes.{total};
-ghost use Rattle.loop_expand.specs.Private.Rows.{parts_of, view_exprs, typed_exprs};
+ghost use Rattle.loop_expand.specs.Private.Rows.{typed_exprs};
 
 use crate::amounts::{delay, format, offset};
 use crate::lookups::{signal, table};

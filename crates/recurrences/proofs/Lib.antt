@@ -9,3 +9,4 @@ pub mod Heights
 pub mod OneSolution
 pub mod Kept
 mod Examples
+mod Renamed

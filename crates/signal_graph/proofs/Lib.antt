@@ -32,6 +32,8 @@ pub mod PrunedSound
 pub mod PrunedKeeps
 pub mod AnySolutions
 pub mod Marks
+pub mod Rows
+pub mod Sizes
 mod Examples
 mod GraphExamples
 mod SoundExamples

@@ -1,5 +1,6 @@
 pub mod Operations
 pub mod Flat
+pub mod Expressions
 pub mod Rules
 pub mod FlatRules
 pub mod GraphRules

@@ -4,9 +4,11 @@
 #![tactic(auto)]
 
 mod copies;
+mod expressions;
 mod flat;
 mod graph;
 
 pub use copies::node_copies;
+pub use expressions::{expr_copy, operation_count};
 pub use flat::{FlatBody, FlatElem, FlatExpr, FlatProgram};
 pub use graph::{Edge, Edges, Graph, Node};

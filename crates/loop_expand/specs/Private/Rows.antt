@@ -2,15 +2,7 @@
 use Rattle.std.specs.Prelude.{List, [], ◌∷◌, map}
 use Rattle.type_rules.specs.TypedTree as typed
 use Rattle.type_rules.specs.declared.typed.TypedExpr.{TypedExpr}
-use Rattle.signal_graph.specs.declared.flat.FlatExpr.{FlatExpr}
-use Rattle.signal_graph.specs.Flat.{Expr, Parts, no_part, part, view_expr}
-
-abbrev pub parts_of : List Expr → Parts
-parts_of [] = no_part
-parts_of (x ∷ xs) = part x (parts_of xs)
-
-abbrev pub view_exprs : List FlatExpr → Parts
-view_exprs xs = parts_of (map view_expr xs)
+use Rattle.signal_graph.specs.Flat.{Expr, Parts, part}
 
 abbrev pub typed_exprs : List TypedExpr → typed.Parts
 typed_exprs xs = typed.parts_of (map typed.view_expr xs)

@@ -1,9 +1,9 @@
 -- An operation reads with a delay what one of its parts does.
 use Rattle.std.proofs.Common.{ap, sym, ◌∙◌, take}
 use Rattle.signal_graph.specs.Flat.{view_expr}
+use Rattle.signal_graph.specs.Expressions.{view_exprs}
 use Rattle.signal_graph.specs.GraphOf.{delays, parts_delay}
-use Rattle.flow_graph.specs.Private.Rows.{view_exprs}
-use Rattle.flow_graph.proofs.Rows.{view_Node}
+use Rattle.signal_graph.proofs.Rows.{view_Node}
 use Rattle.flow_graph.proofs.DelayMarks.{marks_then, marks_as, exprs_delay_more}
 use Rattle.flow_graph.proofs.delays.+delays.Goals as goal
 

@@ -1,6 +1,6 @@
 use Rattle.std.proofs.Common.{take}
 use Rattle.signal_graph.specs.GraphOf.{parts_delay}
-use Rattle.flow_graph.specs.Private.Rows.{view_exprs}
+use Rattle.signal_graph.specs.Expressions.{view_exprs}
 use Rattle.flow_graph.specs.Private.Delayed.{Marks}
 use Rattle.flow_graph.proofs.delays.+delays.Given as goal
 

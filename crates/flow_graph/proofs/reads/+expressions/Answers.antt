@@ -1,9 +1,9 @@
 -- An operation reads what its parts read, one after another.
 use Rattle.std.proofs.Common.{◌++◌, ap, sym, ◌∙◌}
 use Rattle.signal_graph.specs.Flat.{view_expr}
-use Rattle.flow_graph.specs.Private.Rows.{view_exprs}
+use Rattle.signal_graph.specs.Expressions.{view_exprs}
 use Rattle.flow_graph.specs.Private.ReadsNow.{reads_now, parts_read_now}
-use Rattle.flow_graph.proofs.Rows.{view_Node}
+use Rattle.signal_graph.proofs.Rows.{view_Node}
 use Rattle.flow_graph.proofs.Adding.{adds_none, adds_one, adds_all, ends}
 use Rattle.flow_graph.proofs.ReadLists.{row_reads}
 use Rattle.flow_graph.proofs.reads.+expressions.Goals as goal

@@ -3,10 +3,10 @@ use Rattle.std.proofs.Common.{◌-◌, ap, sym, subst, ◌∙◌, arith, take, m
 use Rattle.std.proofs.lemmas.List.{take_all}
 use Rattle.signal_graph.specs.declared.flat.FlatExpr.{FlatExpr}
 use Rattle.signal_graph.specs.Flat.{view_expr, Expr, calculation}
+use Rattle.signal_graph.specs.Expressions.{parts_of, view_exprs}
 use Rattle.flow_graph.specs.declared.sites.Operand.TheVariants.{Place}
-use Rattle.flow_graph.specs.Private.Rows.{parts_of, view_exprs}
 use Rattle.flow_graph.specs.Private.Sites.{AddsParts, AddsPlaces}
-use Rattle.flow_graph.proofs.Rows.{view_Node}
+use Rattle.signal_graph.proofs.Rows.{view_Node}
 use Rattle.flow_graph.proofs.SiteLists.{exprs_more}
 use Rattle.flow_graph.proofs.SiteSteps.{parts_none, part_more, placed_length, calculated}
 use Rattle.flow_graph.proofs.sites.+places.Goals as goal

@@ -1,5 +1,5 @@
 use Rattle.std.proofs.Common.{take}
-use Rattle.flow_graph.specs.Private.Rows.{view_exprs}
+use Rattle.signal_graph.specs.Expressions.{view_exprs}
 use Rattle.flow_graph.proofs.SiteSteps.{PartsSoFar}
 use Rattle.flow_graph.proofs.sites.+places.Given as goal
 

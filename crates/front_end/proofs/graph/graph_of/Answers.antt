@@ -23,6 +23,6 @@ pub returns-clause-ok : goal.returns-clause-ok
 returns-clause-ok c = λ p are.
     graph_for p c.args.typed.now c.args.elements.now are (view c.in_ok-flat.flat) (c.in_ok-flat.ensures.flat p are)
     c.in_ok-graph.ensures.no_loop
-    c.in_ok-graph.graph c.in_ok-prune.field-0 c.in_ok-graph.ensures.graph c.in_ok-prune.ensures.pruned
-    c.in_ok-prune.ensures.sound
-    c.in_ok-prune.ensures.loopless
+    c.in_ok-graph.graph c.in_ok-prune_owned.field-0 c.in_ok-graph.ensures.graph c.in_ok-prune_owned.ensures.pruned
+    c.in_ok-prune_owned.ensures.sound
+    c.in_ok-prune_owned.ensures.loopless

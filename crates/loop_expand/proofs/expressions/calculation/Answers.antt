@@ -1,4 +1,4 @@
-use Rattle.loop_expand.proofs.Rows.{view_Node}
+use Rattle.signal_graph.proofs.Rows.{view_Node}
 use Rattle.loop_expand.proofs.expressions.calculation.Goals as goal
 
 pub returns : goal.returns

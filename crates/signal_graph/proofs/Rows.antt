@@ -8,7 +8,7 @@ use Rattle.signal_graph.specs.declared.flat.FlatExpr.{FlatExpr, Node, Node', Row
 use Rattle.signal_graph.specs.declared.flat.FlatExpr.{more_of-FlatExpr, items-the_row-FlatExpr}
 use Rattle.signal_graph.specs.declared.flat.FlatExpr.{items_hidden-the_row-FlatExpr-0}
 use Rattle.signal_graph.specs.Flat.{calculation, part, view_expr, view_parts}
-use Rattle.loop_expand.specs.Private.Rows.{parts_of, view_exprs}
+use Rattle.signal_graph.specs.Expressions.{parts_of, view_exprs}
 
 parts_row : (m : _) (k : Row_of-FlatExpr m) → view_parts k ≡ parts_of (map view_expr (items-the_row-FlatExpr m k))
 parts_row _ end_of-FlatExpr = refl
