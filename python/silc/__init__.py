@@ -1,0 +1,1 @@
+"""silc from Python."""
