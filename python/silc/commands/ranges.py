@@ -29,13 +29,11 @@ tightest linear element or the one that is named, to such a length that what is 
 """
 import argparse
 import sys
-from dataclasses import dataclass
 from pathlib import Path
 
-from silc.designing.overflows import levels_of
 from silc.designing.programs import Unrun, fall_silent, text_of
+from silc.designing.ranges import Range, ranges_in, ranges_on
 from silc.designing.samples import samples_in
-from silc.designing.shapes import bits_of
 from silc.designing.sources import words_of_main
 from silc.designing.worst import SECONDS, chosen, worst_of
 from silc.made_files import MadeFiles, NotMade, add_force
@@ -44,45 +42,12 @@ from silc.pictures.ranges import draw_ranges
 HEAD = ("element", "shape", "words", "values", "bits", "left", "range", "")
 RIGHT = (4, 5, 6)
 COMES_BACK = "the program has feedback, so what is after the first overflow of all may come from it"
-# Words from here on are told roughly.
-LONGEST = 10**20
 # The exit status where there is no bound of an element.
 UNBOUNDED = 3
 
 
 class Unranged(ValueError):
     """Why there is no table."""
-
-
-@dataclass
-class Range:
-    """An element with the least and the greatest word that it has or needs, and what there is to say of it."""
-    name: str
-    shape: object
-    least: int
-    greatest: int
-    needed: int
-    said: str
-
-    @property
-    def left(self):
-        return self.shape.width - self.needed
-
-    @property
-    def share(self):
-        """How much of the range is used."""
-        return max(self.greatest / self.shape.greatest if self.shape.greatest else 1.0, self.least / self.shape.least)
-
-    def row(self):
-        value = self.shape.value
-        return (self.name, str(self.shape), f"{said_of_word(self.least)} .. {said_of_word(self.greatest)}",
-                f"{value(self.least):.6g} .. {value(self.greatest):.6g}", str(self.needed), str(self.left),
-                f"{100 * self.share:.1f}%", self.said)
-
-
-def said_of_word(word: int) -> str:
-    """A word, or about how great it is where it has very many digits."""
-    return str(word) if abs(word) < LONGEST else f"{word:.6e}"
 
 
 def text_in(file):
@@ -92,11 +57,9 @@ def text_in(file):
         raise Unranged(fault.strerror) from fault
 
 
-def ranges_of(source, rows, options):
+def ranges_of(source: str, rows: list[tuple[int, ...]], options: argparse.Namespace) -> tuple[list[Range], list[str]]:
     """The ranges of all elements over the rows, and what is to be said of the whole."""
-    levels, is_fed_back = levels_of(source, rows, options.wraps)
-    made = [Range(each.name, each.shape, each.least, each.greatest, bits_of(each.least, each.greatest),
-                  each.said(not is_fed_back)) for each in levels if each.shape and (options.all or each.is_changing)]
+    made, is_fed_back = ranges_on(source, rows, options.wraps, options.all)
     return made, [COMES_BACK] if is_fed_back else []
 
 
@@ -108,9 +71,7 @@ def bounds_of(options, source, files):
         rows, note = worst.input_of(chosen(bounds, options.element))
         files.write(options.worst_input, text_of(rows))
         notes.append(note)
-    shown = [bound for bound in bounds if options.all or bound.is_moved and not bound.is_nothing()]
-    return [Range(bound.name, bound.shape, bound.least, bound.greatest, bits_of(bound.least, bound.greatest), bound.said)
-            for bound in shown], notes, 0 if all(bound.is_bound for bound in bounds) else UNBOUNDED
+    return ranges_in(bounds, options.all), notes, 0 if all(bound.is_bound for bound in bounds) else UNBOUNDED
 
 
 def show(ranges, notes):

@@ -15,32 +15,26 @@ import re
 import sys
 from pathlib import Path
 
-from silc.hardware.datapath import names_of, numbered
-from silc.hardware.hazards import first_hazard
 from silc.hardware.core_files import files_of
-from silc.hardware.netlist import NoCore, core_for_datapath, core_for_image
+from silc.hardware.datapath import Names, names_of, numbered
+from silc.hardware.netlist import Core, NoCore, core_for_datapath, core_for_image
 from silc.made_files import MadeFiles, NotMade, add_force
-from silc.micro_file import BadImage, image_of
-from silc.micro_file.image import MOST_WORDS
-from silc.programs import PACKAGE
+from silc.micro_file import BadImage
+from silc.micro_file.image import Image
+from silc.microcode import check_counts, check_name, checked_image
 
-RESERVED = Path(PACKAGE, "hardware", "reserved.txt").read_text().split()
 SAME = "same"
 
 
-def image_in(file):
+def checked_in(file: str) -> Image:
+    """The image of a file that runs without a conflict."""
     try:
-        image = image_of(Path(file).read_bytes())
-    except BadImage as why:
+        return checked_image(Path(file).read_bytes())
+    except (BadImage, NoCore) as why:
         raise NoCore(f"{file}: {why}") from why
-    hazard = first_hazard(image)
-    if hazard:
-        cycle, kind, place = hazard
-        raise NoCore(f"{file}: conflict at cycle {cycle}: {kind} {place}")
-    return image
 
 
-def names_in(file, image):
+def names_in(file: str | None, image: Image) -> Names:
     if file is None:
         return numbered(image)
     try:
@@ -51,29 +45,31 @@ def names_in(file, image):
         raise NoCore(f"{file}: {why}") from why
 
 
-def name_for(options):
-    name = options.name or Path(options.microcode).stem
-    if not re.fullmatch(r"[A-Za-z][A-Za-z0-9_]*", name) or name in RESERVED or name.startswith("silc_"):
-        raise NoCore(f"{name} is no name for a module; give one by --name")
+def name_for(options: argparse.Namespace) -> str:
+    name: str = options.name or Path(options.microcode).stem
+    try:
+        check_name(name)
+    except NoCore as why:
+        raise NoCore(f"{why}; give one by --name") from why
     return name
 
 
-def counts_of(text, image):
+def counts_of(text: str, image: Image) -> tuple[int, int]:
     """The number of input and of output words of a full core."""
     if text == SAME:
         return len(image.inputs), image.outputs
     found = re.fullmatch(r"(\d{1,2}),(\d{1,2})", text)
-    counts = tuple(map(int, found.groups())) if found else (0, 0)
-    if not all(1 <= count <= MOST_WORDS for count in counts):
-        raise NoCore(f"--full {text}: two numbers from 1 to {MOST_WORDS} are wanted")
-    if counts[0] < len(image.inputs) or counts[1] < image.outputs:
-        raise NoCore(f"--full {text}: the microcode has {len(image.inputs)} input and {image.outputs} output words")
+    try:
+        counts = (int(found[1]), int(found[2])) if found else (0, 0)
+        check_counts(counts, image)
+    except NoCore as why:
+        raise NoCore(f"--full {text}: {why}") from why
     return counts
 
 
-def core_of(options):
+def core_of(options: argparse.Namespace) -> tuple[Image, Core]:
     """The image and its core."""
-    name, image = name_for(options), image_in(options.microcode)
+    name, image = name_for(options), checked_in(options.microcode)
     names = names_in(options.datapath, image)
     if options.full is None:
         return core_for_image(image, name, names)
@@ -82,7 +78,7 @@ def core_of(options):
     return image, core_for_datapath(image, name, names, *counts_of(options.full, image))
 
 
-def options_of(words):
+def options_of(words: list[str]) -> argparse.Namespace:
     parser = argparse.ArgumentParser(prog="verilog", usage=__doc__.partition("usage: ")[2].partition("\n")[0],
                                      description=__doc__, formatter_class=argparse.RawDescriptionHelpFormatter)
     parser.add_argument("microcode", metavar="MIC")
@@ -94,7 +90,7 @@ def options_of(words):
     return parser.parse_args(words)
 
 
-def main(words):
+def main(words: list[str]) -> int:
     options = options_of(words)
     try:
         files = MadeFiles(inputs=[options.microcode, options.datapath], is_forced=options.force)

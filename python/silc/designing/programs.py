@@ -93,10 +93,22 @@ def element_of(line):
 def valued(source, rows):
     """The elements of a source, each with its words over rows of samples."""
     text = in_room(source, rows, lambda room: ran("silc_show", "values", "source", "samples", room=room))
-    elements, group = [], []
+    fault = fault_in(text)
+    if fault:
+        refuse(source, fault)
+    return elements_in(text)
+
+
+def fault_in(text: str) -> str | None:
+    """The line in which `silc_show` tells a fault, where it does."""
+    return next((line for line in text.splitlines() if line.startswith(FAULT)), None)
+
+
+def elements_in(text: str) -> list[Element]:
+    """The elements with their words, of what `silc_show values` prints."""
+    elements: list[Element] = []
+    group: list[Element] = []
     for line in text.splitlines():
-        if line.startswith(FAULT):
-            refuse(source, line)
         if line.startswith("element "):
             group = [] if group and group[0].words else group
             group.append(element_of(line))
