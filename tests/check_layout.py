@@ -10,7 +10,7 @@ from pathlib import Path
 
 ROOT = Path(__file__).resolve().parent.parent
 sys.path[:0] = [str(ROOT / "tools"), str(ROOT / "editor" / "lsp")]
-from fuzzing.sources import Program  # noqa: E402
+from silc.fuzzing.sources import Program  # noqa: E402
 from silc_lsp.layout import Refused, laid_out, pieces_of  # noqa: E402
 
 SOURCES = 40

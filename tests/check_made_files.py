@@ -1,5 +1,5 @@
 #!/usr/bin/env python3
-"""Whether tools keep inputs and files that no tool made, and make files whole or not at all (`tools/made_files.py`).
+"""Whether tools keep inputs and files that no tool made, and make files whole or not at all (`python/silc/made_files.py`).
 
 usage: tests/check_made_files.py
 """
@@ -11,7 +11,7 @@ from pathlib import Path
 
 ROOT = Path(__file__).resolve().parent.parent
 sys.path.insert(0, str(ROOT / "tools"))
-from made_files import MadeFiles, NotMade, record_file  # noqa: E402
+from silc.made_files import MadeFiles, NotMade, record_file  # noqa: E402
 
 
 class Stopped(Exception):

@@ -14,13 +14,13 @@ from pathlib import Path
 
 ROOT = Path(__file__).resolve().parent.parent
 sys.path.insert(0, str(ROOT / "tools"))
-from checking.elements import INPUT, Elements  # noqa: E402
-from checking.first import SILC  # noqa: E402
-from explaining.command import DEPTH  # noqa: E402
-from explaining.grammar import Node  # noqa: E402
-from explaining.program import Source  # noqa: E402
-from explaining.text import Text  # noqa: E402
-from fuzzing.sources import Program  # noqa: E402
+from silc.checking.elements import INPUT, Elements  # noqa: E402
+from silc.explaining.command import DEPTH  # noqa: E402
+from silc.explaining.grammar import Node  # noqa: E402
+from silc.explaining.program import Source  # noqa: E402
+from silc.explaining.text import Text  # noqa: E402
+from silc.fuzzing.sources import Program  # noqa: E402
+from silc.programs import SILC  # noqa: E402
 
 SOURCES, ROWS, MOST_AGE, STEPS = 60, 12, 300, 3_000_000
 SECONDS = 60
@@ -31,7 +31,7 @@ def rows_of(data: bytes, rows: list[list[int]]) -> list[list[int]]:
     with tempfile.TemporaryDirectory(prefix="silc-warnings-") as folder:
         Path(folder, "source").write_bytes(data)
         Path(folder, "rows").write_text("".join(",".join(map(str, row)) + "\n" for row in rows))
-        done = subprocess.run([SILC, "eval", "source", "rows", "/dev/stdout"], cwd=folder, stdin=subprocess.DEVNULL,
+        done = subprocess.run([SILC.found(), "eval", "source", "rows", "/dev/stdout"], cwd=folder, stdin=subprocess.DEVNULL,
                               capture_output=True, text=True, timeout=SECONDS)
     return [[int(word) for word in row.split(",")] for row in done.stdout.splitlines()]
 

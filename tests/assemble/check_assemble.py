@@ -20,9 +20,9 @@ from pathlib import Path
 HERE = Path(__file__).resolve().parent
 ROOT = HERE.parent.parent
 sys.path[:0] = [str(ROOT / "tools")]
-import micro_file  # noqa: E402
-from fuzzing.images import Image  # noqa: E402
-from micro_file.listing import image_of_listing, listing_of  # noqa: E402
+from silc import micro_file  # noqa: E402
+from silc.fuzzing.images import Image  # noqa: E402
+from silc.micro_file.listing import image_of_listing, listing_of  # noqa: E402
 
 TOOL, PAGE = ROOT / "tools" / "assemble", ROOT / "docs" / "MICROCODE.md"
 SILC = ROOT / "crates" / "silc_main" / "out" / "silc_main"

@@ -13,7 +13,7 @@ from pathlib import Path
 
 ROOT = Path(__file__).resolve().parent.parent.parent
 sys.path.insert(0, str(ROOT / "tools"))
-from designing.programs import evaluated  # noqa: E402
+from silc.designing.programs import evaluated  # noqa: E402
 
 EXAMPLES, RATE = ROOT / "examples", 48000
 # The nominal thirds of an octave from 40 Hz to 8 kHz. Up to 4 kHz the weighting may be off by 1 dB, above by these.

@@ -25,7 +25,7 @@ os.environ["SILC_SHOW"] = str(Path(os.environ.get("SILC_SHOW", ROOT / "crates" /
 sys.path.insert(0, str(ROOT / "tools"))
 sys.path.insert(0, str(ROOT / "tests" / "explain"))
 from check_plans import edited  # noqa: E402
-from explaining import command  # noqa: E402
+from silc.explaining import command  # noqa: E402
 
 SOURCE = """/* A choice, a delay and a table. */
 const gain : fix<16,15> = 0.25;

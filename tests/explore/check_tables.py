@@ -24,7 +24,7 @@ from pathlib import Path
 HERE = Path(__file__).resolve().parent
 ROOT = HERE.parent.parent
 sys.path.insert(0, str(ROOT / "tools"))
-from exploring.template import Template, text_of  # noqa: E402
+from silc.exploring.template import Template, text_of  # noqa: E402
 
 BUILT = ROOT / "crates" / "silc_main" / "out" / "silc_main"
 TEMPLATE = HERE / "small.ranges"

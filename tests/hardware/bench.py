@@ -8,8 +8,8 @@ from pathlib import Path
 HERE = Path(__file__).resolve().parent
 ROOT = HERE.parent.parent
 sys.path.insert(0, str(ROOT / "tools"))
-from micro_file.image import MOST_WIDTH  # noqa: E402
-from micro_file.operations import PORTS  # noqa: E402
+from silc.micro_file.image import MOST_WIDTH  # noqa: E402
+from silc.micro_file.operations import PORTS  # noqa: E402
 
 SECONDS = 3600
 

@@ -36,11 +36,11 @@ from pathlib import Path
 
 from bench import ROOT, Fault, built_by_icarus, built_by_verilator, is_there, made, ran
 from cores import SILC, as_silc_has_it, check_image, check_rows, make_core, modelled, ways, write_rows
-from hardware.hazards import first_hazard
+from silc.hardware.hazards import first_hazard
 from images import broken_images, directed_images, random_images
 from machine import Wordless
-from micro_file import image_of
-from micro_file.operations import OF_KIND, number_of
+from silc.micro_file import image_of
+from silc.micro_file.operations import OF_KIND, number_of
 from planted import PARTS as PARTS_FILE, PLANTED
 
 EXAMPLES = ROOT / "examples"

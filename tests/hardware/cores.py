@@ -4,9 +4,9 @@ import subprocess
 from pathlib import Path
 
 from bench import ROOT, Fault, answer, built_by_icarus, datapath_text, made, text_of
-from hardware.hazards import first_hazard
+from silc.hardware.hazards import first_hazard
 from machine import Hazard, Machine
-from micro_file import image_of
+from silc.micro_file import image_of
 
 SILC = Path(os.environ.get("SILC", ROOT / "crates" / "silc_main" / "out" / "silc_main")).resolve()
 ADDRESS = "address"

@@ -10,7 +10,7 @@ from pathlib import Path
 sys.path.insert(0, str(Path(__file__).resolve().parent.parent.parent / "bench"))
 from microcode import FORMATTED, PORTS, image, issue, unit, word  # noqa: E402
 
-from micro_file import image_of  # noqa: E402
+from silc.micro_file import image_of  # noqa: E402
 
 SEED = 41
 OF_KIND = {"in": ["input"], "out": ["output"], "rom": ["const"], "mul": ["mul"], "sel": ["sel"], "ram": ["load", "store"],

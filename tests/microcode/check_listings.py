@@ -1,10 +1,10 @@
 #!/usr/bin/env python3
-"""Whether `silc list` and `silc sim` read microcode as tools/micro_file does, in both versions.
+"""Whether `silc list` and `silc sim` read microcode as python/silc/micro_file does, in both versions.
 
 usage: tests/microcode/check_listings.py [--silc PROGRAM]
 
 It takes the microcode files of tests/ and images that are made here, among them one with each number at the ends of its
-range. In each version the listing is that of the fields which tools/micro_file reads, and `sim` ends on the same
+range. In each version the listing is that of the fields which python/silc/micro_file reads, and `sim` ends on the same
 samples with the same line and the same rows. Where the program is not built it is skipped, with 77. The last line is
 'N passed, M failed'.
 """
@@ -18,8 +18,8 @@ from pathlib import Path
 HERE = Path(__file__).resolve().parent
 ROOT = HERE.parent.parent
 sys.path[:0] = [str(ROOT / "tools"), str(ROOT / "bench"), str(ROOT / "tests" / "hardware")]
-import micro_file  # noqa: E402
-from micro_file.operations import KINDS  # noqa: E402
+from silc import micro_file  # noqa: E402
+from silc.micro_file.operations import KINDS  # noqa: E402
 from images import directed_images, random_images  # noqa: E402
 from microcode import busy, crowded, image, issue, unit, verbose, wide, word  # noqa: E402
 
@@ -75,7 +75,7 @@ def ran(silc, folder, *words):
 
 
 def faults_of(silc, folder, data):
-    """How the program reads the image of these bytes otherwise than tools/micro_file, or otherwise in one version."""
+    """How the program reads the image of these bytes otherwise than python/silc/micro_file, or otherwise in one version."""
     made, runs = micro_file.image_of(data), []
     (folder / "SAMPLES").write_text(samples_for(made.inputs))
     for version in micro_file.VERSIONS:

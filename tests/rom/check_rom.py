@@ -6,7 +6,7 @@ usage: tests/rom/check_rom.py
 It tries the microcode files of tests/, each in both versions, and one of more than 64 KiB. The texts are read back
 here, by the rules of $readmemh and Intel HEX; a C compiler reads the array, where there is one. And the bytes and bits
 that docs/MICROCODE.md has of its example are those of the files in tests/increment, with which the other tests compare;
-and tools/micro_file makes of each file that was written by hand the one in the other version. The last line is
+and python/silc/micro_file makes of each file that was written by hand the one in the other version. The last line is
 'N passed, M failed'.
 """
 import re
@@ -19,7 +19,7 @@ from pathlib import Path
 HERE = Path(__file__).resolve().parent
 ROOT = HERE.parent.parent
 sys.path[:0] = [str(ROOT / "tools"), str(ROOT / "bench")]
-import micro_file  # noqa: E402
+from silc import micro_file  # noqa: E402
 from microcode import crowded  # noqa: E402
 
 ROM, TABLES = ROOT / "tools" / "rom", ROOT / "docs" / "MICROCODE.md"

@@ -1,8 +1,8 @@
 """A source as an editor has it, and positions in it: a line, and UTF-16 units in that line."""
 import bisect
 
-from checking.findings import Finding
-from explaining.text import Text
+from silc.checking.findings import Finding
+from silc.explaining.text import Text
 
 UNIT = 2
 # The name of the text of a document in reports, whose edits are of it.

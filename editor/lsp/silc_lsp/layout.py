@@ -2,8 +2,8 @@
 import re
 from dataclasses import dataclass
 
-from explaining.grammar import Unexpected, parsed
-from explaining.text import TOKEN, tokens_of
+from silc.explaining.grammar import Unexpected, parsed
+from silc.explaining.text import TOKEN, tokens_of
 
 COMMENT, INDENT = "comment", "  "
 OPERATORS = ("+", "-", "*", "<<", ">>", "&", "|", "<", "<=", "==", "!=", ">", ">=", "!")

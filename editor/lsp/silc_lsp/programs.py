@@ -1,15 +1,14 @@
 """What the built programs say of a source: its plan over a datapath, and of a datapath file its fault."""
-import os
 import re
 import subprocess
 import tempfile
 from collections.abc import Callable
 from pathlib import Path
 
-from checking.findings import Finding, finding_of
-from checking.first import SILC
-from explaining import of_datapath
-from explaining.command import Case, SHOW
+from silc.checking.findings import Finding, finding_of
+from silc.explaining import of_datapath
+from silc.explaining.command import Case
+from silc.programs import SHOW, SILC
 
 NODE = re.compile(r"\bnode (\d+)")
 SECONDS, BAD_DATAPATH = 30, 5
@@ -48,7 +47,7 @@ def plan_of(text: str, datapath: Path, content: str) -> str:
     """What is to be said of the plan of a source over a datapath file with some content."""
     def plan(room: Path) -> str:
         (room / FILE).write_text(content, newline="")
-        done = ran(SILC, "schedule", SOURCE, FILE, room=room)
+        done = ran(SILC.place(), "schedule", SOURCE, FILE, room=room)
         if done.returncode == 0:
             period, nodes = re.match(r"period (\d+) unroll \d+ nodes (\d+)", done.stdout).groups()
             return f"over {datapath.name}: a period of {period} cycles, {nodes} nodes"
@@ -60,9 +59,9 @@ def plan_of(text: str, datapath: Path, content: str) -> str:
 def equation_of(text: str, said: str, room: Path) -> str:
     """The line of the node that a refusal names, where `silc_show origins` says it."""
     node = NODE.search(said)
-    if not node or not os.access(SHOW, os.X_OK):
+    if not node or not SHOW.is_there():
         return ""
-    done = ran(SHOW, "origins", SOURCE, FILE, room=room)
+    done = ran(SHOW.place(), "origins", SOURCE, FILE, room=room)
     found = re.search(rf"^node {node[1]} .*?\bline (\d+) element \d+ (\S+)", done.stdout, re.M)
     lines = text.splitlines()
     if not found or not 1 <= int(found[1]) <= len(lines):
@@ -74,10 +73,10 @@ def datapath_fault(text: str) -> Finding | None:
     """The fault of a datapath file, or nothing."""
     def fault(room: Path) -> Finding | None:
         (room / FILE).write_text(text, newline="")
-        done = ran(SILC, "schedule", SOURCE, FILE, room=room)
+        done = ran(SILC.place(), "schedule", SOURCE, FILE, room=room)
         if done.returncode != BAD_DATAPATH:
             return None
-        case = Case(["schedule", str(room / SOURCE), str(room / FILE)], done.returncode, done.stderr, SILC)
+        case = Case(["schedule", str(room / SOURCE), str(room / FILE)], done.returncode, done.stderr, SILC.place())
         report = of_datapath.report_of(case)
         return finding_of(report) if report.span else Finding(1, 1, 2, report.short, cure=report.cure)
     return in_room(ANY_SOURCE, fault)

@@ -5,11 +5,11 @@ import sys
 from pathlib import Path
 from urllib.parse import unquote, urlparse
 
-from checking.every import every_fault
-from checking.first import Unchecked
-from checking.numbers import Numbers, told_number
-from checking.warn import warnings_of
-from explaining.program import Source
+from silc.checking.every import every_fault
+from silc.checking.first import Unchecked
+from silc.checking.numbers import Numbers, told_number
+from silc.checking.warn import warnings_of
+from silc.explaining.program import Source
 from silc_lsp import names as kinds
 from silc_lsp.calls import signature
 from silc_lsp.document import Document, is_unused, whole

@@ -1,0 +1,24 @@
+"""The commands over the package, a module each: `tools/NAME WORDS` of the checkout, and `python3 -m silc NAME WORDS`."""
+import importlib
+import os
+import sys
+
+STOPPED = 130
+
+
+def names() -> list[str]:
+    """The names of all commands."""
+    files = os.listdir(os.path.dirname(__file__))
+    return sorted(file[:-3] for file in files if file.endswith(".py") and not file.startswith("_"))
+
+
+def run(name: str, words: list[str] | None = None) -> None:
+    """Runs a command on words, those of this process where none are given, and ends the process with its status."""
+    module = importlib.import_module(f"silc.commands.{name}")
+    try:
+        sys.exit(module.main(sys.argv[1:] if words is None else words))
+    except BrokenPipeError:
+        # Whoever reads may go away before the end.
+        sys.stderr.close()
+    except KeyboardInterrupt:
+        sys.exit(STOPPED)

@@ -1,0 +1,82 @@
+"""Runs `silc`, and where it refuses says more: the place, what is wrong there, what would be right, and where the rule is.
+
+usage: tools/explain [OPTION ..] WORDS..    runs `silc WORDS..`, and explains its refusal on standard error
+       tools/explain --place LINE [DP]      tells in a line what the place of a conflict is, by the LINE that silc has said
+       tools/explain --page                 prints docs/ERRORS.md, which has every refusal with an example and its cure
+
+  --datapath DP   with `sim`: the datapath file that MIC was compiled for, so that units and buses are told by their names
+  --edits         tells the cure as edits too, where it is some: lines `edit: FILE:LINE:COLUMN-END: TEXT`, TEXT as JSON
+
+What `silc` prints goes through, and its exit status is that of this program. It builds nothing: it runs the programs that
+are built, or those that `SILC` and `SILC_SHOW` name in the environment. Without `silc_show` it says what it can.
+"""
+import os
+import sys
+
+from silc.programs import SILC, is_program
+
+# The exit code of `./silc` where the program is not there and could not be built.
+UNBUILT, BAD_WORDS = 70, 2
+PIECE = 1 << 16
+DATAPATH, EDITS = "--datapath", "--edits"
+# The options, and how many words follow each.
+OPTIONS = {DATAPATH: 1, EDITS: 0}
+
+
+def run(words):
+    """Runs `silc` on the words. Gives its exit status and what it wrote to standard error, which goes through."""
+    read, write = os.pipe()
+    silc = SILC.place()
+    child = os.posix_spawn(silc, [silc, *words], os.environ, file_actions=[
+        (os.POSIX_SPAWN_DUP2, write, 2), (os.POSIX_SPAWN_CLOSE, read)])
+    os.close(write)
+    said = b""
+    while piece := os.read(read, PIECE):
+        os.write(2, piece)
+        said += piece
+    _, status = os.waitpid(child, 0)
+    return os.waitstatus_to_exitcode(status), said.decode(errors="replace")
+
+
+def options_of(words):
+    """The options before the words of a command, these words, and why they are wrong, where they are."""
+    options = {}
+    while words and words[0] in OPTIONS:
+        count = OPTIONS[words[0]]
+        options[words[0]], words = words[1:1 + count], words[1 + count:]
+    if not words:
+        return options, words, "no command follows the options; `tools/explain --help` shows the usage"
+    if DATAPATH in options and words[0] != "sim":
+        return options, words, f"{DATAPATH} is for `sim`: the other commands have a datapath of their own, or none"
+    return options, words, None
+
+
+def explained(options, words):
+    """Runs a command, and explains its refusal. Gives the exit status."""
+    from silc.explaining.outputs import guarded
+    status, said = guarded(words) or run(words)
+    if status > 0 and said:
+        from silc.explaining.command import explain
+        explain(words, status, said, SILC.place(), *options.get(DATAPATH, []), is_edited=EDITS in options)
+    return status if status >= 0 else 128 - status
+
+
+def main(words):
+    if words in ([], ["--help"]):
+        print(__doc__)
+        return 0 if words else BAD_WORDS
+    if words == ["--page"]:
+        from silc.explaining.page import page
+        print(page(), end="")
+        return 0
+    if words[0] == "--place" and len(words) in (2, 3):
+        from silc.explaining.of_microcode import told_place
+        return told_place(*words[1:])
+    options, words, fault = options_of(words)
+    if fault:
+        print(f"explain: {fault}", file=sys.stderr)
+        return BAD_WORDS
+    if not is_program(SILC.place()):
+        print(f"explain: there is no program {SILC.place()}; `./silc --version` builds one", file=sys.stderr)
+        return UNBUILT
+    return explained(options, words)

@@ -1,0 +1,133 @@
+"""Says how far the output of a source is from what it should be, and whether it falls silent.
+
+usage: tools/noise SRC SAMPLES --against REFERENCE [--picture FILE [--force]]
+       tools/noise SRC --zero-input N [--impulse WORD]
+
+REFERENCE has a row of real numbers for each sample, or is a second source (its name ends with .sil), with finer shapes say,
+so that the noise of one `round` is seen by itself. For each output word: signal to noise in decibels, and the noise in
+decibels of full scale, which is the power of the least word; the mean error and the greatest one in last bits, and the power
+of the error in eight bands, in decibels of full scale.
+
+With --zero-input the first input has an impulse, WORD or its greatest word, and then N zeros. It is said whether the output
+dies out, and with what period it does not. A state of the program that comes back says what it does forever. One without
+state, which reads nothing with a delay, is done with the impulse. The rows are those of `silc eval`, and of `silc_show
+values`.
+"""
+import argparse
+import math
+import sys
+from pathlib import Path
+
+from silc.designing.noise import Silence, noises, silence_after
+from silc.designing.programs import Unrun, fall_silent
+from silc.designing.samples import samples_in
+from silc.designing.sources import words_of_main
+from silc.made_files import MadeFiles, NotMade, add_force
+from silc.pictures.spectrum import draw_spectra
+
+# As many words of a limit cycle are shown.
+SHOWN = 16
+
+
+def text_in(file):
+    return Path(file).read_text(encoding="latin-1")
+
+
+def decibels(number):
+    return f"{number:.1f} dB" if math.isfinite(number) else "nothing" if number < 0 else "no error"
+
+
+def show(noise, number, count):
+    named = f"output {number}: " if count > 1 else ""
+    step = noise.shape.step
+    beside = f", noise {decibels(noise.level())} of full scale" if noise.error else ""
+    print(f"{named}signal to noise {decibels(noise.ratio())}{beside}")
+    print(f"{named}error in last bits of {noise.shape}: mean {noise.mean / step:.3f}, greatest {noise.peak / step:.3f} "
+          f"at sample {noise.peak_at + 1}")
+    for low, high, level in noise.bands() if noise.error else ():
+        print(f"{named}error from {low:.4f} to {high:.4f} of the rate: {decibels(level)} of full scale")
+
+
+def compare(options):
+    files = MadeFiles([options.source, options.samples, options.against], options.force)
+    files.look_at(options.picture)
+    source = text_in(options.source)
+    rows = samples_in(options.samples, words_of_main(source)[0])
+    found = noises(source, rows, options.against)
+    if not found:
+        raise ValueError("no output is a number")
+    for number, noise in enumerate(found):
+        show(noise, number, len(found))
+    if options.picture:
+        first, full = found[0], (found[0].shape.step * -found[0].shape.least) ** 2
+        powers = [[power / full for power in spectrum] for spectrum in (first.signal_spectrum, first.error_spectrum)]
+        files.write(options.picture, draw_spectra(*powers, "0 dB is full scale") + "\n")
+
+
+def falls_silent(options):
+    source = text_in(options.source)
+    shape = words_of_main(source)[0][0]
+    word = options.impulse if options.impulse is not None else shape.greatest if shape else 1
+    if not (shape.has(word) if shape else word in (0, 1)):
+        raise ValueError(f"{word} is no word of {shape or 'bool'}")
+    print(said_of_silence(silence_after(source, word, options.zero_input), word, options.zero_input))
+
+
+def said_of_silence(silence: Silence, word: int, length: int) -> str:
+    """What the output does after an impulse."""
+    words = " ".join(",".join(map(str, row)) for row in silence.words[:SHOWN])
+    if not silence.has_state:
+        return f"it has no state, and after an impulse of {word} its output is constant: from sample 2 on it is {words}"
+    if silence.period is None:
+        return f"after an impulse of {word} it neither dies out nor repeats within {length} samples"
+    if silence.dies_out():
+        return f"after an impulse of {word} it dies out: from sample {silence.last + 2} on it is 0"
+    before = f"after an impulse of {word} it does not die out: from sample {silence.start + 3} on"
+    if silence.period == 1:
+        return f"{before} its output is constant, {words} forever"
+    return f"{before} it repeats every {silence.period} samples forever: {words}{' ..' if silence.period > SHOWN else ''}"
+
+
+def positive(word):
+    number = int(word)
+    if number < 1:
+        raise ValueError
+    return number
+
+
+def options_of(words):
+    parser = argparse.ArgumentParser(prog="noise", usage=__doc__.partition("usage: ")[2].partition("\n\n")[0],
+                                     description=__doc__.partition("\n\n")[0], allow_abbrev=False)
+    parser.add_argument("source", metavar="SRC")
+    parser.add_argument("samples", metavar="SAMPLES", nargs="?")
+    parser.add_argument("--against", metavar="REFERENCE")
+    parser.add_argument("--picture", metavar="FILE")
+    parser.add_argument("--zero-input", metavar="N", type=positive)
+    parser.add_argument("--impulse", metavar="WORD", type=int)
+    add_force(parser)
+    options = parser.parse_args(words)
+    if bool(options.samples) != bool(options.against) or bool(options.samples) == bool(options.zero_input):
+        parser.error("it takes SAMPLES and --against REFERENCE, or else --zero-input N")
+    if options.zero_input and options.picture or options.samples and options.impulse is not None:
+        parser.error("--picture goes with SAMPLES, and --impulse with --zero-input")
+    return options
+
+
+def main(words):
+    options = options_of(words)
+    files = [str(file) for file in (options.samples, options.against) if file]
+    try:
+        falls_silent(options) if options.zero_input else compare(options)
+        sys.stdout.flush()
+    except NotMade as why:
+        print(f"noise: {why}", file=sys.stderr)
+        return 1
+    except (ValueError, Unrun) as why:
+        print(f"noise: {why}" if str(why).startswith(tuple(files)) else f"noise: {options.source}: {why}", file=sys.stderr)
+        return 1
+    except BrokenPipeError:
+        fall_silent()
+    except OSError as fault:
+        print(f"noise: {fault.filename}: {fault.strerror}", file=sys.stderr)
+        return 1
+    return 0

@@ -1,0 +1,55 @@
+"""Sources as texts: their types, and the same source with other ones."""
+import re
+
+from silc.designing.shapes import WIDEST, Shape
+
+COMMENT = re.compile(r"/\*.*?(?:\*/|\Z)", re.S)
+TYPE = re.compile(r"\bfix(\s*)<(\s*)(\d+)(\s*),(\s*)(\d+)")
+MAIN = re.compile(r"\bfunc\s+main\s*\((.*?)\)\s*(\(.*?\)|[^=]*)=\s*begin\b", re.S)
+DECLARED = re.compile(r"\w+\s*((?:\[\s*\d+\s*\]\s*)*):\s*(?:fix\s*<\s*(\d+)\s*,\s*(\d+)[^>]*>|bool)")
+
+
+def outside_comments(source, change):
+    """The source with a change to what is no comment."""
+    parts, place = [], 0
+    for comment in COMMENT.finditer(source):
+        parts += [change(source[place : comment.start()]), comment[0]]
+        place = comment.end()
+    return "".join([*parts, change(source[place:])])
+
+
+def with_types(source, changed):
+    """The source with the shape that `changed` makes of each shape in it."""
+    def replaced(found):
+        first, second, width, third, fourth, places = found.groups()
+        shape = changed(Shape(int(width), int(places)))
+        return f"fix{first}<{second}{shape.width}{third},{fourth}{shape.places}"
+    return outside_comments(source, lambda text: TYPE.sub(replaced, text))
+
+
+def shapes_in(source):
+    """The shapes that are written in a source."""
+    shapes = set()
+    with_types(source, lambda shape: shapes.add(shape) or shape)
+    return shapes
+
+
+def widened(source):
+    """The same program with words of the greatest width."""
+    return with_types(source, lambda shape: Shape(WIDEST, shape.places))
+
+
+def words_of_main(source):
+    """The shape of each input word and of each output word of `main`, `None` for a truth value."""
+    found = MAIN.search(COMMENT.sub(" ", source))
+    if not found:
+        raise ValueError("it has no main")
+    return tuple(list(words_declared(part)) for part in found.groups())
+
+
+def words_declared(text):
+    for dims, width, places in DECLARED.findall(text):
+        count = 1
+        for dim in re.findall(r"\d+", dims):
+            count *= int(dim)
+        yield from [Shape(int(width), int(places)) if width else None] * count

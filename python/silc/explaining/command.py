@@ -1,0 +1,111 @@
+"""The explanation of a refused command."""
+import subprocess
+import sys
+from pathlib import Path
+
+from silc.explaining.outputs import named
+from silc.explaining.refusals import refusal_of
+from silc.explaining.report import edit_line, lines_of
+from silc.explaining.text import Text
+from silc.programs import SHOW
+
+SECONDS = 60
+# Recursion goes as deep as an expression may be nested, a few calls for each operator.
+DEPTH = 20_000
+BUILD = "`tools/build silc_show` builds the program that tells the place"
+
+
+class Case:
+    """A refused command: its words by what they are, its refusal, the programs, and the datapath file that a user names."""
+
+    def __init__(self, words, status, said, silc, datapath=None):
+        self.words, self.status, self.silc, self.datapath = words, status, silc, datapath
+        self.files = named(words) or {}
+        self.refusal, self.values = next(filter(None, map(refusal_of, said.splitlines())), (None, {}))
+        self.said = said
+
+    def text(self, what):
+        """The file that a word names. What a pipe has given is gone."""
+        file = Path(self.files[what])
+        if not file.is_file():
+            raise OSError(f"{file} can't be read again")
+        return Text(self.files[what], file.read_bytes())
+
+    def has_show(self):
+        return SHOW.is_there()
+
+    def show(self, *words):
+        """What `silc_show` prints, or nothing where it is not built or can't."""
+        if not self.has_show():
+            return None
+        done = subprocess.run([SHOW.place(), *words], stdin=subprocess.DEVNULL, capture_output=True, timeout=SECONDS)
+        return done.stdout.decode(errors="replace") if done.returncode == 0 else None
+
+    def plan(self, datapath):
+        """The exit status of `silc schedule` for the source on another datapath, and what it says."""
+        done = subprocess.run([self.silc, "schedule", self.files["SRC"], datapath], stdin=subprocess.DEVNULL,
+                              capture_output=True, timeout=SECONDS)
+        return done.returncode, (done.stdout if done.returncode == 0 else done.stderr).decode(errors="replace")
+
+
+def say(text):
+    print(f"explain: {text}", file=sys.stderr, flush=True)
+
+
+def report_of(case):
+    """The report of a refused command."""
+    if case.status == 2:
+        from silc.explaining.of_words import report_of as of
+    elif case.status in (1, 3):
+        from silc.explaining.of_files import report_of as of
+    elif case.status == 4:
+        return of_source(case)
+    elif case.status == 5:
+        from silc.explaining.of_datapath import report_of as of
+    elif case.status in (6, 7, 8, 9):
+        from silc.explaining.of_plan import report_of as of
+    elif case.status in (10, 12):
+        from silc.explaining.of_microcode import report_of as of
+    elif case.status == 11:
+        from silc.explaining.of_samples import report_of as of
+    else:
+        return None
+    return of(case)
+
+
+def of_source(case):
+    from silc.explaining import of_source as source
+    from silc.explaining.kinds import other_kind
+    text = case.text("SRC")
+    other = other_kind(case, "SRC")
+    if other:
+        return other
+    answer = case.show("graph", case.files["SRC"])
+    report = source.report_of(text, answer) if answer else source.report_found(text, case.refusal, case.values)
+    if report is None:
+        report = without_place(case, text)
+    return report
+
+
+def without_place(case, text):
+    """What can be said of a refused source without `silc_show`: its line, and what the text means."""
+    line = case.values.get("l")
+    report = case.refusal.report(text.line_span(int(line)) if line else None, text.name)
+    return report if case.has_show() else report.note(f"{BUILD}.")
+
+
+def explain(words, status, said, silc, datapath=None, is_edited=False):
+    """Says more of a refused command, on standard error."""
+    sys.setrecursionlimit(DEPTH)
+    case = Case(words, status, said, silc, datapath)
+    try:
+        report = report_of(case)
+    except Exception as fault:
+        # Whatever is wrong here, the command was refused, and what the refusal means is known.
+        say(f"the place is not known: {fault!r}")
+        report = None
+    if report is None and case.refusal:
+        report = case.refusal.report(about="silc")
+    if report:
+        print("\n".join([*lines_of(report), *(map(edit_line, report.edits) if is_edited else ())]), file=sys.stderr,
+              flush=True)

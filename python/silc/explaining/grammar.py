@@ -1,0 +1,438 @@
+"""The tree of a source by the grammar of docs/LANGUAGE.md, or the token at which it ends, and what was wanted there."""
+from dataclasses import dataclass, field
+
+from silc.explaining.text import Token
+
+COMPARISONS = ("<", "<=", "==", "!=", ">", ">=")
+END = Token("end", "", -1, -1)
+
+
+class Unexpected(Exception):
+    """A token with which no program goes on: its position among the tokens, and what was wanted."""
+
+    def __init__(self, position, wanted):
+        super().__init__(wanted)
+        self.position, self.wanted = position, wanted
+
+
+@dataclass(slots=True)
+class Node:
+    """A part of the tree: its kind, the place that faults name, and the places where it begins and ends."""
+    kind: str
+    at: int
+    start: int
+    end: int
+    name: str = ""
+    parts: list = field(default_factory=list)
+    subs: list = field(default_factory=list)
+    amount: "Node | None" = None
+    type: "Type | None" = None
+    value: object = None
+
+
+@dataclass
+class Type:
+    """A type as the source has it; the width of `bool` is None."""
+    width: int | None
+    places: int
+    text: str
+    start: int
+    end: int
+
+    def shape(self):
+        return self.width, self.places
+
+
+@dataclass
+class Decl:
+    name: str
+    at: int
+    end: int
+    dims: list
+    type: Type
+    # parameter, result, local or table
+    role: str = "local"
+
+
+@dataclass
+class Table:
+    name: str
+    at: int
+    end: int
+    decl: Decl
+    words: list
+
+
+@dataclass
+class Func:
+    name: str
+    at: int
+    end: int
+    params: list
+    results: list
+    locals: list
+    items: list
+
+    def decls(self):
+        return [*self.params, *self.results, *self.locals]
+
+
+class Parser:
+    """A list of tokens, and the position up to which they are read."""
+
+    def __init__(self, tokens):
+        self.tokens, self.at = tokens, 0
+
+    def token(self, ahead=0):
+        position = self.at + ahead
+        return self.tokens[position] if position < len(self.tokens) else END
+
+    def is_next(self, text):
+        return self.token().text == text and self.token().kind != "end"
+
+    def skip(self, text):
+        if self.is_next(text):
+            self.at += 1
+            return True
+        return False
+
+    def fail(self, wanted):
+        raise Unexpected(self.at, wanted)
+
+    def expect(self, text, wanted=None):
+        if not self.is_next(text):
+            self.fail(wanted or f"`{text}`")
+        self.at += 1
+        return self.tokens[self.at - 1]
+
+    def take(self, kind, wanted):
+        if self.token().kind != kind:
+            self.fail(wanted)
+        self.at += 1
+        return self.tokens[self.at - 1]
+
+    def last(self):
+        return self.tokens[self.at - 1].end
+
+    def many(self, one):
+        made = [one()]
+        while self.skip(","):
+            made.append(one())
+        return made
+
+    # declarations
+
+    def program(self):
+        tops = []
+        while self.token().kind != "end":
+            if self.is_next("const"):
+                tops.append(self.table())
+            elif self.is_next("func"):
+                tops.append(self.func())
+            else:
+                self.fail("`const` or `func`")
+        return tops
+
+    def table(self):
+        self.expect("const")
+        name, dims = self.declared()
+        self.expect(":")
+        if self.is_next("bool"):
+            self.fail("a type `fix<W,F>`, since tables have numbers")
+        decl = Decl(name.text, name.start, name.end, dims, self.fix(), "table")
+        self.expect("=")
+        if self.skip("("):
+            words = self.many(self.signed)
+            self.expect(")", "`,` or `)`")
+        else:
+            words = [self.signed()]
+        self.expect(";")
+        return Table(name.text, name.start, name.end, decl, words)
+
+    def func(self):
+        self.expect("func")
+        name = self.take("name", "the name of the function")
+        self.expect("(")
+        params = self.many(lambda: self.decl("parameter"))
+        self.expect(")", "`,` or `)`")
+        if self.skip("("):
+            results = self.many(lambda: self.decl("result"))
+            self.expect(")", "`,` or `)`")
+        else:
+            results = [self.decl("result")]
+        self.expect("=")
+        self.expect("begin")
+        local = []
+        while self.skip("var"):
+            names = self.many(self.declared)
+            self.expect(":", "`,` or `:` and the type")
+            of = self.type()
+            self.expect(";")
+            local += [Decl(name_.text, name_.start, name_.end, dims, of) for name_, dims in names]
+        items = self.items()
+        self.expect(";", "`;` after `end`")
+        return Func(name.text, name.start, name.end, params, results, local, items)
+
+    def declared(self):
+        name = self.take("name", "a name")
+        dims = []
+        while len(dims) < 2 and self.skip("["):
+            dims.append(int(self.whole("the number of elements").text))
+            self.expect("]")
+        return name, dims
+
+    def decl(self, role):
+        name, dims = self.declared()
+        self.expect(":", "`:` and the type")
+        return Decl(name.text, name.start, name.end, dims, self.type(), role)
+
+    def whole(self, wanted):
+        if self.token().kind != "number" or "." in self.token().text:
+            self.fail(wanted)
+        self.at += 1
+        return self.tokens[self.at - 1]
+
+    def type(self):
+        token = self.token()
+        if self.skip("bool"):
+            return Type(None, 0, "bool", token.start, token.end)
+        return self.fix()
+
+    def fix(self):
+        start = self.expect("fix", "a type").start
+        self.expect("<")
+        width = int(self.whole("the bits of a word").text)
+        self.expect(",", "`,` and the bits after the point")
+        places = int(self.whole("the bits after the point").text)
+        mode = ""
+        if self.skip(","):
+            mode = "," + self.mode()
+        self.expect(">")
+        return Type(width, places, f"fix<{width},{places}{mode}>", start, self.last())
+
+    def mode(self):
+        if not any(self.is_next(word) for word in ("trunc", "round", "sat")):
+            self.fail("`trunc`, `round` or `sat`")
+        word = self.token().text
+        self.at += 1
+        if word != "round" or not self.skip(","):
+            return word
+        self.expect("sat", "`sat`")
+        return "round,sat"
+
+    def signed(self):
+        start = self.token().start
+        sign = self.skip("-")
+        number = self.take("number", "a number")
+        return Node("number", start, start, number.end, value=("-" if sign else "") + number.text)
+
+    # items
+
+    def items(self):
+        made = []
+        while not self.skip("end"):
+            if self.token().kind not in ("name",) and not self.is_next("("):
+                self.fail("an equation, a loop or `end`")
+            made.append(self.item())
+        return made
+
+    def item(self):
+        start = self.token().start
+        if self.is_next("(") and self.token(1).kind == "name" and self.token(2).text == ":":
+            return self.loop(start)
+        if self.skip("("):
+            targets = self.many(self.target)
+            self.expect(")", "`,` or `)`")
+            self.expect("=")
+            return self.call(start, targets)
+        target = self.target()
+        if self.skip("@@"):
+            back = self.manifest_primary()
+            self.expect("=")
+            truth = self.is_next("true") or self.is_next("false")
+            value = self.truth() if truth else self.signed()
+            self.expect(";")
+            return Node("initial", target.at, start, self.last(), parts=[target], amount=back, value=value)
+        self.expect("=", "`=`" if target.subs else "`=` or a subscript")
+        if self.token().kind == "name" and self.token(1).text == "(":
+            return self.call(start, [target])
+        value = self.expression()
+        self.expect(";", "an operator or `;`")
+        return Node("equation", target.at, start, self.last(), parts=[target, value])
+
+    def loop(self, start):
+        self.expect("(")
+        index = self.take("name", "the index of the loop")
+        self.expect(":")
+        low = self.manifest()
+        self.expect("..")
+        high = self.manifest()
+        self.expect(")")
+        self.expect("::")
+        self.expect("begin")
+        items = self.items()
+        self.expect(";", "`;` after `end`")
+        return Node("loop", start, start, self.last(), index.text, items, [low, high], value=index)
+
+    def call(self, start, targets):
+        name = self.take("name", "the name of a function")
+        self.expect("(")
+        arguments = self.many(self.expression)
+        self.expect(")", "`,` or `)`")
+        self.expect(";")
+        return Node("call", name.start, start, self.last(), name.text, arguments, targets, value=name)
+
+    def target(self):
+        name = self.take("name", "the name of a signal")
+        subs = self.subscripts()
+        return Node("target", name.start, name.start, self.last(), name.text, subs=subs)
+
+    def subscripts(self):
+        made = []
+        while len(made) < 2 and self.skip("["):
+            made.append(self.manifest())
+            self.expect("]")
+        return made
+
+    # manifest numbers
+
+    def manifest(self):
+        left = self.term()
+        while self.is_next("+") or self.is_next("-"):
+            left = self.joined("manifest", left, self.term)
+        return left
+
+    def term(self):
+        left = self.factor()
+        while self.is_next("*"):
+            left = self.joined("manifest", left, self.factor)
+        return left
+
+    def factor(self):
+        start = self.token().start
+        if self.skip("-"):
+            inside = self.factor()
+            return Node("minus", start, start, inside.end, parts=[inside])
+        return self.manifest_primary()
+
+    def manifest_primary(self):
+        token = self.token()
+        if self.skip("("):
+            inside = self.manifest()
+            self.expect(")")
+            return inside
+        if token.kind == "name":
+            self.at += 1
+            return Node("index", token.start, token.start, token.end, token.text)
+        token = self.whole("a whole number, a loop's index, or these in parentheses")
+        return Node("whole", token.start, token.start, token.end, value=int(token.text))
+
+    # expressions
+
+    def joined(self, kind, left, part):
+        operator = self.token()
+        self.at += 1
+        right = part()
+        return Node(kind, operator.start, left.start, self.last(), operator.text, [left, right])
+
+    def expression(self):
+        left = self.conjunction()
+        while self.is_next("|"):
+            left = self.joined("logic", left, self.conjunction)
+        return left
+
+    def conjunction(self):
+        left = self.comparison()
+        while self.is_next("&"):
+            left = self.joined("logic", left, self.comparison)
+        return left
+
+    def comparison(self):
+        left = self.sum()
+        if self.token().text in COMPARISONS:
+            left = self.joined("comparison", left, self.sum)
+        return left
+
+    def sum(self):
+        left = self.product()
+        while self.is_next("+") or self.is_next("-"):
+            left = self.joined("sum", left, self.product)
+        return left
+
+    def product(self):
+        left = self.shift()
+        while self.is_next("*"):
+            left = self.joined("product", left, self.shift)
+        return left
+
+    def shift(self):
+        left = self.unary()
+        while self.is_next("<<") or self.is_next(">>"):
+            operator = self.token()
+            self.at += 1
+            amount = self.manifest_primary()
+            left = Node("shift", operator.start, left.start, self.last(), operator.text, [left], amount=amount)
+        return left
+
+    def unary(self):
+        token = self.token()
+        if token.text == "-" and self.token(1).kind == "number":
+            return self.signed()
+        if token.text in ("-", "!"):
+            self.at += 1
+            inside = self.unary()
+            return Node("negation" if token.text == "-" else "not", token.start, token.start, inside.end, token.text, [inside])
+        return self.primary()
+
+    def primary(self):
+        token = self.token()
+        if token.kind == "number":
+            return self.signed()
+        if token.text in ("true", "false"):
+            return self.truth()
+        if token.text == "fix":
+            of = self.fix()
+            inside = self.in_parentheses()
+            return Node("cast", token.start, token.start, self.last(), parts=[inside], type=of)
+        if token.text == "(":
+            inside = self.in_parentheses()
+            inside.start, inside.end = token.start, self.last()
+            return inside
+        if token.text == "if":
+            return self.choice()
+        if token.kind != "name":
+            self.fail("an expression")
+        self.at += 1
+        subs, back = self.subscripts(), None
+        if self.skip("@"):
+            back = self.manifest_primary()
+        return Node("read", token.start, token.start, self.last(), token.text, subs=subs, amount=back)
+
+    def truth(self):
+        token = self.token()
+        self.at += 1
+        return Node("truth", token.start, token.start, token.end, value=token.text)
+
+    def in_parentheses(self):
+        self.expect("(")
+        inside = self.expression()
+        self.expect(")", "an operator or `)`")
+        return inside
+
+    def choice(self):
+        start = self.expect("if").start
+        condition = self.expression()
+        self.expect("->", "an operator or `->` and the value")
+        parts = [condition, self.expression()]
+        while True:
+            self.expect("||", "an operator or `||` and the value in the other case")
+            value = self.expression()
+            if not self.skip("->"):
+                self.expect("fi", "an operator, `->` or `fi`")
+                return Node("choice", start, start, self.last(), parts=[*parts, value])
+            parts += [value, self.expression()]
+
+
+def parsed(tokens):
+    """The tables and functions of a source, in order. Raises Unexpected where its tokens are no program."""
+    return Parser(tokens).program()

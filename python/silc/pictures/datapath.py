@@ -1,0 +1,83 @@
+"""The units, register files and buses of a datapath file."""
+from silc.pictures.picture import BLACK, BLUE, COLUMN, FILLS, GAP, LABELS, MARGIN, ORANGE, PAPER, Picture
+
+PORTS = {"in": 0, "out": 1, "rom": 0, "alu": 2, "mul": 2, "sel": 3, "ram": 2, "acu": 0}
+DRIVES = {kind: kind != "out" for kind in PORTS}
+UNIT_TOP, UNIT_HEIGHT, FILE_HEIGHT, BUS_STEP = 56, 70, 24, 30
+
+
+def columns_of(units):
+    """For each unit the x of its left side, its width, the x of its ports and of its output; and the width of all."""
+    x, placed = MARGIN + LABELS, []
+    for unit in units:
+        count = PORTS[unit["kind"]] + DRIVES[unit["kind"]]
+        width = max(count, 2) * COLUMN
+        lines = [x + (k + 0.5) * width / count for k in range(count)]
+        ports = lines[: PORTS[unit["kind"]]]
+        placed.append((x, width, ports, lines[-1] if DRIVES[unit["kind"]] else None))
+        x += width + GAP
+    return placed, x - GAP + MARGIN
+
+
+def notes_of(unit):
+    """What the file says of a unit beyond its kind."""
+    words = []
+    if unit.get("latency", 1) > 1:
+        words.append(f"{unit['latency']} cycles")
+        if unit.get("gap", 1) < unit["latency"]:
+            words.append(f"every {unit.get('gap', 1)}")
+    if "cells" in unit:
+        words.append(f"{unit['cells']} cells")
+    if "ram" in unit:
+        words.append(f"of {unit['ram']}")
+    return ", ".join(words)
+
+
+def draw_units(picture, units, placed, bottom):
+    for unit, (x, width, ports, output) in zip(units, placed):
+        picture.box(x, UNIT_TOP, width, UNIT_HEIGHT, FILLS[unit["kind"]])
+        picture.text(x + width / 2, UNIT_TOP + 20, unit["name"], 14)
+        picture.text(x + width / 2, UNIT_TOP + 36, unit["kind"], 11)
+        picture.text(x + width / 2, UNIT_TOP + 52, notes_of(unit), 10)
+        foot = UNIT_TOP + UNIT_HEIGHT
+        for port, (at, size) in enumerate(zip(ports, unit.get("files", []))):
+            picture.line(at, foot + FILE_HEIGHT + 14, at, bottom, BLUE)
+            picture.box(at - 17, foot + 12, 34, FILE_HEIGHT, PAPER, BLUE)
+            picture.text(at, foot + 28, str(size), 11, BLUE)
+            picture.line(at, foot, at, foot + 12, BLUE)
+            picture.arrow(at, foot + 1, False, BLUE)
+            picture.text(at + 6, foot + 50, str(port), 10, BLUE, "start")
+        if output is not None:
+            picture.line(output, foot, output, bottom, ORANGE)
+            picture.arrow(output, foot + 26, True, ORANGE)
+
+
+def draw_buses(picture, datapath, placed, top, right):
+    names = [unit["name"] for unit in datapath["unit"]]
+    for row, bus in enumerate(datapath["bus"]):
+        y = top + row * BUS_STEP
+        picture.line(MARGIN + LABELS - 16, y, right, y, BLACK, 2.5)
+        picture.text(MARGIN + LABELS - 24, y + 4, bus["name"], 12, BLACK, "end")
+        for name in bus["from"]:
+            picture.dot(placed[names.index(name)][3], y, ORANGE)
+        for end in bus["to"]:
+            name, _, port = end.rpartition(".")
+            picture.dot(placed[names.index(name)][2][int(port)], y, BLUE)
+
+
+def draw_datapath(datapath):
+    placed, width = columns_of(datapath["unit"])
+    top = UNIT_TOP + UNIT_HEIGHT + FILE_HEIGHT + 56
+    bottom = top + (len(datapath["bus"]) - 1) * BUS_STEP
+    height = bottom + 62
+    picture = Picture(width, height, "datapath")
+    said = f"{datapath['period']} cycles a sample, words of {datapath['word']} bits"
+    picture.text(MARGIN, 28, said, 13, BLACK, "start")
+    draw_units(picture, datapath["unit"], placed, bottom)
+    draw_buses(picture, datapath, placed, top, width - MARGIN)
+    key = bottom + 36
+    for x, colour, words in ((MARGIN, ORANGE, "a unit drives the bus"),
+                             (MARGIN + 190, BLUE, "a port's register file takes from it; its size in words")):
+        picture.dot(x + 4, key - 4, colour)
+        picture.text(x + 16, key, words, 11, BLACK, "start")
+    return picture.whole()

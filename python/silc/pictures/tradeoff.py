@@ -1,0 +1,147 @@
+"""The trade-off of an exploration: bits of registers over the period, a panel for each number of units, a colour for each
+number of buses."""
+import math
+
+from silc.pictures.axes import numbers_over
+from silc.pictures.picture import BLACK, BLUE, FAINT, GREY, MARGIN, ORANGE, Picture
+
+PANEL, TALL, LEFT, BETWEEN, HEAD, FOOT, ACROSS = 300, 230, 44, 70, 96, 50, 3
+COLOURS = (BLUE, ORANGE, "#009e73", "#cc79a7", "#e69f00", "#56b4e9", BLACK)
+MARKS = 6
+DOT, FRONT_DOT = 1.6, 4.5
+KEY = 92
+NOISE_WIDE = 560
+
+
+def marks_of(low, high):
+    """Round numbers over an axis, a few of them."""
+    return numbers_over(low, high, MARKS, 1)
+
+
+class Panel:
+    """A pair of axes, the same in all panels."""
+
+    def __init__(self, number, periods, registers):
+        self.left = MARGIN + LEFT + number % ACROSS * (PANEL + BETWEEN)
+        self.top = HEAD + number // ACROSS * (TALL + HEAD)
+        self.periods, self.registers = periods, registers
+
+    def x(self, period):
+        return self.left + (period - self.periods[0]) * PANEL / max(1, self.periods[-1] - self.periods[0])
+
+    def y(self, registers):
+        return self.top + TALL - (registers - self.registers[0]) * TALL / max(1, self.registers[-1] - self.registers[0])
+
+    def draw(self, picture, title):
+        picture.text(self.left, self.top - 28, title, 12, BLACK, "start")
+        picture.text(self.left - 8, self.top - 10, "bits of registers", 10, BLACK, "start")
+        picture.text(self.left + PANEL, self.top + TALL + 30, "cycles of a period", 10, BLACK, "end")
+        for period in self.periods:
+            picture.line(self.x(period), self.top, self.x(period), self.top + TALL, FAINT, 1)
+            picture.text(self.x(period), self.top + TALL + 15, str(period), 10)
+        for registers in self.registers:
+            picture.line(self.left, self.y(registers), self.left + PANEL, self.y(registers), FAINT, 1)
+            picture.text(self.left - 6, self.y(registers) + 4, str(registers), 10, BLACK, "end")
+
+
+def staircase(panel, trades):
+    """The line below which no combination is: the least bits of registers that are enough in each period."""
+    least, points = None, []
+    for trade in sorted(trades, key=lambda trade: (trade.period, trade.register_bits)):
+        if least is None or trade.register_bits < least:
+            points += [] if least is None else [(panel.x(trade.period), panel.y(least))]
+            least = trade.register_bits
+            points.append((panel.x(trade.period), panel.y(least)))
+    return [*points, (panel.left + PANEL, panel.y(least))]
+
+
+def said_of(trade):
+    """A combination in words: its costs and the number of each range."""
+    ranges = ", ".join(f"{name} {number}" for name, number in trade.choice.items() if name != "period")
+    return (f"period {trade.period}, {trade.units} units, {trade.buses} buses, {trade.registers} registers "
+            f"of {trade.register_bits} bits, memories of {trade.cell_bits} bits"
+            + (f": {ranges}" if ranges else ""))
+
+
+def draw_panel(picture, panel, trades, colours):
+    """The points of one number of units, with those of fewer buses above the others, and those of the front larger."""
+    for buses in sorted({trade.buses for trade in trades}, reverse=True):
+        picture.curve(staircase(panel, [trade for trade in trades if trade.buses == buses]), colours[buses], 1.5)
+    shown = {}
+    for trade in sorted(trades, key=lambda trade: (trade.is_on_front, -trade.buses)):
+        shown[trade.period, trade.register_bits, trade.buses, trade.is_on_front] = trade
+    for trade in shown.values():
+        is_large = trade.is_on_front
+        picture.dot(panel.x(trade.period), panel.y(trade.register_bits), colours[trade.buses],
+                    FRONT_DOT if is_large else DOT, said_of(trade) if is_large else "")
+
+
+def draw_tradeoff(trades):
+    fit = [trade for trade in trades if trade.fits()]
+    said = f"{len(trades)} combinations, of which {len(fit)} fit"
+    numbers = sorted({trade.units for trade in trades})
+    periods = marks_of(min((trade.period for trade in fit), default=0), max((trade.period for trade in fit), default=1))
+    registers = marks_of(min((trade.register_bits for trade in fit), default=0),
+                         max((trade.register_bits for trade in fit), default=1))
+    lines = -(-len(numbers) // ACROSS)
+    colours = {buses: COLOURS[k % len(COLOURS)] for k, buses in enumerate(sorted({trade.buses for trade in trades}))}
+    width = 2 * MARGIN + LEFT + min(len(numbers), ACROSS) * (PANEL + BETWEEN) - BETWEEN
+    picture = Picture(max(width, 620), HEAD + lines * (TALL + HEAD) - HEAD // 2 + FOOT, f"trade-off: {said}")
+    picture.text(MARGIN, 28, said, 13, BLACK, "start")
+    for number, units in enumerate(numbers):
+        of_panel = [trade for trade in trades if trade.units == units]
+        fitting = [trade for trade in of_panel if trade.fits()]
+        panel = Panel(number, periods, registers)
+        panel.draw(picture, f"{units} units: {len(fitting)} fit, {len(of_panel) - len(fitting)} do not")
+        draw_panel(picture, panel, fitting, colours)
+    draw_key(picture, colours, HEAD + lines * (TALL + HEAD) - HEAD // 2 + 20)
+    return picture.whole()
+
+
+def draw_key(picture, colours, y):
+    for number, (buses, colour) in enumerate(colours.items()):
+        picture.dot(MARGIN + 6 + number * KEY, y - 4, colour)
+        picture.text(MARGIN + 16 + number * KEY, y, f"{buses} buses", 11, BLACK, "start")
+    picture.text(MARGIN + 16 + len(colours) * KEY, y, "(the fewest that fit at a place)", 11, BLACK, "start")
+    picture.dot(MARGIN + 6, y + 16, GREY, FRONT_DOT)
+    words = "on the Pareto front: no other has less of period, units, buses or bits and no more of the rest"
+    picture.text(MARGIN + 16, y + 20, words, 11, BLACK, "start")
+
+
+def draw_noise(trades):
+    """The noise of the combinations that fit over the bits of their registers, a colour for each number of buses."""
+    fit = [trade for trade in trades if trade.fits() and trade.noise is not None]
+    said = f"{len(trades)} combinations, of which {len(fit)} fit: noise beside the signal in dB, over bits of registers"
+    registers = marks_of(min((trade.register_bits for trade in fit), default=0),
+                         max((trade.register_bits for trade in fit), default=1))
+    levels = marks_of(math.floor(min((trade.noise for trade in fit), default=-1)),
+                      math.ceil(max((trade.noise for trade in fit), default=0)))
+    picture = Picture(2 * MARGIN + LEFT + NOISE_WIDE, HEAD + TALL + FOOT, said)
+    picture.text(MARGIN, 28, said, 13, BLACK, "start")
+    colours = {buses: COLOURS[k % len(COLOURS)] for k, buses in enumerate(sorted({trade.buses for trade in trades}))}
+    place = noise_axes(picture, registers, levels)
+    for trade in sorted(fit, key=lambda trade: trade.is_on_front):
+        words = f"{trade.noise:.1f} dB, {said_of(trade)}" if trade.is_on_front else ""
+        radius = FRONT_DOT if trade.is_on_front else DOT
+        picture.dot(*place(trade.register_bits, trade.noise), colours[trade.buses], radius, words)
+    for number, (buses, colour) in enumerate(colours.items()):
+        picture.dot(MARGIN + 6 + number * KEY, 48, colour)
+        picture.text(MARGIN + 16 + number * KEY, 52, f"{buses} buses", 11, BLACK, "start")
+    return picture.whole()
+
+
+def noise_axes(picture, registers, levels):
+    """The axes of a picture of noise, and where a number of bits and a level stand."""
+    left, top = MARGIN + LEFT, HEAD
+
+    def place(number, level):
+        return (left + (number - registers[0]) * NOISE_WIDE / max(1, registers[-1] - registers[0]),
+                top + (levels[-1] - level) * TALL / max(1, levels[-1] - levels[0]))
+
+    for number in registers:
+        picture.line(place(number, levels[0])[0], top, place(number, levels[0])[0], top + TALL, FAINT, 1)
+        picture.text(place(number, levels[0])[0], top + TALL + 15, str(number), 10)
+    for level in levels:
+        picture.line(left, place(registers[0], level)[1], left + NOISE_WIDE, place(registers[0], level)[1], FAINT, 1)
+        picture.text(left - 6, place(registers[0], level)[1] + 4, str(level), 10, BLACK, "end")
+    return place
