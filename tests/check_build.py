@@ -1,6 +1,6 @@
 #!/usr/bin/env python3
-"""Whether tools/build and ./silc build a program exactly where that is to be done: in a repository of two crates, with a
-toolchain that is played by a script and counts its builds.
+"""Whether tools/build and ./silc build a program exactly where that is to be done and was asked for: in a repository of three
+crates, with a toolchain that is played by a script and counts its builds.
 
 usage: tests/check_build.py
 """
@@ -21,8 +21,9 @@ doc) echo "{kit}/page" ;;
 lib) mkdir -p out/rlib && echo built >out/rlib/low.rlib ;;
 run) echo run >>"{kit}/runs"
     grep -q broken src/main.rt && exit 1
-    mkdir -p out && echo "#!/bin/sh" >out/silc_main && echo "echo $(cat "{kit}/line") $(cat src/main.rt) \\"\\$@\\"" >>out/silc_main
-    chmod +x out/silc_main ;;
+    program=out/$(basename "$PWD")
+    mkdir -p out && echo "#!/bin/sh" >$program && echo "echo $(cat "{kit}/line") $(cat src/main.rt) \\"\\$@\\"" >>$program
+    chmod +x $program ;;
 esac
 """
 LONG_AGO = time.time() - 10**6
@@ -33,15 +34,17 @@ class Room:
 
     def __init__(self, folder):
         self.kit, self.top, self.faults = folder / "kit", folder / "top", []
+        # Whether each call of ./silc is to build what is old, and what the last one said.
+        self.is_asked, self.said = False, ""
         self.kit.mkdir()
-        self.source, self.low = (self.top / "crates" / name / "src" / file for name, file in
-                                 (("silc_main", "main.rt"), ("low", "lib.rt")))
-        for file, text in ((self.source, "first"), (self.low, "low")):
+        self.source, self.show, self.low = (self.top / "crates" / name / "src" / file for name, file in
+                                            (("silc_main", "main.rt"), ("silc_show", "main.rt"), ("low", "lib.rt")))
+        for file, text in ((self.source, "first"), (self.show, "layer"), (self.low, "low")):
             file.parent.mkdir(parents=True)
             file.write_text(text)
         for name in ("specs", "proofs"):
             (self.low.parent.parent / name).mkdir()
-        (self.top / "crates.txt").write_text("low:\nsilc_main: low\n")
+        (self.top / "crates.txt").write_text("low:\nsilc_main: low\nsilc_show:\n")
         (self.top / "HANDLES").write_text("Handles allowed: none.\n")
         (self.top / "tools").mkdir()
         for name in ("tools/build", "silc"):
@@ -52,7 +55,9 @@ class Room:
 
     def run(self, *words):
         path = f"{self.kit}:{Path(sys.executable).parent}:/usr/bin:/bin"
-        done = subprocess.run(words, env=os.environ | {"PATH": path}, stdin=subprocess.DEVNULL, capture_output=True, text=True)
+        asked = {"SILC_BUILD": "1" if self.is_asked else ""}
+        done = subprocess.run(words, env=os.environ | asked | {"PATH": path}, stdin=subprocess.DEVNULL, capture_output=True, text=True)
+        self.said = done.stderr
         return done.returncode, done.stdout.strip()
 
     def builds(self):
@@ -62,38 +67,72 @@ class Room:
     def expect(self, what, said, more, *words, status=0):
         """Runs the words, or ./silc, which are to end so, print so, and build so many times."""
         before = self.builds()
-        ended = self.run(*(words or (self.top / "silc", "a", "b")))
+        ended = self.run(*(words or (self.top / "silc", "list", "b")))
         if ended != (status, said) or self.builds() - before != more:
             self.faults.append(f"{what}: {ended}, {self.builds() - before} builds, in the place of {(status, said)}, {more}")
 
 
+    def expect_refusal(self, what, *said):
+        """Runs ./silc, which is to build nothing, and to say what would be built and how."""
+        self.expect(what, "", 0, status=69)
+        lines = self.said.splitlines()
+        if len(lines) != 2 or not lines[0].startswith("build: silc_main: ") or f"'{self.top}/silc build'" not in lines[1] or \
+                any(text not in self.said for text in said):
+            self.faults.append(f"{what}: it says {self.said!r}")
+
+
+def check_unasked(room):
+    """Nothing is built that was not asked for."""
+    silc = room.top / "silc"
+    room.expect_refusal("nothing is built, and nothing was asked for", "2 crates are to be proved and built", " min or so")
+    room.expect("what is asked for", "", 2, silc, "build")
+    room.expect("once more", "", 0, silc, "build")
+    room.expect("it is built", "kit-1 first list b", 0)
+    room.expect("a layer", "kit-1 layer a b", 0, silc, "show", "a", "b")
+    room.source.touch()
+    room.expect("a source is touched and holds the same", "kit-1 first list b", 0)
+    room.source.write_text("other")
+    room.expect_refusal("a source holds something else", "only what changed is proved anew")
+    room.source.write_text("first")
+    room.expect("it holds what it held", "kit-1 first list b", 0)
+    (room.top / "RELEASE").touch()
+    room.source.write_text("other")
+    room.expect("a release looks at no source", "kit-1 first list b", 0)
+    room.expect("a release builds nothing", "", 0, silc, "build", status=69)
+    (room.top / "RELEASE").unlink()
+    room.source.write_text("first")
+    for name in ("silc_main", "silc_show"):
+        shutil.rmtree(room.top / "crates" / name / "out")
+
+
 def check(room):
-    room.expect("nothing is built", "kit-1 first a b", 1)
-    room.expect("nothing has changed", "kit-1 first a b", 0)
+    room.is_asked = True
+    room.expect("nothing is built", "kit-1 first list b", 1)
+    room.expect("nothing has changed", "kit-1 first list b", 0)
     link = room.kit / "link"
     link.symlink_to(room.top / "silc")
-    room.expect("through a symbolic link", "kit-1 first a b", 0, link, "a", "b")
+    room.expect("through a symbolic link", "kit-1 first list b", 0, link, "list", "b")
     room.source.touch()
-    room.expect("a source is touched and holds the same", "kit-1 first a b", 0)
+    room.expect("a source is touched and holds the same", "kit-1 first list b", 0)
     room.source.write_text("second")
     os.utime(room.source, (LONG_AGO, LONG_AGO))
-    room.expect("a source has other bytes and an old time", "kit-1 second a b", 1)
+    room.expect("a source has other bytes and an old time", "kit-1 second list b", 1)
     room.low.write_text("lower")
-    room.expect("a source below has other bytes", "kit-1 second a b", 1)
+    room.expect("a source below has other bytes", "kit-1 second list b", 1)
     (room.low.parent / "more.rt").write_text("more")
-    room.expect("a source more", "kit-1 second a b", 1)
+    room.expect("a source more", "kit-1 second list b", 1)
     (room.low.parent / "more.rt").unlink()
-    room.expect("a source less", "kit-1 second a b", 1)
+    room.expect("a source less", "kit-1 second list b", 1)
     (room.kit / "line").write_text("kit-2\n")
     (room.kit / "page").write_text("another page\n")
-    room.expect("another toolchain", "kit-2 second a b", 1)
+    room.expect("another toolchain", "kit-2 second list b", 1)
     room.source.write_text("broken")
     room.expect("a source that is not built", "", 1, status=70)
     room.source.write_text("third")
-    room.expect("a source that is mended", "kit-2 third a b", 1)
+    room.expect("a source that is mended", "kit-2 third list b", 1)
     room.expect("no program of this name", "", 0, room.top / "tools" / "build", "low", status=2)
     (room.kit / "rt").unlink()
-    room.expect("no toolchain, and nothing has changed", "kit-2 third a b", 0)
+    room.expect("no toolchain, and nothing has changed", "kit-2 third list b", 0)
     room.source.write_text("fourth")
     room.expect("no toolchain, and another source", "", 0, status=70)
 
@@ -101,6 +140,7 @@ def check(room):
 def main():
     with tempfile.TemporaryDirectory(prefix="silc-build-test-") as folder:
         room = Room(Path(folder).resolve())
+        check_unasked(room)
         check(room)
     for fault in room.faults:
         print(fault)

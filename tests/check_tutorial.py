@@ -13,6 +13,7 @@ asked.
 """
 import os
 import re
+import shutil
 import subprocess
 import sys
 import tempfile
@@ -60,17 +61,30 @@ def script_of(blocks):
     return "\n".join(lines) + "\n"
 
 
-def run(blocks, room, silc):
-    """What each command prints, and the folder in which the last one ran."""
+def laid_out(room, silc):
+    """A folder as the top of the repository, with the program in the place of the built one."""
     top = room / "top"
-    top.mkdir()
-    (top / "silc").symlink_to(silc)
+    made = top / "crates" / "silc_main" / "out"
+    made.mkdir(parents=True)
+    (made / "silc_main").symlink_to(silc)
+    shutil.copy2(ROOT / "silc", top / "silc")
+    (top / "RELEASE").touch()
     for folder in ("tools", "examples"):
         (top / folder).symlink_to(ROOT / folder)
+    return top
+
+
+def carry_out(blocks, top, variables):
+    """What each command prints where the first one runs in the top folder, and the folder in which the last one ran."""
     done = subprocess.run(["bash", "-c", script_of(blocks) + "pwd"], cwd=top, stdin=subprocess.DEVNULL, timeout=SECONDS,
-                          env=os.environ | {"TMPDIR": str(room), "SILC": str(silc)}, stdout=subprocess.PIPE, text=True)
+                          env=variables, stdout=subprocess.PIPE, text=True)
     *outputs, folder = done.stdout.split(MARK + "\n")
     return outputs, Path(folder.strip())
+
+
+def run(blocks, room, silc):
+    """The same at the top of a repository with this program, and with the tools of this one."""
+    return carry_out(blocks, laid_out(room, silc), os.environ | {"TMPDIR": str(room), "SILC": str(silc)})
 
 
 def page_with(text, outputs):

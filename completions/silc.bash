@@ -1,0 +1,146 @@
+# Completion of `silc` for bash: source this file, or put it into a folder of bash-completion under the name `silc`.
+
+# made by tools/completions
+_silc_words='run eval compile sim schedule list demo explain check draw design ranges noise explore rows assemble rom vcd verilog cosimulate synthesize fuzz show build help'
+_silc_forms='run *.sil *.toml * *
+eval *.sil * *
+compile *.sil *.toml *
+sim *.mic * *
+schedule *.sil *.toml
+list *.mic
+demo - -
+explain run|eval|compile|sim|schedule|list|demo
+check *.sil
+draw datapath *.toml
+draw schedule * *.toml *.sil
+draw lifetimes * *.toml
+draw response * - - ...
+draw words * - ...
+draw tradeoff *.csv
+draw crates *
+draw docs
+design sos * ...
+design fir * ...
+design iir - - - - - ...
+design fir kaiser - - - ...
+design fir remez - - - - ...
+ranges *.sil *
+ranges *.sil
+noise *.sil *
+noise *.sil
+explore *.sil *
+rows from-wav *.wav -
+rows to-wav * - - *.wav
+assemble *.listing *
+rom *.mic
+vcd *.mic *.toml * * - -
+verilog *.mic /
+cosimulate *.mic *
+synthesize *.mic
+fuzz sources|datapaths|microcode|samples|damaged|all - -
+show tokens|tree|text|names|elements|types|graph *.sil
+show origins *.sil *.toml
+show values *.sil *
+show manifests|words *
+show image *.mic
+show trace *.mic * - - -
+show datapath *.toml
+show rows - *
+show repeat - - *
+show repeat assign|plan|allot|assemble - *.sil *.toml'
+_silc_options='explain --datapath=*.toml --edits --page --place=-
+check --all --warn
+draw --check --db=- --force --frequencies=- --out=*.svg --range=- --rate=-
+design --attenuation=- --force --form=df1|df2t|lattice --gains=- --input=- --norm=l1|l2|peak|none --order=up|down|given --out=* --rate=- --ripple=- --rounding=nearest|down|zero --seconds=- --shape=- --signal=- --single --taps=- --weights=- --width=-
+ranges --all --element=- --force --picture=* --seconds=- --worst --worst-input=* --wraps=-
+noise --against=* --force --impulse=- --picture=* --zero-input=-
+explore --against=* --area=ice40|xilinx|ecp5 --best=- --dsp --force --jobs=- --out=- --pool --samples=* --sshlogin=-
+rows --bits=16|24|32 --columns=- --force
+assemble --force --listing=*.mic --version=1|2
+rom --c --force --intel --map --name=- --out=* --readmemh
+vcd --force
+verilog --datapath=*.toml --force --full --name=-
+cosimulate --datapath=*.toml --force --full --vcd=* --wait=- --with=icarus|verilator
+synthesize --datapath=*.toml --dsp --for=ice40|xilinx|ecp5 --full --json --route
+fuzz --all-or-none --case=- --jobs=-'
+# end
+
+# Offers what a kind of word may be: nothing, a folder, a file, a file with this ending, or one of some words.
+_silc_offer() {
+    local kind=$1 word=$2 line
+    case $kind in
+        '' | -) return ;;
+        /) kind=(-d) ;;
+        '*') kind=(-f) ;;
+        '*.'*) kind=(-f -X "!$kind") ;;
+        *) kind=(-W "${kind//|/ }") ;;
+    esac
+    while IFS= read -r line; do
+        COMPREPLY+=("$line")
+    done < <(compgen "${kind[@]}" -- "$word"; [[ ${kind[1]} != -X ]] || compgen -d -- "$word")
+    [[ ${kind[0]} == -W ]] || compopt -o filenames 2>/dev/null
+}
+
+# The words of the command that is completed and of what stands before the cursor, but for options and their values: the
+# kind of the option's value where the cursor stands at one is `value`.
+_silc_read() {
+    local i option
+    local -a options=()
+    for ((i = 2; i < COMP_CWORD; i++)); do
+        if [[ -n $value ]]; then
+            value=''
+        elif [[ ${COMP_WORDS[i]} == -* ]]; then
+            while read -r -a options; do
+                for option in "${options[@]}"; do
+                    [[ ${options[0]} != "$command" || $option != "${COMP_WORDS[i]}="* ]] || value=${option#*=}
+                done
+            done <<<"$_silc_options"
+        elif [[ $command == explain ]]; then
+            command=${COMP_WORDS[i]}
+        else
+            given+=("${COMP_WORDS[i]}")
+        fi
+    done
+}
+
+# Offers what may stand at the place behind the words that are given, by each form that begins as they do.
+_silc_offer_place() {
+    local i place offered=' '
+    local -a form=()
+    while read -r -a form; do
+        [[ ${form[0]} == "$command" ]] || continue
+        for ((i = 0; i < ${#given[@]}; i++)); do
+            [[ ${form[i + 1]} != [a-z]* || "|${form[i + 1]}|" == *"|${given[i]}|"* ]] || continue 2
+        done
+        place=$((${#given[@]} + 1))
+        [[ ${form[-1]} != ... || $place -lt $((${#form[@]} - 1)) ]] || place=$((${#form[@]} - 2))
+        [[ $offered == *" ${form[place]} "* ]] || _silc_offer "${form[place]}" "$word"
+        offered+="${form[place]} "
+    done <<<"$_silc_forms"
+}
+
+_silc() {
+    local word=${COMP_WORDS[COMP_CWORD]} command=${COMP_WORDS[1]} value='' names=''
+    local -a given=() options=()
+    COMPREPLY=()
+    if ((COMP_CWORD == 1)); then
+        _silc_offer "${_silc_words// /|}|--help|--version" "$word"
+        return
+    elif [[ $command == help ]]; then
+        ((COMP_CWORD > 2)) || _silc_offer "${_silc_words// /|}" "$word"
+        return
+    fi
+    _silc_read
+    if [[ -n $value ]]; then
+        _silc_offer "$value" "$word"
+    elif [[ $word == -* ]]; then
+        while read -r -a options; do
+            [[ ${options[0]} != "$command" ]] || names=${options[*]%%=*}
+        done <<<"$_silc_options"
+        _silc_offer "${names#"$command"}" "$word"
+    else
+        _silc_offer_place
+    fi
+}
+
+complete -F _silc silc

@@ -1,0 +1,134 @@
+#!/usr/bin/env python3
+"""Whether `./silc` hands each word to the program or the tool that it names, with the words behind it, its streams and its
+exit status; whether `silc help` has all of them; and what it says of a word that is none.
+
+usage: tests/check_words.py
+
+It runs the script on a copy, over programs and tools that scripts play. The commands are those of tests/commands/help.txt.
+"""
+import os
+import re
+import shutil
+import subprocess
+import sys
+import tempfile
+from pathlib import Path
+
+ROOT = Path(__file__).resolve().parent.parent
+HELP = ROOT / "tests" / "commands" / "help.txt"
+# What plays a program or a tool: it says its name, its words and what it reads.
+PLAYED = '#!/bin/sh\nprintf "%s:" "${0##*/}" "$@"; cat; echo to stderr >&2; exit 7\n'
+# Tools for who changes the repository, which are no words.
+UNSAID = {"alike", "build", "calling", "completions", "layout", "proved", "release", "remake", "trusted", "unreached",
+          "wrong-bodies"}
+# The words of the script itself.
+OWN = {"show", "build", "help"}
+
+
+def commands():
+    """The commands that the program's own help has."""
+    return set(re.findall(r"^(?:usage:|      ) silc ([a-z]+) ", HELP.read_text(), re.M))
+
+
+def tools():
+    return {path.name for path in (ROOT / "tools").iterdir() if path.is_file() and os.access(path, os.X_OK)} - UNSAID
+
+
+class Room:
+    """A copy of the script with programs and tools that are played."""
+
+    def __init__(self, folder):
+        self.top = folder / "top folder"
+        for name in ("silc_main", "silc_show"):
+            self.play(self.top / "crates" / name / "out" / name)
+        for name in tools():
+            self.play(self.top / "tools" / name)
+        (self.top / "docs").symlink_to(ROOT / "docs")
+        (self.top / "RELEASE").touch()
+        shutil.copy2(ROOT / "silc", self.top)
+
+    def play(self, path):
+        path.parent.mkdir(parents=True, exist_ok=True)
+        path.write_text(PLAYED)
+        path.chmod(0o755)
+
+    def run(self, *words, **more):
+        return subprocess.run([self.top / "silc", *words], cwd=self.top, input="read", capture_output=True, text=True, **more)
+
+
+def handed_faults(room):
+    """Each word goes where it belongs, and what comes back is what was answered."""
+    for word in sorted(commands() | tools() | {"show"}):
+        program, *lead = ([word] if word in tools() else ["silc_show"] if word == "show" else ["silc_main", word])
+        done = room.run(word, "a b", "*")
+        expected = "".join(f"{part}:" for part in (program, *lead, "a b", "*")) + "read"
+        if (done.returncode, done.stdout, done.stderr) != (7, expected, "to stderr\n"):
+            yield f"{word}: {done.returncode} {done.stdout!r} {done.stderr!r} in the place of {expected!r}"
+    for word in ("--help", "--version"):
+        if room.run(word).stdout != f"silc_main:{word}:read":
+            yield f"{word} is not handed to the program"
+
+
+def help_faults(room):
+    """`silc help` has every word, first those that are proved; and the help of a word is its own."""
+    shown = room.run("help")
+    heads = re.split(r"^(?=\w.*:\n)", shown.stdout, flags=re.M)
+    listed = [set(re.findall(r"^  ([a-z]+) ", part, re.M)) for part in heads]
+    proved = set().union(*(words for part, words in zip(heads, listed) if "which is proved" in part.split("\n")[0]))
+    others = set().union(*(words for part, words in zip(heads, listed) if "not proved" in part.split("\n")[0]))
+    if proved != commands():
+        yield f"the proved commands of `silc help` are {sorted(proved)}, and the program's are {sorted(commands())}"
+    if others != tools() | {"show"}:
+        yield f"the tools of `silc help` are {sorted(others)}, and those of tools/ are {sorted(tools())} and show"
+    for words, status, stream in ((["-h"], 0, "stdout"), ([], 2, "stderr"), (["help", "help"], 0, "stdout")):
+        done = room.run(*words)
+        if done.returncode != status or getattr(done, stream) != shown.stdout:
+            yield f"{words}: {done.returncode} {done.stdout!r} {done.stderr!r}"
+    for word in sorted(commands()):
+        done = room.run("help", word)
+        if done.returncode or not done.stdout.startswith(f"usage: silc {word} "):
+            yield f"help {word}: {done.returncode} {done.stdout!r}"
+    for word in sorted(tools()):
+        done = room.run("help", word)
+        if (done.returncode, done.stdout) != (0, f"{word}:--help:readto stderr\n"):
+            yield f"help {word}: {done.returncode} {done.stdout!r}"
+
+
+def near_faults(room):
+    """A word that is none is refused in a line, which has those that are near it."""
+    for word, near in (("drwa", "draw"), ("scheduel", "schedule"), ("comp", "compile"), ("assembler", "assemble"),
+                       ("ex", "explain, explore"), ("evla", "eval"), ("xyzzy", ""), ("--frob", ""), ("draw explain", ""),
+                       ("design draw", ""), ("../tools/draw", "")):
+        said = f"; near it: {near}" if near else ""
+        expected = f"silc: there is no command {word}{said}; 'silc help' lists them\n"
+        for words in ((word, "a"), ("help", word)):
+            done = room.run(*words)
+            if (done.returncode, done.stdout) != (2, "") or sorted(done.stderr.replace(",", " ").split()) != \
+                    sorted(expected.replace(",", " ").split()):
+                yield f"{words}: {done.returncode} {done.stderr!r} in the place of {expected!r}"
+
+
+def lacking_faults(room):
+    """Where a program is not there, tools run, and what needs it says so."""
+    (room.top / "crates" / "silc_main" / "out" / "silc_main").unlink()
+    (room.top / "crates" / "silc_show" / "out" / "silc_show").unlink()
+    for word, status in (("run", 69), ("show", 69), ("draw", 7), ("help", 0), ("build", 69)):
+        done = room.run(word)
+        if done.returncode != status or (status == 69 and not done.stderr.startswith("silc: ")):
+            yield f"without programs {word} ends with {done.returncode}: {done.stderr!r}"
+
+
+def main():
+    with tempfile.TemporaryDirectory(prefix="silc-words-") as folder:
+        room = Room(Path(folder))
+        faults = [fault for check in (handed_faults, help_faults, near_faults, lacking_faults) for fault in check(room)]
+    if commands() & tools() or (commands() | tools()) & OWN:
+        faults.append("a word is a command and a tool")
+    for fault in faults:
+        print(fault)
+    print(f"./silc: {len(commands())} commands, {len(tools())} tools, {len(faults)} faults")
+    return 1 if faults else 0
+
+
+if __name__ == "__main__":
+    sys.exit(main())

@@ -1,0 +1,82 @@
+#!/usr/bin/env python3
+"""Whether a user who has only what is released gets what docs/TUTORIAL.md shows: the tarball is unpacked, and the commands of the
+page run in an empty HOME, with neither the toolchain nor this repository in the PATH.
+
+usage: tests/release/check_session.py
+
+It packs the built programs, or those that `SILC` and `SILC_SHOW` name, with what this repository has. The exit status is 70
+where a program is not built, and 77 without dpkg-deb.
+"""
+import shutil
+import subprocess
+import sys
+import tarfile
+import tempfile
+from pathlib import Path
+
+from copies import ROOT, built, copy_of, users
+
+sys.path.insert(0, str(ROOT / "tests"))
+from check_tutorial import BLOCK, CONSOLE, carry_out, commands_in, faults_of  # noqa: E402
+
+NOT_BUILT, SKIPPED = 70, 77
+PICTURE = "smooth.svg"
+
+
+def released(room):
+    """The files of a release of these programs, by their endings, or why there are none."""
+    programs, missing = built()
+    if missing:
+        print(f"session: there is no program {missing[0]}: ./silc build builds it")
+        return NOT_BUILT
+    if not shutil.which("dpkg-deb"):
+        print("session: skipped, since there is no dpkg-deb: apt-get install dpkg")
+        return SKIPPED
+    copy_of(room / "repository", programs)
+    subprocess.run([room / "repository" / "tools" / "release", room / "release"], check=True, stdout=subprocess.DEVNULL,
+                   env=users(room))
+    return {path.suffix: path for path in (room / "release").iterdir()}
+
+
+def tutorial():
+    """The page, its blocks, and the commands with what it shows of them."""
+    page = ROOT / "docs" / "TUTORIAL.md"
+    blocks = [found.groups() for found in BLOCK.finditer(page.read_text())]
+    return page, blocks, [command for language, _, part in blocks if language == CONSOLE for command in commands_in(part)]
+
+
+def session_faults(top, room):
+    """What the commands give in another way than the page shows, where `silc` is that of a folder."""
+    page, blocks, shown = tutorial()
+    outputs, last = carry_out(blocks, top, users(room))
+    drawn = {PICTURE: (last / PICTURE).read_text() if (last / PICTURE).is_file() else ""}
+    yield from faults_of(page, shown, outputs, drawn)
+
+
+def trace_faults(top):
+    """The files that name this repository's folder."""
+    for path in top.rglob("*"):
+        if path.is_file() and f"{ROOT}/".encode() in path.read_bytes():
+            yield f"{path.relative_to(top)} names {ROOT}"
+
+
+def main():
+    with tempfile.TemporaryDirectory(prefix="silc-session-") as folder:
+        room = Path(folder).resolve()
+        made = released(room)
+        if isinstance(made, int):
+            return made
+        shutil.rmtree(room / "repository")
+        with tarfile.open(made[".gz"]) as tar:
+            tar.extractall(room, filter="data")
+        top = next(room.glob("silc-*"))
+        faults = [*session_faults(top, room), *trace_faults(top)]
+        faults += [f"the session leaves {path.name} in HOME" for path in (room / "home").iterdir()]
+    for fault in faults:
+        print(fault)
+    print(f"session: {len(tutorial()[2])} commands of the tutorial, {len(faults)} faults")
+    return 1 if faults else 0
+
+
+if __name__ == "__main__":
+    sys.exit(main())
