@@ -98,7 +98,7 @@ def near_faults(room):
     """A word that is none is refused in a line, which has those that are near it."""
     for word, near in (("drwa", "draw"), ("scheduel", "schedule"), ("comp", "compile"), ("assembler", "assemble"),
                        ("ex", "explain, explore"), ("evla", "eval"), ("xyzzy", ""), ("--frob", ""), ("draw explain", ""),
-                       ("design draw", ""), ("../tools/draw", "")):
+                       ("design draw", ""), ("../tools/draw", ""), ("dra\\\\q\\n", "")):
         said = f"; near it: {near}" if near else ""
         expected = f"silc: there is no command {word}{said}; 'silc help' lists them\n"
         for words in ((word, "a"), ("help", word)):
@@ -112,8 +112,8 @@ def lacking_faults(room):
     """Where a program is not there, tools run, and what needs it says so."""
     (room.top / "crates" / "silc_main" / "out" / "silc_main").unlink()
     (room.top / "crates" / "silc_show" / "out" / "silc_show").unlink()
-    for word, status in (("run", 69), ("show", 69), ("draw", 7), ("help", 0), ("build", 69)):
-        done = room.run(word)
+    for word, status in (("run", 69), ("show", 69), ("draw", 7), ("help", 0), ("build", 69), ("help build", 69)):
+        done = room.run(*word.split())
         if done.returncode != status or (status == 69 and not done.stderr.startswith("silc: ")):
             yield f"without programs {word} ends with {done.returncode}: {done.stderr!r}"
 
