@@ -180,7 +180,7 @@ class Source:
         else:
             reference = real_rows(against, len(outputs))
         own = values(tuples(self.evaluate(x), len(outputs)), outputs)
-        return [noise_of(*columns, shape) for *columns, shape in zip(zip(*own), zip(*reference), outputs) if shape]
+        return [noise_of(column, other, shape) for column, other, shape in zip(zip(*own), zip(*reference), outputs) if shape]
 
     def explore(self, template: str | os.PathLike[str], jobs: int | None = None) -> Exploration:
         """The plans on all datapaths of a template (docs/COMMANDS.md), `jobs` of them at a time: what each takes of the

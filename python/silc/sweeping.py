@@ -112,7 +112,7 @@ class Sweep:
         differences = [value - wanted for value, wanted in zip(own, self.wanted, strict=True)]
         made.signal = math.fsum(value * value for value in self.wanted) / len(own)
         made.error = math.fsum(value * value for value in differences) / len(own)
-        made.peak = max(map(abs, differences))
+        made.peak = max(abs(difference) for difference in differences)
 
 
 def ports_in(content: bytes, name: str) -> tuple[list[Port], list[Port]] | None:
