@@ -93,16 +93,17 @@ def streamed(program: str, words: Sequence[Word], pieces: Iterable[bytes]) -> Ge
             yield piece
         text = said.read().decode(errors="replace").strip()
         status = process.wait()
-        feeder.join()
     finally:
         process.kill()
         process.wait()
         out.close()
         said.close()
+    if status:
+        # The feeder may wait for a piece that nobody takes any more.
+        raise Ended(status, text)
+    feeder.join()
     if feeder.fault:
         raise feeder.fault
-    if status:
-        raise Ended(status, text)
 
 
 def pipes_of(process: subprocess.Popen[bytes]) -> tuple[IO[bytes], Any, IO[bytes]]:

@@ -9,7 +9,6 @@ from dataclasses import dataclass
 from multiprocessing.pool import ThreadPool
 from typing import Any
 
-from silc.exploring.sources import SourceTemplate
 from silc.programs import SILC
 from silc.refused import File, Refused, explained
 from silc.running import STDIN, STDOUT, ran
@@ -64,7 +63,6 @@ class Sweep:
     def __init__(self, template: str | os.PathLike[str], x: Rows, wanted: Sequence[float] | None, real: bool,
                  silc: str | os.PathLike[str] | None) -> None:
         self.name, self.text = template_of(template)
-        self.template = SourceTemplate(self.text) if "{" not in self.text else None
         self.x, self.real, self.silc, self.wanted = x, real, SILC.found(silc), wanted
         self.array = numpy().asarray(wanted, dtype=float) if is_array(x) and wanted is not None else None
         self.samples: dict[str, bytes] = {}

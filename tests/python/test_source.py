@@ -131,7 +131,7 @@ class Measures(unittest.TestCase):
         found = {each.name: each for each in silc.Source(text=INCREMENT).ranges([126, 127])}
         self.assertEqual((found["y"].least, found["y"].greatest, found["y"].said), (127, 128, "wraps at sample 2, 1 in all"))
         bounds = {each.name: each for each in silc.Source(text=INCREMENT).ranges(seconds=1)}
-        self.assertEqual((bounds["y"].least, bounds["y"].greatest), (-127, 128))
+        self.assertEqual((bounds["y"].least, bounds["y"].greatest), (-128, 128))
 
     def test_noise(self) -> None:
         source, finer = silc.Source(DATA / "eq.sil"), silc.Source(DATA / "finer.sil")
