@@ -21,7 +21,7 @@ Rows = Any
 ROWS_AT_A_TIME, BYTES_AT_A_TIME = 1 << 15, 1 << 20
 
 
-@dataclass(frozen=True)
+@dataclass(frozen=True, repr=False)
 class Type:
     """The type of a word: fix<W,F> with how a sum is brought to it, or bool, which has no shape."""
     shape: Shape | None
@@ -32,6 +32,8 @@ class Type:
             return "bool"
         mode = "" if self.mode == "trunc" else f",{self.mode}"
         return f"fix<{self.shape.width},{self.shape.places}{mode}>"
+
+    __repr__ = __str__
 
     @property
     def raw(self) -> tuple[int, int]:
@@ -58,7 +60,7 @@ class Type:
         return {"type": str(self), "raw": list(self.raw), "real": list(self.real)}
 
 
-@dataclass(frozen=True)
+@dataclass(frozen=True, repr=False)
 class Port:
     """A word of a row: its name, as `x` or `x[2]`, and its type."""
     name: str
@@ -66,6 +68,8 @@ class Port:
 
     def __str__(self) -> str:
         return f"{self.name} : {self.type}"
+
+    __repr__ = __str__
 
     @property
     def raw(self) -> tuple[int, int]:
