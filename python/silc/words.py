@@ -112,9 +112,12 @@ def check_columns(rows: Rows, columns: int) -> Rows:
 def flat_list(rows: Iterable[Any], columns: int) -> list[int]:
     """The words of a list of rows in order; `TypeError` for what is no whole number."""
     listed = list(rows)
-    if not (columns == 1 and all(isinstance(row, int) for row in listed)):
-        if columns == 1 and not any(isinstance(row, Sequence) for row in listed):
-            return list(map(operator.index, listed))
+    kinds = set(map(type, listed))
+    if kinds <= {int, bool}:
+        if columns != 1 and listed:
+            raise ValueError(f"the row {listed[0]!r} has one word, and {columns} are wanted")
+        return listed
+    if any(issubclass(kind, Sequence) for kind in kinds):
         for row in listed:
             if len(row) != columns:
                 raise ValueError(f"the row {row!r} has {len(row)} words, and {columns} are wanted")
