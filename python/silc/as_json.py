@@ -22,9 +22,9 @@ def put(tree: Any) -> None:
 
 def told(words: list[str], silc: str, datapath: str | None = None) -> int:
     """Runs a command of `silc`. Prints its plan, its image or its refusal, and gives its exit status."""
-    refused = guarded(words)
+    refused: tuple[int, str] | None = guarded(words)
     if refused:
-        status, said, out = *refused, ""
+        (status, said), out = refused, ""
     else:
         done = subprocess.run([silc, *words], stdout=subprocess.PIPE, stderr=subprocess.PIPE, text=True, errors="replace")
         status, said, out = done.returncode, done.stderr, done.stdout

@@ -7,7 +7,6 @@ it is asked. `iir`, `kaiser` and `remez` are SciPy's, where that is there.
 """
 from __future__ import annotations
 
-import cmath
 import math
 from collections.abc import Sequence
 from dataclasses import dataclass, replace
@@ -181,8 +180,3 @@ def remez(edges: Sequence[float], gains: Sequence[float], *, rate: float, count:
     made = scipy_designs.designed(design="remez", taps=count, bands=list(edges), gains=list(gains),
                                   weights=list(weights) if weights else None, rate=rate)
     return replace(taps(made, rate=rate), asked=f"remez {' '.join(f'{edge:g}' for edge in edges)}")
-
-
-def phase(design: Design, frequency: float) -> float:
-    """The phase of a filter at a frequency in hertz, in radians."""
-    return cmath.phase(design.gain(frequency))

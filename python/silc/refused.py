@@ -14,6 +14,8 @@ from silc.explaining.report import Report, lines_of
 from silc.explaining.text import Edit, Span
 
 PREFIX = "silc: "
+# What rows are called that no file has.
+ROWS = "rows"
 
 
 @dataclass

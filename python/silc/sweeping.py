@@ -10,7 +10,7 @@ from multiprocessing.pool import ThreadPool
 from typing import Any
 
 from silc.programs import SILC
-from silc.refused import File, Refused, explained
+from silc.refused import ROWS, File, Refused, explained
 from silc.running import STDIN, STDOUT, ran
 from silc.source import Source, real_rows
 from silc.words import Port, Rows, is_array, numpy, quantised, rows_of, scaled, text_of
@@ -81,7 +81,7 @@ class Sweep:
         inputs, outputs = ports if ports else ([], [])
         answer = ran(self.silc, ["eval", content, STDIN, STDOUT], self.samples_for(inputs) if ports else b"")
         if answer.status or not ports:
-            files = {"SRC": File(self.name, content), "SAMPLES": File("rows", self.samples_for(inputs))}
+            files = {"SRC": File(self.name, content), "SAMPLES": File(ROWS, self.samples_for(inputs))}
             return Point(choice, refused=explained("eval", files, ["SRC", "SAMPLES", "OUT"], answer.status, answer.said,
                                                    self.silc))
         made = Point(choice)

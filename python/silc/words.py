@@ -125,11 +125,6 @@ def flat_list(rows: Iterable[Any], columns: int) -> list[int]:
     return list(map(operator.index, listed))
 
 
-def count_of(rows: Rows) -> int:
-    """How many rows there are."""
-    return len(rows)
-
-
 def text_of_words(words: Sequence[int], columns: int) -> bytes:
     """Words in order as the text of rows."""
     line = ",".join(["%d"] * columns) + "\n"

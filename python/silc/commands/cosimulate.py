@@ -11,7 +11,6 @@ left alone but with --force. The exit status is 0 where all rows are equal, and 
 `silc` that is built, or the one that `SILC` names in the environment.
 """
 import argparse
-import os
 import re
 import shutil
 import subprocess

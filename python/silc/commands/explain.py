@@ -39,12 +39,12 @@ def run(words: list[str]) -> tuple[int, str]:
     return os.waitstatus_to_exitcode(status), said.decode(errors="replace")
 
 
-def options_of(words: list[str]) -> tuple[dict[str, list[str]], list[str], str | None]:
+def options_of(words: list[str]) -> tuple[dict[str, list[str | None]], list[str], str | None]:
     """The options before the words of a command, these words, and why they are wrong, where they are."""
-    options: dict[str, list[str]] = {}
+    options: dict[str, list[str | None]] = {}
     while words and words[0] in OPTIONS:
         count = OPTIONS[words[0]]
-        options[words[0]], words = words[1:1 + count], words[1 + count:]
+        options[words[0]], words = [*words[1:1 + count]], words[1 + count:]
     if not words:
         return options, words, "no command follows the options; `tools/explain --help` shows the usage"
     if DATAPATH in options and words[0] != "sim":
@@ -52,16 +52,16 @@ def options_of(words: list[str]) -> tuple[dict[str, list[str]], list[str], str |
     return options, words, None
 
 
-def explained(options: dict[str, list[str]], words: list[str]) -> int:
+def explained(options: dict[str, list[str | None]], words: list[str]) -> int:
     """Runs a command, and explains its refusal. Gives the exit status."""
     from silc.explaining.outputs import guarded
     if JSON in options:
         from silc.as_json import told
-        return told(words, SILC.place(), *options.get(DATAPATH, []))
+        return told(words, SILC.place(), options.get(DATAPATH, [None])[0])
     status, said = guarded(words) or run(words)
     if status > 0 and said:
         from silc.explaining.command import explain
-        explain(words, status, said, SILC.place(), *options.get(DATAPATH, []), is_edited=EDITS in options)
+        explain(words, status, said, SILC.place(), options.get(DATAPATH, [None])[0], is_edited=EDITS in options)
     return status if status >= 0 else 128 - status
 
 

@@ -40,7 +40,6 @@ that is built, or the one that `SILC` names in the environment, and with --sampl
 """
 import argparse
 import json
-import os
 import shutil
 import sys
 import tempfile

@@ -8,7 +8,6 @@ With --json the numbers come as one line of JSON. It writes no file but in a fol
 """
 import argparse
 import json
-import os
 import re
 import shutil
 import subprocess

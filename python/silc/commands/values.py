@@ -14,7 +14,7 @@ import sys
 from pathlib import Path
 
 from silc.programs import NoProgram
-from silc.refused import Refused
+from silc.refused import ROWS, Refused
 from silc.source import Source
 from silc.words import rows_of, tuples
 
@@ -45,7 +45,8 @@ def main(words: list[str]) -> int:
     try:
         elements = found(options)
     except Refused as why:
-        print(f"values: {why}", file=sys.stderr)
+        said = str(why).replace(f"{ROWS}:", f"{options.samples}:", 1) if why.file == ROWS else str(why)
+        print(f"values: {said}", file=sys.stderr)
         return why.status
     except (NoProgram, ValueError) as why:
         print(f"values: {why}", file=sys.stderr)

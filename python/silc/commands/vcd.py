@@ -16,7 +16,6 @@ OUT is there once it is whole. It replaces no input, nor, without --force, a fil
 runs the `silc_show` that is built, or the one that `SILC_SHOW` names in the environment.
 """
 import argparse
-import os
 import shutil
 import subprocess
 import sys

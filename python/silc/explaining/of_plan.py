@@ -6,7 +6,8 @@ from pathlib import Path
 from silc.explaining import lacks
 from silc.explaining.changes import TOP, Key, Table, edits_of, made, merged, told
 from silc.explaining.command import BUILD
-from silc.explaining.hardware import DONE_BY, KIND_OF, PORTS, Hardware, nodes_of, readers_of, words_of
+from silc.explaining.hardware import DONE_BY, Hardware, nodes_of, readers_of, words_of
+from silc.micro_file.operations import KIND_OF, PORTS
 from silc.explaining.refusals import planning
 from silc.explaining.report import Report, counted, listed
 from silc.explaining.routing import free_name, route_for, routes_for
