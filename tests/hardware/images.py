@@ -1,6 +1,6 @@
 """Images for tests of cores: random ones with a fixed seed, and directed ones for what is rare in these.
 
-An image is a list of units and words as bench/microcode.py writes them, beside the samples to run. Directed ones are of
+An image is a list of units and words as python/silc/fuzzing/microcode.py writes them, beside the samples to run. Directed ones are of
 version 1 of the microcode file, the others of both in turn.
 """
 import random
