@@ -20,6 +20,7 @@ import time
 from itertools import zip_longest
 from pathlib import Path
 
+from silc.commands import ended
 from silc.hardware.datapath import names_of, numbered
 from silc.made_files import MadeFiles, NotMade, add_force
 from silc.micro_file import image_of
@@ -204,15 +205,11 @@ def options_of(words):
     return options
 
 
-def main(words):
+def run_both(options: argparse.Namespace) -> None:
+    with tempfile.TemporaryDirectory(prefix="silc-core-") as folder:
+        print(cosimulate(options, Path(folder)))
+
+
+def main(words: list[str]) -> int:
     options = options_of(words)
-    try:
-        with tempfile.TemporaryDirectory(prefix="silc-core-") as folder:
-            print(cosimulate(options, Path(folder)))
-    except (Apart, NotMade) as why:
-        print(f"cosimulate: {why}", file=sys.stderr)
-        return 1
-    except OSError as fault:
-        print(f"cosimulate: {fault.filename}: {fault.strerror}", file=sys.stderr)
-        return 1
-    return 0
+    return ended("cosimulate", lambda: run_both(options), Apart, NotMade)

@@ -13,6 +13,7 @@ import json
 import sys
 from pathlib import Path
 
+from silc.commands import ended
 from silc.programs import NoProgram
 from silc.refused import ROWS, Refused
 from silc.source import Source
@@ -40,27 +41,23 @@ def found(options: argparse.Namespace) -> dict[str, list[int]]:
     return source.values([row[0] for row in tuples(rows, 1)] if len(source.inputs) == 1 else rows, options.names or "*")
 
 
-def main(words: list[str]) -> int:
-    options = options_of(words)
+def put(options: argparse.Namespace) -> int | None:
     try:
         elements = found(options)
     except Refused as why:
         said = str(why).replace(f"{ROWS}:", f"{options.samples}:", 1) if why.file == ROWS else str(why)
         print(f"values: {said}", file=sys.stderr)
         return why.status
-    except (NoProgram, ValueError) as why:
-        print(f"values: {why}", file=sys.stderr)
-        return 1
     except KeyError as why:
-        print(f"values: {options.source}: {why.args[0]}", file=sys.stderr)
-        return 1
-    except OSError as fault:
-        print(f"values: {fault.filename}: {fault.strerror}", file=sys.stderr)
-        return 1
+        raise ValueError(f"{options.source}: {why.args[0]}") from why
     if options.json:
         print(json.dumps(elements))
     else:
         print(",".join(elements))
         sys.stdout.write("".join(",".join(map(str, row)) + "\n" for row in zip(*elements.values())))
-    sys.stdout.flush()
-    return 0
+    return None
+
+
+def main(words: list[str]) -> int:
+    options = options_of(words)
+    return ended("values", lambda: put(options), NoProgram, ValueError)
