@@ -5,10 +5,10 @@ import tempfile
 import tomllib
 from pathlib import Path
 
-HERE = Path(__file__).resolve().parent
-sys.path.insert(0, str(HERE.parent / "tools"))
 from antt.modules import read
 from antt.statements import statements_of
+
+HERE = Path(__file__).resolve().parent
 
 
 def form(text, room):

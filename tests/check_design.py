@@ -15,8 +15,7 @@ from pathlib import Path
 import check_tutorial
 from check_tutorial import BLOCK, BUILT, CONSOLE, ROOT, commands_in, page_with, run
 
-sys.path.insert(0, str(ROOT / "tools"))
-from silc.designing import scipy_designs  # noqa: E402
+from silc.designing import scipy_designs
 
 SILC = Path(os.environ.get("SILC", BUILT)).resolve()
 PAGE, PICTURES = ROOT / "docs" / "DESIGN.md", ROOT / "docs" / "pictures"

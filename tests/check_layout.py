@@ -8,11 +8,10 @@ import random
 import sys
 from pathlib import Path
 
-ROOT = Path(__file__).resolve().parent.parent
-sys.path[:0] = [str(ROOT / "tools"), str(ROOT / "editor" / "lsp")]
-from silc.fuzzing.sources import Program  # noqa: E402
-from silc_lsp.layout import Refused, laid_out, pieces_of  # noqa: E402
+from silc.fuzzing.sources import Program
+from silc_lsp.layout import Refused, laid_out, pieces_of
 
+ROOT = Path(__file__).resolve().parent.parent
 SOURCES = 40
 # In one line on purpose.
 OTHER = {"increment"}

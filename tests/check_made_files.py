@@ -9,9 +9,9 @@ import tempfile
 from collections.abc import Callable, Iterator
 from pathlib import Path
 
+from silc.made_files import MadeFiles, NotMade, record_file
+
 ROOT = Path(__file__).resolve().parent.parent
-sys.path.insert(0, str(ROOT / "tools"))
-from silc.made_files import MadeFiles, NotMade, record_file  # noqa: E402
 
 
 class Stopped(Exception):

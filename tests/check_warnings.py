@@ -12,16 +12,15 @@ import sys
 import tempfile
 from pathlib import Path
 
-ROOT = Path(__file__).resolve().parent.parent
-sys.path.insert(0, str(ROOT / "tools"))
-from silc.checking.elements import INPUT, Elements  # noqa: E402
-from silc.explaining.command import DEPTH  # noqa: E402
-from silc.explaining.grammar import Node  # noqa: E402
-from silc.explaining.program import Source  # noqa: E402
-from silc.explaining.text import Text  # noqa: E402
-from silc.fuzzing.sources import Program  # noqa: E402
-from silc.programs import SILC  # noqa: E402
+from silc.checking.elements import INPUT, Elements
+from silc.explaining.command import DEPTH
+from silc.explaining.grammar import Node
+from silc.explaining.program import Source
+from silc.explaining.text import Text
+from silc.fuzzing.sources import Program
+from silc.programs import SILC
 
+ROOT = Path(__file__).resolve().parent.parent
 SOURCES, ROWS, MOST_AGE, STEPS = 60, 12, 300, 3_000_000
 SECONDS = 60
 

@@ -9,11 +9,9 @@ With --check it writes nothing, and ends with 1 where a file holds other bytes.
 import sys
 from pathlib import Path
 
+from silc.fuzzing.microcode import NEWEST, OLDEST, image, issue, unit, word
+
 HERE = Path(__file__).resolve().parent
-sys.path.insert(0, str(HERE.parent / "bench"))
-
-from microcode import NEWEST, OLDEST, image, issue, unit, word  # noqa: E402
-
 EMPTY = word()
 
 

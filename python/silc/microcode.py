@@ -14,7 +14,7 @@ from silc.made_files import MadeFiles
 from silc.micro_file import image_of
 from silc.micro_file.image import MOST_WORDS, Image
 from silc.programs import PACKAGE, SILC
-from silc.refused import File, explained
+from silc.refused import ROWS, File, explained
 from silc.running import STDIN, STDOUT, Ended, ran, streamed
 from silc.words import Reader, Rows, Type, is_array, pieces_of, quantised, scaled, text_of
 
@@ -98,7 +98,7 @@ class Microcode:
         return [port.type for port in getattr(self.plan.source, ports)]
 
     def _refuse(self, command: str, words: list[str], status: int, said: str, samples: bytes = b"") -> NoReturn:
-        files = {"MIC": File(self.name, self.data), "SAMPLES": File("rows", samples)}
+        files = {"MIC": File(self.name, self.data), "SAMPLES": File(ROWS, samples)}
         raise explained(command, files, words, status, said, self.silc) from None
 
 

@@ -4,16 +4,18 @@ from __future__ import annotations
 import os
 import sys
 import tempfile
-from collections.abc import Mapping, Sequence
-from dataclasses import dataclass, replace
+from collections.abc import Callable, Mapping, Sequence
+from dataclasses import asdict, dataclass, replace
+from functools import cached_property
 from typing import Any
 
 from silc.explaining.command import DEPTH, Case, report_of
-from silc.explaining.refusals import refusal_of
 from silc.explaining.report import Report, lines_of
-from silc.explaining.text import Edit
+from silc.explaining.text import Edit, Span
 
 PREFIX = "silc: "
+# What rows are called that no file has.
+ROWS = "rows"
 
 
 @dataclass
@@ -26,20 +28,54 @@ class File:
 class Refused(Exception):
     """A command that is refused. `status` is its exit code and `said` its line; `text` tells what is wrong, in `file` at
     `line` and `column`, both from 1, up to before the column `end`, where there is a place; `cure` what would be right, `rule`
-    where the rule is, and `edits` the cure as edits of files, where it is some."""
+    where the rule is, and `edits` the cure as edits of files, where it is some. All but the first two are looked for where
+    one is asked for, which may take some plans."""
 
-    def __init__(self, status: int, said: str, report: Report | None = None) -> None:
-        self.status, self.said, self.report = status, said.removeprefix(PREFIX), report
-        span = report.span if report else None
-        self.text: str = report.short if report else self.said
-        self.cure: str = report.cure if report else ""
-        self.rule: str = report.rule if report else ""
-        self.edits: list[Edit] = list(report.edits) if report else []
-        self.file: str | None = span.file if span else None
-        self.line: int | None = span.line if span else None
-        self.column: int | None = span.column if span else None
-        self.end: int | None = span.column + span.length if span else None
-        super().__init__(self.text)
+    def __init__(self, status: int, said: str, look: Callable[[], Report | None] = lambda: None) -> None:
+        self.status, self.said, self._look = status, said.removeprefix(PREFIX), look
+        super().__init__(status, self.said)
+
+    @cached_property
+    def report(self) -> Report | None:
+        """What is known of it."""
+        return self._look()
+
+    @property
+    def text(self) -> str:
+        return self.report.short if self.report else self.said
+
+    @property
+    def cure(self) -> str:
+        return self.report.cure if self.report else ""
+
+    @property
+    def rule(self) -> str:
+        return self.report.rule if self.report else ""
+
+    @property
+    def edits(self) -> list[Edit]:
+        return list(self.report.edits) if self.report else []
+
+    @property
+    def span(self) -> Span | None:
+        """The place, with the line as it stands there."""
+        return self.report.span if self.report else None
+
+    @property
+    def file(self) -> str | None:
+        return self.span.file if self.span else None
+
+    @property
+    def line(self) -> int | None:
+        return self.span.line if self.span else None
+
+    @property
+    def column(self) -> int | None:
+        return self.span.column if self.span else None
+
+    @property
+    def end(self) -> int | None:
+        return self.span.column + self.span.length if self.span else None
 
     def __str__(self) -> str:
         place = f"{self.file}:{self.line}:{self.column}: " if self.file else ""
@@ -53,11 +89,17 @@ class Refused(Exception):
         """What is told of it, as docs/PYTHON.md has it."""
         return {"status": self.status, "said": self.said, "text": self.text, "file": self.file, "line": self.line,
                 "column": self.column, "end": self.end, "cure": self.cure, "rule": self.rule,
-                "edits": [vars(edit) for edit in self.edits]}
+                "edits": [asdict(edit) for edit in self.edits]}
 
 
 def explained(command: str, files: Mapping[str, File], words: Sequence[str], status: int, said: str, silc: str) -> Refused:
-    """Why a command was refused, whose words `words` are, with a role of `files` in the place of each file."""
+    """The refusal of a command, whose words `words` are, with a role of `files` in the place of each file."""
+    return Refused(status, said, lambda: report_on(command, files, words, status, said, silc))
+
+
+def report_on(command: str, files: Mapping[str, File], words: Sequence[str], status: int, said: str,
+              silc: str) -> Report | None:
+    """What `tools/explain` knows of a refused command."""
     sys.setrecursionlimit(max(DEPTH, sys.getrecursionlimit()))
     with tempfile.TemporaryDirectory(prefix="silc-refused-") as folder:
         placed = {}
@@ -66,16 +108,19 @@ def explained(command: str, files: Mapping[str, File], words: Sequence[str], sta
             os.mkdir(os.path.dirname(placed[role]))
             with open(placed[role], "wb") as made:
                 made.write(file.content)
-        case = Case([command, *(placed.get(word, word) for word in words)], status, said, silc)
-        try:
-            report = report_of(case)
-        except Exception:
-            # Whatever is wrong here, the command was refused, and what the refusal means is known.
-            report = None
-        if report is None and case.refusal:
-            report = case.refusal.report(about="silc")
-    back = {place: files[role].name for role, place in placed.items()}
-    return Refused(status, said, renamed(report, back) if report else None)
+        case = Case([command, *(placed.get(word, word) for word in words)], status, said, silc, is_quiet=True)
+        report = told_of(case)
+    return renamed(report, {place: files[role].name for role, place in placed.items()}) if report else None
+
+
+def told_of(case: Case) -> Report | None:
+    """The report on a case, or what its refusal means where no more is known."""
+    try:
+        report: Report | None = report_of(case)
+    except Exception:
+        # Whatever is wrong here, the command was refused, and what the refusal means is known.
+        report = None
+    return report or (case.refusal.report(about="silc") if case.refusal else None)
 
 
 def renamed(report: Report, names: Mapping[str, str]) -> Report:
@@ -94,7 +139,3 @@ def renamed(report: Report, names: Mapping[str, str]) -> Report:
     report.edits = [placed(edit) for edit in report.edits]
     return report
 
-
-def is_refusal(said: str) -> bool:
-    """Whether a line is one by which `silc` refuses."""
-    return refusal_of(said) is not None

@@ -32,6 +32,9 @@ class Response:
         place = round(frequency / self.frequencies[-1] * (len(self.frequencies) - 1))
         return self.decibels[place]
 
+    def __repr__(self) -> str:
+        return f"<Response of {len(self.words)} samples: {max(self.decibels):.2f} dB at most>"
+
     def as_json(self) -> dict[str, Any]:
         return {"impulse": self.impulse, "frequencies": self.frequencies, "decibels": self.decibels}
 

@@ -4,7 +4,7 @@ from __future__ import annotations
 import os
 import subprocess
 import threading
-from collections.abc import Iterable, Iterator, Sequence
+from collections.abc import Generator, Iterable, Iterator, Sequence
 from contextlib import contextmanager
 from typing import IO, Any, NamedTuple
 
@@ -80,7 +80,7 @@ class Feeder(threading.Thread):
                 pass
 
 
-def streamed(program: str, words: Sequence[Word], pieces: Iterable[bytes]) -> Iterator[bytes]:
+def streamed(program: str, words: Sequence[Word], pieces: Iterable[bytes]) -> Generator[bytes, None, None]:
     """What a program prints, as it comes, while the pieces go to its standard input. `Ended` where it refuses."""
     with in_memory(words) as (named, held):
         process: subprocess.Popen[bytes] = subprocess.Popen([program, *named], stdin=subprocess.PIPE, stdout=subprocess.PIPE,
@@ -93,16 +93,17 @@ def streamed(program: str, words: Sequence[Word], pieces: Iterable[bytes]) -> It
             yield piece
         text = said.read().decode(errors="replace").strip()
         status = process.wait()
-        feeder.join()
     finally:
         process.kill()
         process.wait()
         out.close()
         said.close()
+    if status:
+        # The feeder may wait for a piece that nobody takes any more.
+        raise Ended(status, text)
+    feeder.join()
     if feeder.fault:
         raise feeder.fault
-    if status:
-        raise Ended(status, text)
 
 
 def pipes_of(process: subprocess.Popen[bytes]) -> tuple[IO[bytes], Any, IO[bytes]]:

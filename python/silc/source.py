@@ -16,9 +16,9 @@ from silc.explaining.program import Source as Program
 from silc.explaining.program import element_name
 from silc.explaining.text import Text
 from silc.programs import SHOW, SILC
-from silc.refused import File, explained
+from silc.refused import ROWS, File, explained
 from silc.running import STDIN, STDOUT, Ended, ran, streamed
-from silc.words import Port, Reader, Rows, Type, count_of, is_array, pieces_of, quantised, scaled, text_of, tuples
+from silc.words import Port, Reader, Rows, Type, is_array, pieces_of, quantised, scaled, text_of, tuples
 
 if TYPE_CHECKING:
     from silc.exploring.exploration import Exploration
@@ -103,7 +103,7 @@ class Source:
             for block in blocks:
                 given = quantised(block, self._types(self.inputs)) if real else block
                 waiting.put(text_of(given, len(self.inputs)))
-                reader, left = Reader(len(self.outputs), is_array(given)), count_of(given)
+                reader, left = Reader(len(self.outputs), is_array(given)), len(given)
                 while left:
                     piece = next(pieces)
                     reader.add(piece)
@@ -180,7 +180,7 @@ class Source:
         else:
             reference = real_rows(against, len(outputs))
         own = values(tuples(self.evaluate(x), len(outputs)), outputs)
-        return [noise_of(*columns, shape) for *columns, shape in zip(zip(*own), zip(*reference), outputs) if shape]
+        return [noise_of(column, other, shape) for column, other, shape in zip(zip(*own), zip(*reference), outputs) if shape]
 
     def explore(self, template: str | os.PathLike[str], jobs: int | None = None) -> Exploration:
         """The plans on all datapaths of a template (docs/COMMANDS.md), `jobs` of them at a time: what each takes of the
@@ -210,7 +210,7 @@ class Source:
 
     def _refuse(self, command: str, status: int, said: str, samples: bytes = b"") -> NoReturn:
         """Raises why a command on this source was refused."""
-        files = {"SRC": File(self.name, self.content), "SAMPLES": File("rows", samples)}
+        files = {"SRC": File(self.name, self.content), "SAMPLES": File(ROWS, samples)}
         raise explained(command, files, ["SRC", "SAMPLES", "OUT"], status, said, self.silc) from None
 
 

@@ -9,9 +9,8 @@ from dataclasses import dataclass
 from multiprocessing.pool import ThreadPool
 from typing import Any
 
-from silc.exploring.sources import SourceTemplate
 from silc.programs import SILC
-from silc.refused import File, Refused, explained
+from silc.refused import ROWS, File, Refused, explained
 from silc.running import STDIN, STDOUT, ran
 from silc.source import Source, real_rows
 from silc.words import Port, Rows, is_array, numpy, quantised, rows_of, scaled, text_of
@@ -64,7 +63,6 @@ class Sweep:
     def __init__(self, template: str | os.PathLike[str], x: Rows, wanted: Sequence[float] | None, real: bool,
                  silc: str | os.PathLike[str] | None) -> None:
         self.name, self.text = template_of(template)
-        self.template = SourceTemplate(self.text) if "{" not in self.text else None
         self.x, self.real, self.silc, self.wanted = x, real, SILC.found(silc), wanted
         self.array = numpy().asarray(wanted, dtype=float) if is_array(x) and wanted is not None else None
         self.samples: dict[str, bytes] = {}
@@ -83,7 +81,7 @@ class Sweep:
         inputs, outputs = ports if ports else ([], [])
         answer = ran(self.silc, ["eval", content, STDIN, STDOUT], self.samples_for(inputs) if ports else b"")
         if answer.status or not ports:
-            files = {"SRC": File(self.name, content), "SAMPLES": File("rows", self.samples_for(inputs))}
+            files = {"SRC": File(self.name, content), "SAMPLES": File(ROWS, self.samples_for(inputs))}
             return Point(choice, refused=explained("eval", files, ["SRC", "SAMPLES", "OUT"], answer.status, answer.said,
                                                    self.silc))
         made = Point(choice)
@@ -112,7 +110,7 @@ class Sweep:
         differences = [value - wanted for value, wanted in zip(own, self.wanted, strict=True)]
         made.signal = math.fsum(value * value for value in self.wanted) / len(own)
         made.error = math.fsum(value * value for value in differences) / len(own)
-        made.peak = max(map(abs, differences))
+        made.peak = max(abs(difference) for difference in differences)
 
 
 def ports_in(content: bytes, name: str) -> tuple[list[Port], list[Port]] | None:

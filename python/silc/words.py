@@ -21,7 +21,7 @@ Rows = Any
 ROWS_AT_A_TIME, BYTES_AT_A_TIME = 1 << 15, 1 << 20
 
 
-@dataclass(frozen=True)
+@dataclass(frozen=True, repr=False)
 class Type:
     """The type of a word: fix<W,F> with how a sum is brought to it, or bool, which has no shape."""
     shape: Shape | None
@@ -32,6 +32,8 @@ class Type:
             return "bool"
         mode = "" if self.mode == "trunc" else f",{self.mode}"
         return f"fix<{self.shape.width},{self.shape.places}{mode}>"
+
+    __repr__ = __str__
 
     @property
     def raw(self) -> tuple[int, int]:
@@ -58,7 +60,7 @@ class Type:
         return {"type": str(self), "raw": list(self.raw), "real": list(self.real)}
 
 
-@dataclass(frozen=True)
+@dataclass(frozen=True, repr=False)
 class Port:
     """A word of a row: its name, as `x` or `x[2]`, and its type."""
     name: str
@@ -66,6 +68,8 @@ class Port:
 
     def __str__(self) -> str:
         return f"{self.name} : {self.type}"
+
+    __repr__ = __str__
 
     @property
     def raw(self) -> tuple[int, int]:
@@ -108,19 +112,17 @@ def check_columns(rows: Rows, columns: int) -> Rows:
 def flat_list(rows: Iterable[Any], columns: int) -> list[int]:
     """The words of a list of rows in order; `TypeError` for what is no whole number."""
     listed = list(rows)
-    if not (columns == 1 and all(isinstance(row, int) for row in listed)):
-        if columns == 1 and not any(isinstance(row, Sequence) for row in listed):
-            return list(map(operator.index, listed))
+    kinds = set(map(type, listed))
+    if kinds <= {int, bool}:
+        if columns != 1 and listed:
+            raise ValueError(f"the row {listed[0]!r} has one word, and {columns} are wanted")
+        return listed
+    if any(issubclass(kind, Sequence) for kind in kinds):
         for row in listed:
             if len(row) != columns:
                 raise ValueError(f"the row {row!r} has {len(row)} words, and {columns} are wanted")
         listed = list(chain.from_iterable(listed))
     return list(map(operator.index, listed))
-
-
-def count_of(rows: Rows) -> int:
-    """How many rows there are."""
-    return len(rows)
 
 
 def text_of_words(words: Sequence[int], columns: int) -> bytes:

@@ -17,13 +17,12 @@ import sys
 import tempfile
 from pathlib import Path
 
+from silc import micro_file
+from silc.fuzzing.images import Image
+from silc.micro_file.listing import image_of_listing, listing_of
+
 HERE = Path(__file__).resolve().parent
 ROOT = HERE.parent.parent
-sys.path[:0] = [str(ROOT / "tools")]
-from silc import micro_file  # noqa: E402
-from silc.fuzzing.images import Image  # noqa: E402
-from silc.micro_file.listing import image_of_listing, listing_of  # noqa: E402
-
 TOOL, PAGE = ROOT / "tools" / "assemble", ROOT / "docs" / "MICROCODE.md"
 SILC = ROOT / "crates" / "silc_main" / "out" / "silc_main"
 RANDOM, SKIPPED = 120, 77

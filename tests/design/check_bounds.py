@@ -21,18 +21,17 @@ from dataclasses import dataclass
 from fractions import Fraction
 from pathlib import Path
 
-ROOT = Path(__file__).resolve().parent.parent.parent
-sys.path[:0] = [str(ROOT / "tools"), str(ROOT / "tests")]
-import reference  # noqa: E402
-from silc.designing.ellipsoids import Ellipsoid, NoBound, States, each  # noqa: E402
-from silc.designing.flat import flat_of  # noqa: E402
-from silc.designing.loops import ONE, Sums, are_gains  # noqa: E402
-from silc.designing.programs import rows_of  # noqa: E402
-from silc.designing.shapes import Shape  # noqa: E402
-from silc.designing.systems import System  # noqa: E402
-from silc.designing.unbounded import own_run  # noqa: E402
-from silc.designing.worst import Worst  # noqa: E402
+import reference
+from silc.designing.ellipsoids import Ellipsoid, NoBound, States, each
+from silc.designing.flat import flat_of
+from silc.designing.loops import ONE, Sums, are_gains
+from silc.designing.programs import rows_of
+from silc.designing.shapes import Shape
+from silc.designing.systems import System
+from silc.designing.unbounded import own_run
+from silc.designing.worst import Worst
 
+ROOT = Path(__file__).resolve().parent.parent.parent
 COUNT, SEED, SECONDS = 200, 1, 0.5
 # So many samples are tried, and a response has died out where its last quarter has less than this share.
 LENGTH, OVER = 8_000, 1e-4

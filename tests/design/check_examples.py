@@ -11,10 +11,9 @@ import math
 import sys
 from pathlib import Path
 
-ROOT = Path(__file__).resolve().parent.parent.parent
-sys.path.insert(0, str(ROOT / "tools"))
-from silc.designing.programs import evaluated  # noqa: E402
+from silc.designing.programs import evaluated
 
+ROOT = Path(__file__).resolve().parent.parent.parent
 EXAMPLES, RATE = ROOT / "examples", 48000
 # The nominal thirds of an octave from 40 Hz to 8 kHz. Up to 4 kHz the weighting may be off by 1 dB, above by these.
 THIRDS = (40, 50, 63, 80, 100, 125, 160, 200, 250, 315, 400, 500, 630, 800, 1000, 1250, 1600, 2000, 2500, 3150, 4000, 5000,

@@ -18,13 +18,12 @@ import tempfile
 from concurrent.futures import ProcessPoolExecutor
 from pathlib import Path
 
+from silc.designing import scipy_designs
+from silc.designing.filters import roots
+from silc.designing.spectra import fft
+
 HERE = Path(__file__).resolve().parent
 ROOT = HERE.parent.parent
-sys.path.insert(0, str(ROOT / "tools"))
-from silc.designing import scipy_designs  # noqa: E402
-from silc.designing.filters import roots  # noqa: E402
-from silc.designing.spectra import fft  # noqa: E402
-
 SILC = Path(os.environ.get("SILC", ROOT / "crates" / "silc_main" / "out" / "silc_main")).resolve()
 COUNT, RATE, MOST_ORDER, SKIPPED = 50, 48000, 12, 77
 COEFFICIENTS = "coefficients"

@@ -18,17 +18,16 @@ from collections.abc import Iterator
 from concurrent.futures import ProcessPoolExecutor
 from pathlib import Path
 
+import reference
+from silc.designing import scipy_designs
+from silc.designing.flat import flat_of
+from silc.designing.programs import evaluated, rows_of, text_of, valued
+from silc.designing.sources import widened
+from silc.designing.unbounded import Passed, Run, own_run, unbounded_run
+from silc.fuzzing import samples, sources
+
 ROOT = Path(__file__).resolve().parent.parent.parent
 TOOLS = ROOT / "tools"
-sys.path[:0] = [str(TOOLS), str(ROOT / "tests")]
-import reference  # noqa: E402
-from silc.designing import scipy_designs  # noqa: E402
-from silc.designing.flat import flat_of  # noqa: E402
-from silc.designing.programs import evaluated, rows_of, text_of, valued  # noqa: E402
-from silc.designing.sources import widened  # noqa: E402
-from silc.designing.unbounded import Passed, Run, own_run, unbounded_run  # noqa: E402
-from silc.fuzzing import samples, sources  # noqa: E402
-
 SAMPLES, LEAST, GREATEST, SKIPPED = 100_000, -32768, 32767, 77
 FILTERS = (("df1", ["butter", "6", "lowpass", "1000"]), ("df2t", ["cheby1", "2", "bandpass", "800", "1600", "--ripple", "1"]),
            ("lattice", ["ellip", "3", "highpass", "1200", "--ripple", "1", "--attenuation", "40"]))

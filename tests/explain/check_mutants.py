@@ -22,10 +22,8 @@ from pathlib import Path
 ROOT = Path(__file__).resolve().parent.parent.parent
 SILC = Path(os.environ.get("SILC", ROOT / "crates" / "silc_main" / "out" / "silc_main")).resolve()
 os.environ["SILC_SHOW"] = str(Path(os.environ.get("SILC_SHOW", ROOT / "crates" / "silc_show" / "out" / "silc_show")).resolve())
-sys.path.insert(0, str(ROOT / "tools"))
-sys.path.insert(0, str(ROOT / "tests" / "explain"))
-from check_plans import edited  # noqa: E402
-from silc.explaining import command  # noqa: E402
+from check_plans import edited
+from silc.explaining import command
 
 SOURCE = """/* A choice, a delay and a table. */
 const gain : fix<16,15> = 0.25;

@@ -22,9 +22,8 @@ from pathlib import Path
 ROOT = Path(__file__).resolve().parent.parent.parent
 SILC = Path(os.environ.get("SILC", ROOT / "crates" / "silc_main" / "out" / "silc_main")).resolve()
 os.environ["SILC_SHOW"] = str(Path(os.environ.get("SILC_SHOW", ROOT / "crates" / "silc_show" / "out" / "silc_show")).resolve())
-sys.path.insert(0, str(ROOT / "tools"))
-from silc.explaining import command  # noqa: E402
-from silc.exploring.template import text_of  # noqa: E402
+from silc.explaining import command
+from silc.exploring.template import text_of
 
 SOURCES = {
     "sum": ("x : fix<16,15>", "y = 0.25 * x + 0.5 * x@1 + 0.25 * x@2;"),

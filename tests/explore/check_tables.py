@@ -21,11 +21,10 @@ import tomllib
 import xml.etree.ElementTree as Xml
 from pathlib import Path
 
+from silc.exploring.template import Template, text_of
+
 HERE = Path(__file__).resolve().parent
 ROOT = HERE.parent.parent
-sys.path.insert(0, str(ROOT / "tools"))
-from silc.exploring.template import Template, text_of  # noqa: E402
-
 BUILT = ROOT / "crates" / "silc_main" / "out" / "silc_main"
 TEMPLATE = HERE / "small.ranges"
 SOURCE = "func main(x : fix<8,0>) y : fix<8,0> = begin y = (x + 1) + (x + 2); end;\n"

@@ -2,15 +2,13 @@
 import json
 import shutil
 import subprocess
-import sys
 from pathlib import Path
+
+from silc.micro_file.image import MOST_WIDTH
+from silc.micro_file.operations import PORTS
 
 HERE = Path(__file__).resolve().parent
 ROOT = HERE.parent.parent
-sys.path.insert(0, str(ROOT / "tools"))
-from silc.micro_file.image import MOST_WIDTH  # noqa: E402
-from silc.micro_file.operations import PORTS  # noqa: E402
-
 SECONDS = 3600
 
 

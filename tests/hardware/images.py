@@ -1,16 +1,12 @@
 """Images for tests of cores: random ones with a fixed seed, and directed ones for what is rare in these.
 
-An image is a list of units and words as bench/microcode.py writes them, beside the samples to run. Directed ones are of
+An image is a list of units and words as python/silc/fuzzing/microcode.py writes them, beside the samples to run. Directed ones are of
 version 1 of the microcode file, the others of both in turn.
 """
 import random
-import sys
-from pathlib import Path
 
-sys.path.insert(0, str(Path(__file__).resolve().parent.parent.parent / "bench"))
-from microcode import FORMATTED, PORTS, image, issue, unit, word  # noqa: E402
-
-from silc.micro_file import image_of  # noqa: E402
+from silc.fuzzing.microcode import FORMATTED, PORTS, image, issue, unit, word
+from silc.micro_file import image_of
 
 SEED = 41
 OF_KIND = {"in": ["input"], "out": ["output"], "rom": ["const"], "mul": ["mul"], "sel": ["sel"], "ram": ["load", "store"],

@@ -15,14 +15,13 @@ import sys
 import tempfile
 from pathlib import Path
 
+from images import directed_images, random_images
+from silc import micro_file
+from silc.fuzzing.microcode import busy, crowded, image, issue, unit, verbose, wide, word
+from silc.micro_file.operations import KINDS
+
 HERE = Path(__file__).resolve().parent
 ROOT = HERE.parent.parent
-sys.path[:0] = [str(ROOT / "tools"), str(ROOT / "bench"), str(ROOT / "tests" / "hardware")]
-from silc import micro_file  # noqa: E402
-from silc.micro_file.operations import KINDS  # noqa: E402
-from images import directed_images, random_images  # noqa: E402
-from microcode import busy, crowded, image, issue, unit, verbose, wide, word  # noqa: E402
-
 SILC = ROOT / "crates" / "silc_main" / "out" / "silc_main"
 RANDOM, ROWS, SMALL, SKIPPED = 60, 6, 60_000, 77
 HALF = 1 << 39

@@ -16,12 +16,11 @@ import sys
 import tempfile
 from pathlib import Path
 
+from silc import micro_file
+from silc.fuzzing.microcode import crowded
+
 HERE = Path(__file__).resolve().parent
 ROOT = HERE.parent.parent
-sys.path[:0] = [str(ROOT / "tools"), str(ROOT / "bench")]
-from silc import micro_file  # noqa: E402
-from microcode import crowded  # noqa: E402
-
 ROM, TABLES = ROOT / "tools" / "rom", ROOT / "docs" / "MICROCODE.md"
 LARGE = 300_000
 # Microcode that was written by hand, in version 1 and in version 2.

@@ -13,7 +13,6 @@ RANKS = [["→"], ["then", "else"], ["↔", "≃"], ["⊎"], ["×"], ["≡", "�
          ["*", "/", "%", "*ℤ", "⊙", "·"], ["^"]]
 RANK_OF = {operator: rank for rank, operators in enumerate(RANKS) for operator in operators}
 SPREADS = set(range(5))
-DEFINES = ("=", "↦", "←", ":")
 
 
 class Tree:

@@ -3,9 +3,9 @@ one types, has as many names as can be found."""
 import re
 from dataclasses import dataclass, field
 
+from silc.explaining.text import RESERVED
+
 TOKEN = re.compile(r"/\*.*?(?:\*/|\Z)|\d+(?:\.\d+)?|[A-Za-z_]\w*|->|\.\.|::|\|\||<<|>>|<=|>=|==|!=|@@|[^\s\w]", re.S)
-KEYWORDS = ("func", "const", "var", "begin", "end", "fix", "bool", "trunc", "round", "sat", "if", "fi", "true", "false")
-RESERVED = {*KEYWORDS, "down", "up"}
 TABLE, FUNCTION, PARAMETER, RESULT, LOCAL, INDEX = "table", "function", "parameter", "result", "local", "index"
 
 

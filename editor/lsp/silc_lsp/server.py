@@ -10,11 +10,12 @@ from silc.checking.first import Unchecked
 from silc.checking.numbers import Numbers, told_number
 from silc.checking.warn import warnings_of
 from silc.explaining.program import Source
+from silc.explaining.text import KEYWORDS
 from silc_lsp import names as kinds
 from silc_lsp.calls import signature
 from silc_lsp.document import Document, is_unused, whole
 from silc_lsp.layout import Refused, laid_out
-from silc_lsp.names import KEYWORDS, Names
+from silc_lsp.names import Names
 from silc_lsp.programs import datapath_fault, datapath_of, is_datapath, plan_of
 from silc_lsp.protocol import (INTERNAL_ERROR, INVALID_PARAMS, INVALID_REQUEST, METHOD_NOT_FOUND, PARSE_ERROR, REQUEST_FAILED,
                                BadMessage, Connection, Inbox)

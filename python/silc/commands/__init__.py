@@ -2,6 +2,7 @@
 import importlib
 import os
 import sys
+from collections.abc import Callable
 
 STOPPED = 130
 
@@ -10,6 +11,19 @@ def names() -> list[str]:
     """The names of all commands."""
     files = os.listdir(os.path.dirname(__file__))
     return sorted(file[:-3] for file in files if file.endswith(".py") and not file.startswith("_"))
+
+
+def ended(name: str, work: Callable[[], int | None], *known: type[Exception]) -> int:
+    """Does the work of a command, and gives its exit status: 1, with a line, at a fault that is known or of a file."""
+    try:
+        return work() or 0
+    except BrokenPipeError:
+        raise
+    except known as why:
+        print(f"{name}: {why}", file=sys.stderr, flush=True)
+    except OSError as fault:
+        print(f"{name}: {fault.filename or 'standard output'}: {fault.strerror}", file=sys.stderr, flush=True)
+    return 1
 
 
 def run(name: str, words: list[str] | None = None) -> None:

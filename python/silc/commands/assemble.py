@@ -16,6 +16,7 @@ import sys
 import time
 from pathlib import Path
 
+from silc.commands import ended
 from silc.made_files import MadeFiles, NotMade, add_force
 from silc.micro_file import NEWEST, VERSIONS, BadImage, bytes_of, image_of
 from silc.micro_file.listing import BadListing, image_of_listing, listing_of, text_of
@@ -74,7 +75,7 @@ def options_of(words: list) -> argparse.Namespace:
     return options
 
 
-def run(options: argparse.Namespace):
+def run(options: argparse.Namespace) -> None:
     if options.listing is not None:
         MadeFiles().write("/dev/stdout", listed(options.listing))
         return
@@ -83,16 +84,6 @@ def run(options: argparse.Namespace):
     files.write(options.out, assembled(options.text, options.version or NEWEST))
 
 
-def main(words: list) -> int:
+def main(words: list[str]) -> int:
     options = options_of(words)
-    try:
-        run(options)
-    except BrokenPipeError:
-        raise
-    except (Refused, NotMade) as why:
-        print(f"assemble: {why}", file=sys.stderr)
-        return 1
-    except OSError as fault:
-        print(f"assemble: {fault.filename or 'standard output'}: {fault.strerror}", file=sys.stderr)
-        return 1
-    return 0
+    return ended("assemble", lambda: run(options), Refused, NotMade)

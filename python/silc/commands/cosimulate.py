@@ -11,7 +11,6 @@ left alone but with --force. The exit status is 0 where all rows are equal, and 
 `silc` that is built, or the one that `SILC` names in the environment.
 """
 import argparse
-import os
 import re
 import shutil
 import subprocess
@@ -21,6 +20,7 @@ import time
 from itertools import zip_longest
 from pathlib import Path
 
+from silc.commands import ended
 from silc.hardware.datapath import names_of, numbered
 from silc.made_files import MadeFiles, NotMade, add_force
 from silc.micro_file import image_of
@@ -205,15 +205,11 @@ def options_of(words):
     return options
 
 
-def main(words):
+def run_both(options: argparse.Namespace) -> None:
+    with tempfile.TemporaryDirectory(prefix="silc-core-") as folder:
+        print(cosimulate(options, Path(folder)))
+
+
+def main(words: list[str]) -> int:
     options = options_of(words)
-    try:
-        with tempfile.TemporaryDirectory(prefix="silc-core-") as folder:
-            print(cosimulate(options, Path(folder)))
-    except (Apart, NotMade) as why:
-        print(f"cosimulate: {why}", file=sys.stderr)
-        return 1
-    except OSError as fault:
-        print(f"cosimulate: {fault.filename}: {fault.strerror}", file=sys.stderr)
-        return 1
-    return 0
+    return ended("cosimulate", lambda: run_both(options), Apart, NotMade)

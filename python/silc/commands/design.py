@@ -22,27 +22,23 @@ comment says `at least`, and the exit status is 3. The noise of rounding is what
 import argparse
 import math
 import sys
-from fractions import Fraction
 from pathlib import Path
 
-from silc.designing import expected, scaling, scipy_designs, writing
+from silc.designing import scipy_designs
 from silc.designing.coefficients import sections_in, taps_in
-from silc.designing.filters import Section, fir_response, moved, paired, response, shares_for
+from silc.designing.filters import Section
+from silc.designing.finished import Order, Wanted, sections_source, taps_source
 from silc.designing.forms import Form
 from silc.designing.programs import fall_silent
-from silc.designing.scaling import Allowance, Norm, Rounding, Shapes
+from silc.designing.scaling import Norm, Rounding
 from silc.designing.scipy_designs import Lacking
 from silc.designing.shapes import Shape, shape_of
+from silc.designing.writing import counted
 from silc.made_files import FORCE, MadeFiles, add_force
 
 KINDS = ("butter", "cheby1", "cheby2", "ellip", "bessel")
 BANDS = {"lowpass": 1, "highpass": 1, "bandpass": 2, "bandstop": 2}
-UP, DOWN, GIVEN = "up", "down", "given"
 MOST_ORDER = 24
-# How far the response moved is said up to these, in decibels, upward.
-PASS_STEP, STOP_STEP = 1e-3, 1e-1
-# What is certified is said up to these, upward: shares of a range, and last bits.
-SHARE_PLACES, BIT_PLACES = 3, 1
 SCIPY_PLACE = "SciPy"
 UNCERTIFIED = 3
 
@@ -79,7 +75,7 @@ def options_of(words):
     parser.add_argument("--form", type=Form, choices=list(Form), default=Form.DIRECT, metavar="df1|df2t|lattice")
     parser.add_argument("--rounding", type=Rounding, choices=list(Rounding), default=Rounding.NEAREST,
                         metavar="nearest|down|zero")
-    parser.add_argument("--order", choices=(UP, DOWN, GIVEN), default=UP, help="poles nearest to the unit circle last, first, "
+    parser.add_argument("--order", choices=[order.value for order in Order], default=Order.UP.value, help="poles nearest to the unit circle last, first, "
                         "or sections just as the file has them")
     parser.add_argument("--single", action="store_true", help="a section of the first order for each real pole")
     parser.add_argument("--rate", type=float, metavar="HZ")
@@ -134,7 +130,7 @@ def edges_of(band, words, options):
         raise Undesigned(f"{band} is no band: it is one of {', '.join(BANDS)}")
     edges, rate = [number(word) for word in words], rate_of(options)
     if len(edges) != BANDS[band]:
-        raise Undesigned(f"{band} has {writing.counted(BANDS[band], 'edge')}, and there are {len(edges)}")
+        raise Undesigned(f"{band} has {counted(BANDS[band], 'edge')}, and there are {len(edges)}")
     for edge in edges:
         if not 0 < edge < rate / 2:
             raise Undesigned(f"the edge {edge:g} Hz is not between 0 and {rate / 2:g} Hz, half of the rate")
@@ -190,106 +186,13 @@ def one_file(options):
     return options.words[0]
 
 
-# What is said
+# What is made
 
 
-def upward(number, step):
-    """A number in steps, upward, as text."""
-    places = round(-math.log10(step))
-    return f"{math.ceil(number / step + 0.5) * step:.{places}f}"
-
-
-def said_of_move(move):
-    said = f"Response: it moved by at most {upward(move.pass_band, PASS_STEP)} dB in the pass band"
-    if move.stop_band is not None:
-        said += f", and in the stop band by at most {upward(move.stop_band, STOP_STEP)} dB of the greatest gain"
-    if move.asked is not None and move.made is not None:
-        said += f". The highest side lobe is {move.made:.1f} dB, and {move.asked:.1f} dB were asked"
-    return said + "."
-
-
-def upward_in(number: Fraction, places: int) -> str:
-    """A fraction with so many decimal places, upward."""
-    scaled = math.ceil(number * 10**places)
-    return f"{scaled // 10**places}.{scaled % 10**places:0{places}d}"
-
-
-def downward_in(number: Fraction, places: int) -> str:
-    scaled = math.floor(number * 10**places)
-    return f"{scaled // 10**places}.{scaled % 10**places:0{places}d}"
-
-
-def said_of_norm(norm: Norm, share: float | Fraction, is_bound: bool) -> str:
-    if norm is Norm.NONE:
-        return "not scaled, so they may overflow"
-    if norm is Norm.SUM and not is_bound:
-        return (f"scaled by {norm.value}, by some input at least {downward_in(share, SHARE_PLACES)} of their range, and no "
-                "bound was found, so an input may make one overflow")
-    ensured = {Norm.SUM: "no input makes one overflow", Norm.ROOT: "an input may make one overflow",
-               Norm.PEAK: "no tone makes one overflow"}[norm]
-    estimated = "" if norm is Norm.SUM else ", as an estimate"
-    return f"scaled by {norm.value}, up to {upward_in(Fraction(share), SHARE_PLACES)} of their range{estimated}: {ensured}"
-
-
-def said_of_rounding(cascade: scaling.Cascade) -> str:
-    """What all roundings together do to the output."""
-    shapes, certificate = cascade.shapes, cascade.certificate
-    bits = certificate.rounding / Fraction(shapes.signal.step)
-    said = (f"All errors of rounding together are at most {upward_in(bits, BIT_PLACES)} of the output's last bit."
-            if certificate.is_bound else "No bound was found of all errors of rounding together.")
-    return f"{said} {said_of_noise(shapes.rounding, expected.noise_of_cascade(cascade))}"
-
-
-def said_of_noise(rounding: Rounding, level: float | None) -> str:
-    if level is None:
-        return "Nothing is rounded."
-    if rounding is Rounding.ZERO:
-        return "The noise of rounding toward zero goes with the signal, and is not estimated."
-    return f"The noise of rounding is expected at {level:.1f} dB of full scale, which is an estimate."
-
-
-def shapes_of(options):
-    signal = options.signal or Shape(options.input.width, 0)
-    return Shapes(options.shape, options.input, signal, options.rounding)
-
-
-def is_open(options):
-    """Whether the places of the signals are to be chosen."""
-    return not options.has_places
-
-
-def order_of(sections, options):
-    """The gain and the sections in their order."""
-    if options.order == GIVEN:
-        return 1.0, sections
-    gain, made = paired(sections, options.single)
-    return gain, made if options.order == DOWN else made[::-1]
-
-
-def sections_source(options, sections):
-    gain, ordered = order_of(sections, options)
-    scale = scaling.fitting_cascade if is_open(options) else scaling.cascade_of
-    cascade = scale(gain, ordered, shapes_of(options), options.norm, options.form, Allowance(options.seconds))
-    made = [section for _, section in cascade.made]
-    shares = shares_for([*sections, *made])
-    move = moved([abs(response(sections, share)) for share in shares], [abs(response(made, share)) for share in shares])
-    is_bound = cascade.certificate.is_bound
-    said = [f"{what_it_is(options)}, as {writing.counted(len(made), 'section')} in {writing.FORM_NAMES[options.form]}.",
-            f"Asked: {options.asked}",
-            f"Made: coefficients in {options.shape}, signals in {cascade.shapes.signal}, "
-            f"{said_of_norm(options.norm, cascade.share(), is_bound)}. {said_of_rounding(cascade)}", said_of_move(move)]
-    return writing.cascade_source(said, cascade, options.form), is_bound
-
-
-def taps_source(options, taps):
-    words, shapes, share = scaling.fitting_taps(taps, shapes_of(options), options.norm, is_open(options))
-    made, shares = [options.shape.value(word) for word in words], shares_for()
-    move = moved([abs(fir_response(taps, share)) for share in shares], [abs(fir_response(made, share)) for share in shares])
-    said = [f"{what_it_is(options)}, with {len(taps)} taps.", f"Asked: {options.asked}",
-            f"Made: coefficients in {options.shape}, the output in {shapes.signal}, "
-            f"{said_of_norm(options.norm, share, True)}. "
-            + said_of_noise(shapes.rounding, expected.noise_of_taps(words, shapes)), said_of_move(move)]
-    return writing.fir_source(said, shapes, words), True
+def wanted_of(options: argparse.Namespace) -> Wanted:
+    """What is wanted of the filter."""
+    return Wanted(what_it_is(options), options.asked, options.shape, options.input, options.signal, options.has_places,
+                  options.norm, options.form, options.rounding, Order(options.order), options.single, options.seconds)
 
 
 def what_it_is(options):
@@ -303,8 +206,8 @@ def what_it_is(options):
 def source_of(options):
     """The source, and whether all that it says is certified."""
     if options.design == "fir":
-        return taps_source(options, taps_of(options))
-    return sections_source(options, iir(options) if options.design == "iir" else sections_in(one_file(options)))
+        return taps_source(wanted_of(options), taps_of(options))
+    return sections_source(wanted_of(options), iir(options) if options.design == "iir" else sections_in(one_file(options)))
 
 
 def files_of(options: argparse.Namespace) -> list[str]:

@@ -6,6 +6,7 @@ usage: tools/explain [OPTION ..] WORDS..    runs `silc WORDS..`, and explains it
 
   --datapath DP   with `sim`: the datapath file that MIC was compiled for, so that units and buses are told by their names
   --edits         tells the cure as edits too, where it is some: lines `edit: FILE:LINE:COLUMN-END: TEXT`, TEXT as JSON
+  --json          prints a plan, an image or the refusal as JSON on standard output (docs/PYTHON.md), and explains nothing else
 
 What `silc` prints goes through, and its exit status is that of this program. It builds nothing: it runs the programs that
 are built, or those that `SILC` and `SILC_SHOW` name in the environment. Without `silc_show` it says what it can.
@@ -18,12 +19,12 @@ from silc.programs import SILC, is_program
 # The exit code of `./silc` where the program is not there and could not be built.
 UNBUILT, BAD_WORDS = 70, 2
 PIECE = 1 << 16
-DATAPATH, EDITS = "--datapath", "--edits"
+DATAPATH, EDITS, JSON = "--datapath", "--edits", "--json"
 # The options, and how many words follow each.
-OPTIONS = {DATAPATH: 1, EDITS: 0}
+OPTIONS = {DATAPATH: 1, EDITS: 0, JSON: 0}
 
 
-def run(words):
+def run(words: list[str]) -> tuple[int, str]:
     """Runs `silc` on the words. Gives its exit status and what it wrote to standard error, which goes through."""
     read, write = os.pipe()
     silc = SILC.place()
@@ -38,12 +39,12 @@ def run(words):
     return os.waitstatus_to_exitcode(status), said.decode(errors="replace")
 
 
-def options_of(words):
+def options_of(words: list[str]) -> tuple[dict[str, list[str | None]], list[str], str | None]:
     """The options before the words of a command, these words, and why they are wrong, where they are."""
-    options = {}
+    options: dict[str, list[str | None]] = {}
     while words and words[0] in OPTIONS:
         count = OPTIONS[words[0]]
-        options[words[0]], words = words[1:1 + count], words[1 + count:]
+        options[words[0]], words = [*words[1:1 + count]], words[1 + count:]
     if not words:
         return options, words, "no command follows the options; `tools/explain --help` shows the usage"
     if DATAPATH in options and words[0] != "sim":
@@ -51,17 +52,20 @@ def options_of(words):
     return options, words, None
 
 
-def explained(options, words):
+def explained(options: dict[str, list[str | None]], words: list[str]) -> int:
     """Runs a command, and explains its refusal. Gives the exit status."""
     from silc.explaining.outputs import guarded
+    if JSON in options:
+        from silc.as_json import told
+        return told(words, SILC.place(), options.get(DATAPATH, [None])[0])
     status, said = guarded(words) or run(words)
     if status > 0 and said:
         from silc.explaining.command import explain
-        explain(words, status, said, SILC.place(), *options.get(DATAPATH, []), is_edited=EDITS in options)
+        explain(words, status, said, SILC.place(), options.get(DATAPATH, [None])[0], is_edited=EDITS in options)
     return status if status >= 0 else 128 - status
 
 
-def main(words):
+def main(words: list[str]) -> int:
     if words in ([], ["--help"]):
         print(__doc__)
         return 0 if words else BAD_WORDS

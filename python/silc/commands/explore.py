@@ -1,7 +1,7 @@
 """Plans a source on many datapaths, and shows what they trade against one another: period, units, buses and bits.
 
 usage: tools/explore [--out NAME] [--force] [--best ROW] [--jobs N] [--sshlogin LOGIN] [--pool]
-                     [--samples S --against R] [--area FAMILY [--dsp]] SRC TEMPLATE
+                     [--json] [--samples S --against R] [--area FAMILY [--dsp]] SRC TEMPLATE
 
 TEMPLATE is a datapath file with ranges in the place of numbers: {1, 2} or {32..256 step 8}. {N: 8, 16} is a range with
 a name, and {N} elsewhere has the same number. The size {fit} of a file is the least with which the rest has a plan; where a
@@ -29,6 +29,8 @@ With --area ice40 (or xilinx, ecp5) Yosys synthesizes the core of each row of th
 minute each; what it takes of the FPGA stands beside and in NAME.area.csv. --dsp uses the multipliers that an ice40 up5k has;
 the others have some always.
 
+With --json all rows come on standard output as JSON in the place of the front (docs/PYTHON.md).
+
 No file replaces an input. A table of another template or source stays, and so do other files that no tool made, but for
 --force.
 
@@ -38,7 +40,6 @@ that is built, or the one that `SILC` names in the environment, and with --sampl
 """
 import argparse
 import json
-import os
 import shutil
 import sys
 import tempfile
@@ -48,6 +49,7 @@ from pathlib import Path
 from silc.designing.programs import Unrun
 from silc.exploring import runs
 from silc.exploring.bits import inputs_of
+from silc.exploring.exploration import Exploration
 from silc.exploring.reasons import Reasons
 from silc.exploring.sources import BAD_SOURCE, Judgement, SourceTemplate
 from silc.exploring.template import Template, fitted, text_of
@@ -335,7 +337,10 @@ def make(options):
         rows = rows_of(front, space.ranges, areas)
         if areas:
             outputs.put(".area.csv", "".join(",".join(map(str, row)) + "\n" for row in rows))
-        show(rows)
+        if options.json:
+            print(json.dumps(Exploration(trades, front).as_json()))
+        else:
+            show(rows)
         say(f"{sum(trade.fits() for trade in trades)} of {len(trades)} fit, {len(front)} on the front: {name}.csv, {name}.svg")
         if options.best and front:
             write_best(Path(folder), options, outputs, space, front)
@@ -360,6 +365,7 @@ def options_of(words):
     parser.add_argument("--jobs", metavar="N", type=positive)
     parser.add_argument("--sshlogin", metavar="LOGIN", action="append")
     parser.add_argument("--pool", action="store_true")
+    parser.add_argument("--json", action="store_true")
     parser.add_argument("--area", choices=("ice40", "xilinx", "ecp5"))
     parser.add_argument("--dsp", action="store_true")
     parser.add_argument("--samples", metavar="S")

@@ -1,7 +1,7 @@
 """Says how much of its range each element of a source uses, and where it wraps or saturates.
 
-usage: tools/ranges [--all] [--wraps NAME ..] [--picture FILE] [--force] SRC SAMPLES
-       tools/ranges --worst [--seconds S] [--all] [--picture FILE] [--worst-input FILE [--element NAME]] [--force] SRC
+usage: tools/ranges [--all] [--json] [--wraps NAME ..] [--picture FILE] [--force] SRC SAMPLES
+       tools/ranges --worst [--seconds S] [--all] [--json] [--picture FILE] [--worst-input FILE [--element NAME]] [--force] SRC
 
 A line for each element, the tightest first: its shape, the least and the greatest of its words and of their values, the
 bits that these words need and how many are left, the share of the range, and the first sample, from 1, at which it passed
@@ -24,10 +24,11 @@ after. In so many seconds of the processor's time, 4 where none are given, they 
   not linear           something before it is not linear, and was taken as any word of its range
   at least             no bound was found in the time: an input is known by which it gets as far as this
 
-and the exit status is 3 where a line says `at least`. --worst-input writes the samples that come nearest to the bound, for the
+and the exit status is 3 where a line says `at least`. With --json the table is a line of JSON (docs/PYTHON.md). --worst-input writes the samples that come nearest to the bound, for the
 tightest linear element or the one that is named, to such a length that what is left out is less than half of its last bit.
 """
 import argparse
+import json
 import sys
 from pathlib import Path
 
@@ -103,7 +104,10 @@ def make(options):
         ranges, notes = ranges_of(source, samples_in(options.samples, words_of_main(source)[0]), options)
     if not ranges:
         raise Unranged("no element changes")
-    show(ranges, notes)
+    if options.json:
+        print(json.dumps([each.as_json() for each in sorted(ranges, key=lambda each: -each.share)]))
+    else:
+        show(ranges, notes)
     if options.picture:
         files.write(options.picture, picture_of(ranges) + "\n")
     return status
@@ -121,6 +125,7 @@ def options_of(words):
     parser.add_argument("--picture", metavar="FILE")
     parser.add_argument("--wraps", metavar="NAME", action="append", default=[])
     parser.add_argument("--all", action="store_true")
+    parser.add_argument("--json", action="store_true")
     add_force(parser)
     options = parser.parse_args(words)
     if options.worst == bool(options.samples):

@@ -18,6 +18,7 @@ import re
 import sys
 from pathlib import Path
 
+from silc.commands import ended
 from silc.made_files import MadeFiles, NotMade, add_force
 from silc.micro_file import BadImage, fields_of, image_of
 from silc.micro_file.bits import Field
@@ -122,18 +123,13 @@ def put(options):
     return fault
 
 
-def main(words):
-    options = options_of(words)
-    try:
-        fault = put(options)
-    except BrokenPipeError:
-        raise
-    except NotMade as why:
-        print(f"rom: {why}", file=sys.stderr)
-        return 1
-    except OSError as why:
-        print(f"rom: {why.filename or 'standard output'}: {why.strerror}", file=sys.stderr)
-        return 1
+def run(options: argparse.Namespace) -> int:
+    fault = put(options)
     if fault:
         print(f"rom: {options.microcode}: {fault.refusal()}", file=sys.stderr)
     return 1 if fault else 0
+
+
+def main(words: list[str]) -> int:
+    options = options_of(words)
+    return ended("rom", lambda: run(options), NotMade)

@@ -8,14 +8,13 @@ With --json the numbers come as one line of JSON. It writes no file but in a fol
 """
 import argparse
 import json
-import os
 import re
 import shutil
 import subprocess
-import sys
 import tempfile
 from pathlib import Path
 
+from silc.commands import ended
 from silc.programs import command, with_package
 
 NAME = "core"
@@ -113,18 +112,14 @@ def options_of(words):
     return parser.parse_args(words)
 
 
-def main(words):
-    options = options_of(words)
-    try:
-        numbers = numbers_of(options)
-    except Unmade as why:
-        print(f"synthesize: {why}", file=sys.stderr)
-        return 1
-    except OSError as fault:
-        print(f"synthesize: {fault.filename}: {fault.strerror}", file=sys.stderr)
-        return 1
+def put(options: argparse.Namespace) -> None:
+    numbers = numbers_of(options)
     if options.json:
         print(json.dumps(numbers))
     else:
         print(f"{options.family}: " + ", ".join(f"{count} {kind}" for kind, count in numbers.items()))
-    return 0
+
+
+def main(words: list[str]) -> int:
+    options = options_of(words)
+    return ended("synthesize", lambda: put(options), Unmade)

@@ -16,7 +16,6 @@ OUT is there once it is whole. It replaces no input, nor, without --force, a fil
 runs the `silc_show` that is built, or the one that `SILC_SHOW` names in the environment.
 """
 import argparse
-import os
 import shutil
 import subprocess
 import sys
@@ -25,6 +24,7 @@ import time
 from collections.abc import Iterable, Iterator
 from pathlib import Path
 
+from silc.commands import ended
 from silc.hardware.datapath import Names, names_of
 from silc.hardware.netlist import NoCore
 from silc.made_files import MadeFiles, NotMade, add_force
@@ -107,7 +107,7 @@ def rows_in(file: str) -> int:
     return len(Path(file).read_bytes().splitlines())
 
 
-def ended(cycle: Cycle | None, first: int) -> tuple[int, str]:
+def extent(cycle: Cycle | None, first: int) -> tuple[int, str]:
     """How many cycles are shown, and how the run ends."""
     number, _, layout, _ = cycle or (-1, None, None, None)
     conflict = layout and layout.conflict
@@ -129,7 +129,7 @@ def make(options: argparse.Namespace) -> str:
     with tempfile.TemporaryFile("w+") as changes:
         waveform = Waveform(image, names, changes)
         last = put_cycles(waveform, pieces_of(words), first, count if options.to is None else min(count, options.to))
-        shown, end = ended(last, first)
+        shown, end = extent(last, first)
         changes.seek(0)
         with files.opened(options.out) as file:
             file.write("".join(f"{line}\n" for line in head_of(waveform)).encode())
@@ -152,17 +152,13 @@ def options_of(words: list[str]) -> argparse.Namespace:
     return options
 
 
-def main(words: list[str]) -> int:
-    options = options_of(words)
+def put(options: argparse.Namespace) -> None:
     try:
         print(make(options))
     except BadSamples as fault:
-        say(f"{options.samples}: {told(str(fault).split())}")
-        return 1
-    except (NoTrace, NotMade) as why:
-        say(why)
-        return 1
-    except OSError as fault:
-        say(f"{fault.filename}: {fault.strerror}")
-        return 1
-    return 0
+        raise NoTrace(f"{options.samples}: {told(str(fault).split())}") from fault
+
+
+def main(words: list[str]) -> int:
+    options = options_of(words)
+    return ended("vcd", lambda: put(options), NoTrace, NotMade)

@@ -12,9 +12,9 @@ Each file is there whole or not at all. Where one of these names is a file that 
 """
 import argparse
 import re
-import sys
 from pathlib import Path
 
+from silc.commands import ended
 from silc.hardware.core_files import files_of
 from silc.hardware.datapath import Names, names_of, numbered
 from silc.hardware.netlist import Core, NoCore, core_for_datapath, core_for_image
@@ -90,15 +90,11 @@ def options_of(words: list[str]) -> argparse.Namespace:
     return parser.parse_args(words)
 
 
+def make(options: argparse.Namespace) -> None:
+    files = MadeFiles(inputs=[options.microcode, options.datapath], is_forced=options.force)
+    files.write_folder(options.folder, files_of(*core_of(options)))
+
+
 def main(words: list[str]) -> int:
     options = options_of(words)
-    try:
-        files = MadeFiles(inputs=[options.microcode, options.datapath], is_forced=options.force)
-        files.write_folder(options.folder, files_of(*core_of(options)))
-    except (NoCore, NotMade) as why:
-        print(f"verilog: {why}", file=sys.stderr)
-        return 1
-    except OSError as fault:
-        print(f"verilog: {fault.filename}: {fault.strerror}", file=sys.stderr)
-        return 1
-    return 0
+    return ended("verilog", lambda: make(options), NoCore, NotMade)

@@ -27,13 +27,6 @@ def with_types(source, changed):
     return outside_comments(source, lambda text: TYPE.sub(replaced, text))
 
 
-def shapes_in(source):
-    """The shapes that are written in a source."""
-    shapes = set()
-    with_types(source, lambda shape: shapes.add(shape) or shape)
-    return shapes
-
-
 def widened(source):
     """The same program with words of the greatest width."""
     return with_types(source, lambda shape: Shape(WIDEST, shape.places))

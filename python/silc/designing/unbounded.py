@@ -3,6 +3,7 @@ without bounds."""
 from collections.abc import Sequence, Set
 
 from silc.designing.flat import FlatElement, Operation
+from silc.micro_file.operations import FORMATTED
 
 # An expression of a line is at most so deep, since Python has a limit.
 DEEPEST = 40
@@ -11,7 +12,6 @@ DEEPEST = 40
 BITS = 256
 LARGEST = 1 << BITS
 BINARY = {"add": "+", "sub": "-", "mul": "*", "lt": "<", "le": "<=", "eq": "==", "ne": "!=", "and": "&", "or": "|"}
-FORMATTED = ("add", "sub", "mul", "neg", "pass")
 
 
 def order_of(elements: Sequence[FlatElement]) -> list[int]:

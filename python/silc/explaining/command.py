@@ -18,8 +18,8 @@ BUILD = "`tools/build silc_show` builds the program that tells the place"
 class Case:
     """A refused command: its words by what they are, its refusal, the programs, and the datapath file that a user names."""
 
-    def __init__(self, words, status, said, silc, datapath=None):
-        self.words, self.status, self.silc, self.datapath = words, status, silc, datapath
+    def __init__(self, words, status, said, silc, datapath=None, is_quiet=False):
+        self.words, self.status, self.silc, self.datapath, self.is_quiet = words, status, silc, datapath, is_quiet
         self.files = named(words) or {}
         self.refusal, self.values = next(filter(None, map(refusal_of, said.splitlines())), (None, {}))
         self.said = said
@@ -30,6 +30,11 @@ class Case:
         if not file.is_file():
             raise OSError(f"{file} can't be read again")
         return Text(self.files[what], file.read_bytes())
+
+    def say(self, text):
+        """Says how far a long search is, but to a program."""
+        if not self.is_quiet:
+            say(text)
 
     def has_show(self):
         return SHOW.is_there()

@@ -2,10 +2,9 @@
 import re
 from dataclasses import dataclass, field
 
-KIND_OF = {"input": "in", "output": "out", "const": "rom", "mul": "mul", "sel": "sel", "load": "ram", "store": "ram",
-           "addr": "acu", **dict.fromkeys("add sub neg pass lt le eq ne and or not".split(), "alu")}
-# How many ports a unit of a kind has, and what it does.
-PORTS = {"in": 0, "out": 1, "rom": 0, "alu": 2, "mul": 2, "sel": 3, "ram": 2, "acu": 0}
+from silc.micro_file.operations import KIND_OF
+
+# What a unit of a kind does.
 DONE_BY = {"in": "the input words", "out": "the output words", "rom": "constants", "alu": "sums, differences, comparisons and logic",
            "mul": "products", "sel": "choices", "ram": "memory", "acu": "addresses"}
 DOES = {"add": "addition", "sub": "subtraction", "neg": "negation", "pass": "copy", "mul": "product", "sel": "choice",

@@ -3,7 +3,8 @@ import difflib
 import re
 import tomllib
 
-from silc.explaining.hardware import DONE_BY, PORTS
+from silc.explaining.hardware import DONE_BY
+from silc.micro_file.operations import PORTS
 from silc.explaining.kinds import other_kind
 from silc.explaining.refusals import datapath
 from silc.explaining.report import Report, counted, listed

@@ -5,8 +5,9 @@ from pathlib import Path
 
 from silc.explaining import lacks
 from silc.explaining.changes import TOP, Key, Table, edits_of, made, merged, told
-from silc.explaining.command import BUILD, say
-from silc.explaining.hardware import DONE_BY, KIND_OF, PORTS, Hardware, nodes_of, readers_of, words_of
+from silc.explaining.command import BUILD
+from silc.explaining.hardware import DONE_BY, Hardware, nodes_of, readers_of, words_of
+from silc.micro_file.operations import KIND_OF, PORTS
 from silc.explaining.refusals import planning
 from silc.explaining.report import Report, counted, listed
 from silc.explaining.routing import free_name, route_for, routes_for
@@ -272,7 +273,7 @@ class Refused:
         return needed
 
     def trial(self):
-        return lacks.Trial(self.case.plan, self.tree, say)
+        return lacks.Trial(self.case.plan, self.tree, self.case.say)
 
     def period(self):
         given = self.tree["period"]
@@ -333,7 +334,7 @@ class Refused:
         unit, _, number = port.rpartition(".")
         index = next(n for n, other in enumerate(self.tree["unit"]) if other["name"] == unit)
         size = self.tree["unit"][index]["files"][int(number)]
-        say(f"looking for the registers that {port} needs")
+        self.case.say(f"looking for the registers that {port} needs")
         needs = self.trial().registers_for(port)
         report = Report(f"{self.what()} is read at `{port}`, whose file of {counted(size, 'register')} is full when its word comes",
                         "use more units and buses, or fewer words that are kept from one sample to the next.",

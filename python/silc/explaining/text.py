@@ -7,8 +7,9 @@ from typing import NamedTuple
 SYMBOLS = r"->|\.\.|::|\|\||<<|>>|<=|>=|==|!=|@@|[-+*@&|!<>=;:,()\[\]]"
 TOKEN = re.compile(rf"(?P<space>\s+|/\*.*?\*/)|(?P<number>\d+(?:\.\d+)?)|(?P<name>[A-Za-z_]\w*)|(?P<symbol>{SYMBOLS})",
                    re.S | re.A)
-RESERVED = set("func const var begin end fix bool trunc round if fi true false sat down up".split())
+KEYWORDS = ("func", "const", "var", "begin", "end", "fix", "bool", "trunc", "round", "sat", "if", "fi", "true", "false")
 KEPT_FOR_LATER = ("down", "up")
+RESERVED = {*KEYWORDS, *KEPT_FOR_LATER}
 # Characters that take no place, or another, on a screen; a tab stays.
 UNSEEN = re.compile("[\x00-\x08\x0a-\x1f\x7f\ufeff]")
 # A line is shown up to this many characters.

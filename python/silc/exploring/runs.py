@@ -4,7 +4,6 @@ import shlex
 import shutil
 import subprocess
 from multiprocessing.pool import ThreadPool
-from pathlib import Path
 
 from silc.programs import command as command_of, with_package
 

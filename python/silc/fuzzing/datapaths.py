@@ -1,7 +1,8 @@
 """Random datapath files: few or many units, wide or sparse routes, in several ways to write them."""
 from dataclasses import dataclass, field
 
-PORTS = {"in": 0, "out": 1, "rom": 0, "alu": 2, "mul": 2, "sel": 3, "ram": 2, "acu": 0}
+from silc.micro_file.operations import PORTS
+
 MOST_ENTRIES, MOST_BUSES, MOST_UNITS = 256, 32, 32
 
 

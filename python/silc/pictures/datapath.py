@@ -1,7 +1,7 @@
 """The units, register files and buses of a datapath file."""
+from silc.micro_file.operations import PORTS
 from silc.pictures.picture import BLACK, BLUE, COLUMN, FILLS, GAP, LABELS, MARGIN, ORANGE, PAPER, Picture
 
-PORTS = {"in": 0, "out": 1, "rom": 0, "alu": 2, "mul": 2, "sel": 3, "ram": 2, "acu": 0}
 DRIVES = {kind: kind != "out" for kind in PORTS}
 UNIT_TOP, UNIT_HEIGHT, FILE_HEIGHT, BUS_STEP = 56, 70, 24, 30
 

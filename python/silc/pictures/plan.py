@@ -1,10 +1,7 @@
 """The text of `silc schedule`, as a plan of nodes."""
 from dataclasses import dataclass, field
 
-KINDS = {"input": "in", "output": "out", "const": "rom", "mul": "mul", "sel": "sel", "load": "ram", "store": "ram",
-         "addr": "acu", **dict.fromkeys("add sub neg pass lt le eq ne and or not".split(), "alu")}
-OPERANDS = {"input": 0, "output": 1, "const": 0, "addr": 0, "neg": 1, "pass": 1, "not": 1, "load": 1, "sel": 3}
-WITH_ARGUMENT, FORMATTED = ("input", "output", "const", "addr"), ("add", "sub", "neg", "pass", "mul")
+from silc.micro_file.operations import CALLED
 
 
 @dataclass
@@ -74,13 +71,14 @@ def node_of(text):
     line.word("unit")
     node.unit = line.word()
     line.word("op")
-    node.op = line.word(*KINDS)
-    if node.op in WITH_ARGUMENT:
+    node.op = line.word(*CALLED)
+    operation = CALLED[node.op]
+    if operation.has_argument:
         node.argument = int(line.word())
-    for _ in range(OPERANDS.get(node.op, 2)):
+    for _ in range(operation.reads):
         operand, _, delay = line.word().partition("@")
         node.operands.append((int(operand), int(delay or 0)))
-    if node.op in FORMATTED:
+    if operation.is_formatted:
         line.number("fmt")
         line.word("trunc", "round", "sat", "round,sat")
         node.width = int(line.word())

@@ -1,7 +1,7 @@
 """The schedule of a plan: which unit does what in which cycle, and what goes over which bus."""
+from silc.micro_file.operations import KIND_OF
 from silc.pictures.columns import BETWEEN, FOOT, HEAD, LEFT, NAMES, WIDTH, Columns
 from silc.pictures.picture import BLACK, BLUE, COLUMN, FILLS, MARGIN, PAPER, Picture, fitting
-from silc.pictures.plan import KINDS
 
 BAR, BETWEEN_LANES, TRANSFER, DESTINATION = 30, 4, 16, 11
 # A bar is higher by this where the element of its node stands in it.
@@ -67,7 +67,7 @@ def draw_nodes(picture, plan, columns, start, rows, lane, origins):
             when = f"cycle {node.cycle}" if last == node.cycle else f"cycles {node.cycle} to {last}"
             origin = origins.get(node.number)
             where = f"; {origin.element} in line {origin.line}" if origin else ""
-            picture.box(x + 1, y, width - 2, rows.bar, FILLS[KINDS[node.op]],
+            picture.box(x + 1, y, width - 2, rows.bar, FILLS[KIND_OF[node.op]],
                         title=f"node {node.number}: {node.words()}, on {node.unit} in {when}{where}")
             picture.text(x + width / 2, y + 14, str(node.number), 12)
             picture.text(x + width / 2, y + 25, node.op, 9)

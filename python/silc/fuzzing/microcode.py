@@ -1,12 +1,7 @@
 """Microcode files for measurements and tests, of units and words. python/silc/micro_file writes their bytes."""
-import sys
-from pathlib import Path
-
-sys.path.insert(0, str(Path(__file__).resolve().parent.parent / "tools"))
-
-from silc import micro_file  # noqa: E402
-from silc.micro_file.image import MODES, MOST_PERIOD  # noqa: E402
-from silc.micro_file.operations import FORMATTED, PORTS  # noqa: E402
+from silc import micro_file
+from silc.micro_file.image import MODES, MOST_PERIOD
+from silc.micro_file.operations import FORMATTED, PORTS
 
 OLDEST, NEWEST = 1, micro_file.NEWEST
 # What an image takes at most beside its words in version 1.

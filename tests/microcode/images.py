@@ -1,0 +1,1 @@
+../hardware/images.py
