@@ -1,7 +1,7 @@
 # Completion of `silc` for bash: source this file, or put it into a folder of bash-completion under the name `silc`.
 
 # made by tools/completions
-_silc_words='run eval compile sim schedule list demo explain check draw design ranges noise explore rows assemble rom vcd verilog cosimulate synthesize fuzz show build help'
+_silc_words='run eval compile sim schedule list demo explain check draw design ranges values noise explore rows assemble rom vcd verilog cosimulate synthesize fuzz show build help'
 _silc_forms='run *.sil *.toml * *
 eval *.sil * *
 compile *.sil *.toml *
@@ -26,6 +26,7 @@ design fir kaiser - - - ...
 design fir remez - - - - ...
 ranges *.sil *
 ranges *.sil
+values *.sil * - ...
 noise *.sil *
 noise *.sil
 explore *.sil *
@@ -48,13 +49,14 @@ show datapath *.toml
 show rows - *
 show repeat - - *
 show repeat assign|plan|allot|assemble - *.sil *.toml'
-_silc_options='explain --datapath=*.toml --edits --page --place=-
+_silc_options='explain --datapath=*.toml --edits --json --page --place=-
 check --all --warn
 draw --check --db=- --force --frequencies=- --out=*.svg --range=- --rate=-
 design --attenuation=- --force --form=df1|df2t|lattice --gains=- --input=- --norm=l1|l2|peak|none --order=up|down|given --out=* --rate=- --ripple=- --rounding=nearest|down|zero --seconds=- --shape=- --signal=- --single --taps=- --weights=- --width=-
-ranges --all --element=- --force --picture=* --seconds=- --worst --worst-input=* --wraps=-
+ranges --all --element=- --force --json --picture=* --seconds=- --worst --worst-input=* --wraps=-
+values --json
 noise --against=* --force --impulse=- --picture=* --zero-input=-
-explore --against=* --area=ice40|xilinx|ecp5 --best=- --dsp --force --jobs=- --out=- --pool --samples=* --sshlogin=-
+explore --against=* --area=ice40|xilinx|ecp5 --best=- --dsp --force --jobs=- --json --out=- --pool --samples=* --sshlogin=-
 rows --bits=16|24|32 --columns=- --force
 assemble --force --listing=*.mic --version=1|2
 rom --c --force --intel --map --name=- --out=* --readmemh
