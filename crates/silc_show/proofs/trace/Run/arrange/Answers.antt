@@ -5,6 +5,7 @@ pub returns-in-Some : goal.returns-in-Some
 returns-in-Some c = record {
   valid = c.requires.valid;
   same = c.requires.same;
+  alone = c.requires.alone;
   all_units = IsPermutation-trans _ _ _ c.requires.all_units c.arrange.ensures;
   time = c.requires.time;
 }
