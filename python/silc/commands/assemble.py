@@ -58,7 +58,7 @@ def listed(file: str) -> str:
         raise Refused(f"{file}: {fault.refusal()}") from fault
 
 
-def options_of(words: list) -> argparse.Namespace:
+def options_of(words: list[str]) -> argparse.Namespace:
     usage = __doc__.partition("usage: ")[2].partition("\n\n")[0]
     parser = argparse.ArgumentParser(prog="assemble", usage=usage, description=__doc__,
                                      formatter_class=argparse.RawDescriptionHelpFormatter)

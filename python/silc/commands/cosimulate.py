@@ -39,7 +39,7 @@ class Apart(Exception):
     """Why the two are not compared, or how they differ."""
 
 
-def say(text):
+def say(text: object) -> None:
     print(f"cosimulate: {text}", file=sys.stderr, flush=True)
 
 
@@ -188,7 +188,7 @@ def wait_of(word):
     return int(word)
 
 
-def options_of(words):
+def options_of(words: list[str]) -> argparse.Namespace:
     parser = argparse.ArgumentParser(prog="cosimulate", usage=__doc__.partition("usage: ")[2].partition("\n")[0],
                                      description=__doc__, formatter_class=argparse.RawDescriptionHelpFormatter)
     parser.add_argument("microcode", metavar="MIC")

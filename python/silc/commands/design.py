@@ -50,7 +50,7 @@ class Undesigned(ValueError):
 # What is asked
 
 
-def shape_word(word):
+def shape_word(word: str) -> Shape:
     try:
         return shape_of(word)
     except ValueError as fault:
@@ -62,7 +62,7 @@ def signal_word(word: str) -> tuple[Shape, bool]:
     return shape_word(word if "," in word else f"{word},0"), "," in word
 
 
-def options_of(words):
+def options_of(words: list[str]) -> argparse.Namespace:
     parser = argparse.ArgumentParser(prog="design", usage=__doc__.partition("usage: ")[2].partition("\n\n")[0],
                                      description=__doc__.partition("\n\n")[0], allow_abbrev=False)
     parser.add_argument("design", choices=("sos", "fir", "iir"))
@@ -75,8 +75,8 @@ def options_of(words):
     parser.add_argument("--form", type=Form, choices=list(Form), default=Form.DIRECT, metavar="df1|df2t|lattice")
     parser.add_argument("--rounding", type=Rounding, choices=list(Rounding), default=Rounding.NEAREST,
                         metavar="nearest|down|zero")
-    parser.add_argument("--order", choices=[order.value for order in Order], default=Order.UP.value, help="poles nearest to the unit circle last, first, "
-                        "or sections just as the file has them")
+    parser.add_argument("--order", choices=[order.value for order in Order], default=Order.UP.value,
+                        help="poles nearest to the unit circle last, first, or sections just as the file has them")
     parser.add_argument("--single", action="store_true", help="a section of the first order for each real pole")
     parser.add_argument("--rate", type=float, metavar="HZ")
     parser.add_argument("--ripple", type=float, metavar="DB", help="in the pass band (cheby1, ellip)")
@@ -102,7 +102,7 @@ def seconds_word(word: str) -> float:
     return seconds
 
 
-def words_without(words, option):
+def words_without(words: list[str], option: str) -> list[str]:
     """The words of a command, without an option and its value, each time that it is there."""
     before = ["", *words]
     return [word for word, last in zip(words, before) if option not in (word, last) and not word.startswith(f"{option}=")]
@@ -111,20 +111,20 @@ def words_without(words, option):
 # From a specification
 
 
-def number(word):
+def number(word: str) -> float:
     try:
         return float(word)
     except ValueError as fault:
         raise Undesigned(f"{word} is no number") from fault
 
 
-def rate_of(options):
+def rate_of(options: argparse.Namespace) -> float:
     if not options.rate or options.rate <= 0:
         raise Undesigned("a specification in hertz needs --rate HZ, the samples a second")
     return options.rate
 
 
-def edges_of(band, words, options):
+def edges_of(band: str, words: list[str], options: argparse.Namespace) -> list[float]:
     """The edges of a band in hertz."""
     if band not in BANDS:
         raise Undesigned(f"{band} is no band: it is one of {', '.join(BANDS)}")
@@ -139,7 +139,7 @@ def edges_of(band, words, options):
     return edges
 
 
-def iir(options):
+def iir(options: argparse.Namespace) -> list[Section]:
     """Sections by SciPy."""
     kind, order, band, *words = [*options.words, "", "", ""][:max(3, len(options.words))]
     if kind not in KINDS:
@@ -154,7 +154,7 @@ def iir(options):
     return [Section(tuple(b), (a1, a2), SCIPY_PLACE) for *b, _, a1, a2 in made]
 
 
-def kaiser(options):
+def kaiser(options: argparse.Namespace) -> list[float]:
     band, *words = options.words[1:] or [""]
     if not options.attenuation or not (options.width or options.taps):
         raise Undesigned("kaiser needs --attenuation DB, and --width HZ or --taps N")
@@ -162,7 +162,7 @@ def kaiser(options):
                                   width=options.width, attenuation=options.attenuation, rate=rate_of(options))
 
 
-def remez(options):
+def remez(options: argparse.Namespace) -> list[float]:
     edges, rate = [number(word) for word in options.words[1:]], rate_of(options)
     if len(edges) % 2 or not edges or edges != sorted(edges) or edges[-1] > rate / 2:
         raise Undesigned(f"remez needs pairs of edges in rising order, up to {rate / 2:g} Hz, half of the rate")
@@ -172,7 +172,7 @@ def remez(options):
                                   rate=rate)
 
 
-def taps_of(options):
+def taps_of(options: argparse.Namespace) -> list[float]:
     if options.words[0] == "kaiser":
         return kaiser(options)
     if options.words[0] == "remez":
@@ -180,7 +180,7 @@ def taps_of(options):
     return taps_in(one_file(options))
 
 
-def one_file(options):
+def one_file(options: argparse.Namespace) -> str:
     if len(options.words) != 1:
         raise Undesigned(f"{options.design} takes one file of coefficients, and there are {len(options.words)} words")
     return options.words[0]
@@ -195,7 +195,7 @@ def wanted_of(options: argparse.Namespace) -> Wanted:
                   options.norm, options.form, options.rounding, Order(options.order), options.single, options.seconds)
 
 
-def what_it_is(options):
+def what_it_is(options: argparse.Namespace) -> str:
     """The filter in words."""
     at = f" at {options.rate:,g} samples a second" if options.rate else ""
     if not files_of(options):
@@ -203,7 +203,7 @@ def what_it_is(options):
     return f"The filter of {Path(options.words[0]).name}{at}"
 
 
-def source_of(options):
+def source_of(options: argparse.Namespace) -> tuple[str, bool]:
     """The source, and whether all that it says is certified."""
     if options.design == "fir":
         return taps_source(wanted_of(options), taps_of(options))
@@ -215,7 +215,7 @@ def files_of(options: argparse.Namespace) -> list[str]:
     return [] if options.design == "iir" or options.words[0] in ("kaiser", "remez") else options.words
 
 
-def main(words):
+def main(words: list[str]) -> int:
     options = options_of(words)
     files = MadeFiles(files_of(options), options.force)
     try:

@@ -112,7 +112,7 @@ def drawn_plan(draw):
     return drawn
 
 
-def say(text):
+def say(text: object) -> None:
     print(f"draw: {text}", file=sys.stderr, flush=True)
 
 
@@ -228,7 +228,7 @@ def put(words):
     return 0
 
 
-def main(words):
+def main(words: list[str]) -> int:
     if words in (["--help"], ["-h"]):
         print(__doc__)
         return 0

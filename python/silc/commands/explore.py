@@ -70,7 +70,7 @@ class Unexplored(Exception):
     """Why there is no table."""
 
 
-def say(text):
+def say(text: object) -> None:
     print(f"explore: {text}", file=sys.stderr, flush=True)
 
 
@@ -315,7 +315,7 @@ def write_best(room, options, outputs, space, front):
                                                                           zip(COSTS, trade.costs())))
 
 
-def make(options):
+def make(options: argparse.Namespace) -> int:
     """Makes the table and the picture. Gives the exit status."""
     source = source_of(options.source)
     judgement = Judgement(options.samples, options.against) if options.samples else None
@@ -347,14 +347,14 @@ def make(options):
     return 0 if front else 1
 
 
-def positive(word):
+def positive(word: str) -> int:
     number = int(word)
     if number < 1:
         raise ValueError
     return number
 
 
-def options_of(words):
+def options_of(words: list[str]) -> argparse.Namespace:
     parser = argparse.ArgumentParser(prog="explore", usage=__doc__.partition("usage: ")[2].partition("\n\n")[0],
                                      description=__doc__, formatter_class=argparse.RawDescriptionHelpFormatter)
     parser.add_argument("source", metavar="SRC")
@@ -378,7 +378,7 @@ def options_of(words):
     return options
 
 
-def main(words):
+def main(words: list[str]) -> int:
     options = options_of(words)
     try:
         if options.area and not shutil.which("yosys"):

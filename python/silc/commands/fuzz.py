@@ -43,7 +43,7 @@ SECONDS_BETWEEN = 5
 NOT_BUILT, FAILED = 70, 1
 
 
-def say(text):
+def say(text: object) -> None:
     print(f"fuzz: {text}", file=sys.stderr, flush=True)
 
 
@@ -93,7 +93,7 @@ def show_ends(ends):
         print(f"{command:8}  {codes}")
 
 
-def words_of(words):
+def words_of(words: list[str]) -> argparse.Namespace:
     parser = argparse.ArgumentParser(prog="fuzz", usage=__doc__.partition("usage: ")[2].partition("\n")[0],
                                      description=__doc__, formatter_class=argparse.RawDescriptionHelpFormatter)
     parser.add_argument("kind", choices=(*KINDS, ALL))
@@ -105,13 +105,14 @@ def words_of(words):
     return parser.parse_args(words)
 
 
-def main(words):
+def main(words: list[str]) -> int:
     options = words_of(words)
     programs = programs_of(options)
     if not programs:
         return NOT_BUILT
     cases = [Case(options.kind, options.seed, options.case + number) for number in range(options.count)]
-    progress, ends, failed = Progress(len(cases)), Counter(), 0
+    ends: Counter[tuple[str, int]] = Counter()
+    progress, failed = Progress(len(cases)), 0
     with ProcessPoolExecutor(options.jobs) as pool:
         answers = pool.map(judged, cases, [programs] * len(cases))
         for done, (ended, fault) in enumerate(answers, 1):

@@ -29,11 +29,11 @@ from silc.pictures.spectrum import draw_spectra
 SHOWN = 16
 
 
-def text_in(file):
+def text_in(file: str) -> str:
     return Path(file).read_text(encoding="latin-1")
 
 
-def decibels(number):
+def decibels(number: float) -> str:
     return f"{number:.1f} dB" if math.isfinite(number) else "nothing" if number < 0 else "no error"
 
 
@@ -48,7 +48,7 @@ def show(noise, number, count):
         print(f"{named}error from {low:.4f} to {high:.4f} of the rate: {decibels(level)} of full scale")
 
 
-def compare(options):
+def compare(options: argparse.Namespace) -> None:
     files = MadeFiles([options.source, options.samples, options.against], options.force)
     files.look_at(options.picture)
     source = text_in(options.source)
@@ -64,7 +64,7 @@ def compare(options):
         files.write(options.picture, draw_spectra(*powers, "0 dB is full scale") + "\n")
 
 
-def falls_silent(options):
+def falls_silent(options: argparse.Namespace) -> None:
     source = text_in(options.source)
     shape = words_of_main(source)[0][0]
     word = options.impulse if options.impulse is not None else shape.greatest if shape else 1
@@ -88,14 +88,14 @@ def said_of_silence(silence: Silence, word: int, length: int) -> str:
     return f"{before} it repeats every {silence.period} samples forever: {words}{' ..' if silence.period > SHOWN else ''}"
 
 
-def positive(word):
+def positive(word: str) -> int:
     number = int(word)
     if number < 1:
         raise ValueError
     return number
 
 
-def options_of(words):
+def options_of(words: list[str]) -> argparse.Namespace:
     parser = argparse.ArgumentParser(prog="noise", usage=__doc__.partition("usage: ")[2].partition("\n\n")[0],
                                      description=__doc__.partition("\n\n")[0], allow_abbrev=False)
     parser.add_argument("source", metavar="SRC")
@@ -113,7 +113,7 @@ def options_of(words):
     return options
 
 
-def main(words):
+def main(words: list[str]) -> int:
     options = options_of(words)
     files = [str(file) for file in (options.samples, options.against) if file]
     try:

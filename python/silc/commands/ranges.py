@@ -24,8 +24,10 @@ after. In so many seconds of the processor's time, 4 where none are given, they 
   not linear           something before it is not linear, and was taken as any word of its range
   at least             no bound was found in the time: an input is known by which it gets as far as this
 
-and the exit status is 3 where a line says `at least`. With --json the table is a line of JSON (docs/PYTHON.md). --worst-input writes the samples that come nearest to the bound, for the
+and the exit status is 3 where a line says `at least`. --worst-input writes the samples that come nearest to the bound, for the
 tightest linear element or the one that is named, to such a length that what is left out is less than half of its last bit.
+
+With --json the table is a line of JSON (docs/PYTHON.md).
 """
 import argparse
 import json
@@ -51,7 +53,7 @@ class Unranged(ValueError):
     """Why there is no table."""
 
 
-def text_in(file):
+def text_in(file: str) -> str:
     try:
         return Path(file).read_text(encoding="latin-1")
     except OSError as fault:
@@ -64,7 +66,7 @@ def ranges_of(source: str, rows: list[tuple[int, ...]], options: argparse.Namesp
     return made, [COMES_BACK] if is_fed_back else []
 
 
-def bounds_of(options, source, files):
+def bounds_of(options: argparse.Namespace, source: str, files: MadeFiles) -> tuple[list[Range], list[str], int]:
     """The bounds of all elements, and what is to be said of the whole; writes the worst input where it is asked for."""
     worst = worst_of(source, options.seconds)
     bounds, notes = worst.bounds(), []
@@ -75,7 +77,7 @@ def bounds_of(options, source, files):
     return ranges_in(bounds, options.all), notes, 0 if all(bound.is_bound for bound in bounds) else UNBOUNDED
 
 
-def show(ranges, notes):
+def show(ranges: list[Range], notes: list[str]) -> None:
     """The table, the tightest element first."""
     rows = [HEAD, *(each.row() for each in sorted(ranges, key=lambda each: -each.share))]
     widths = [max(len(row[column]) for row in rows) for column in range(len(HEAD))]
@@ -87,12 +89,12 @@ def show(ranges, notes):
         print(note)
 
 
-def picture_of(ranges):
+def picture_of(ranges: list[Range]) -> str:
     return draw_ranges([(each.name, each.shape.width, each.needed, each.said)
                         for each in sorted(ranges, key=lambda each: -each.share)])
 
 
-def make(options):
+def make(options: argparse.Namespace) -> int:
     """Prints the table and makes the files; returns the exit status."""
     files = MadeFiles([options.source, options.samples], options.force)
     for name in (options.picture, options.worst_input):
@@ -113,7 +115,7 @@ def make(options):
     return status
 
 
-def options_of(words):
+def options_of(words: list[str]) -> argparse.Namespace:
     parser = argparse.ArgumentParser(prog="ranges", usage=__doc__.partition("usage: ")[2].partition("\n\n")[0],
                                      description=__doc__.partition("\n\n")[0], allow_abbrev=False)
     parser.add_argument("source", metavar="SRC")
@@ -142,7 +144,7 @@ def options_of(words):
     return options
 
 
-def main(words):
+def main(words: list[str]) -> int:
     options = options_of(words)
     try:
         status = make(options)

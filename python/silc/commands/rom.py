@@ -95,7 +95,7 @@ def printed(options, data):
     return {"readmemh": readmemh, "intel": intel}[options.what](data), None
 
 
-def options_of(words):
+def options_of(words: list[str]) -> argparse.Namespace:
     parser = argparse.ArgumentParser(prog="rom", usage=__doc__.partition("usage: ")[2].partition("\n")[0],
                                      description=__doc__, formatter_class=argparse.RawDescriptionHelpFormatter)
     parser.add_argument("microcode", metavar="MIC")

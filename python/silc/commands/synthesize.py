@@ -45,7 +45,7 @@ def run(words, folder, what):
     return done.stdout + done.stderr
 
 
-def check_programs(options):
+def check_programs(options: argparse.Namespace) -> None:
     if not shutil.which("yosys"):
         raise Unmade("there is no yosys; apt-get install yosys")
     if options.route and options.family != "ice40":
@@ -56,7 +56,7 @@ def check_programs(options):
         raise Unmade("--dsp is for ice40")
 
 
-def make_core(options, folder):
+def make_core(options: argparse.Namespace, folder: Path) -> None:
     words = [*command("verilog"), options.microcode, folder, "--name", NAME]
     words += ["--datapath", options.datapath] if options.datapath else []
     words += ["--full"] if options.full else []
@@ -101,7 +101,7 @@ def numbers_of(options):
     return numbers
 
 
-def options_of(words):
+def options_of(words: list[str]) -> argparse.Namespace:
     parser = argparse.ArgumentParser(prog="synthesize", usage=__doc__.partition("usage: ")[2].partition("\n")[0],
                                      description=__doc__, formatter_class=argparse.RawDescriptionHelpFormatter)
     parser.add_argument("microcode", metavar="MIC")
