@@ -51,7 +51,7 @@ def first_fault(text: Text) -> Fault | None:
     """The first fault of a source, or nothing."""
     silc = os.path.realpath(SILC.place())
     if not is_program(silc):
-        raise Unchecked(f"there is no program {silc}; `./silc --version` builds one")
+        raise Unchecked(f"there is no program {silc}; `./silc build` builds it")
     with tempfile.TemporaryDirectory(prefix="silc-check-") as folder:
         room = Path(folder)
         (room / "source").write_bytes(text.data)

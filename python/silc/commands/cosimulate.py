@@ -82,7 +82,7 @@ def simulated(options, folder):
     """The rows of `silc sim`, and the cycle of an address that is outside of its memory, if there is one."""
     silc = SILC.place()
     if not is_program(silc):
-        raise Apart(f"there is no program {silc}; `./silc --version` builds one")
+        raise Apart(f"there is no program {silc}; `./silc build` builds it")
     out = folder / "rows"
     done = subprocess.run([silc, "sim", options.microcode, options.samples, out], capture_output=True, text=True)
     said = done.stderr.strip().removeprefix("silc: ")

@@ -81,6 +81,6 @@ def main(words: list[str]) -> int:
         print(f"explain: {fault}", file=sys.stderr)
         return BAD_WORDS
     if not is_program(SILC.place()):
-        print(f"explain: there is no program {SILC.place()}; `./silc --version` builds one", file=sys.stderr)
+        print(f"explain: there is no program {SILC.place()}; `./silc build` builds it", file=sys.stderr)
         return UNBUILT
     return explained(options, words)

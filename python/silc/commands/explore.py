@@ -215,7 +215,7 @@ def prepare(room, options, space):
     """Makes the folder in which silc runs, and sees that silc takes the source."""
     silc = SILC.place()
     if not is_program(silc):
-        raise Unexplored(f"there is no program {silc}; `./silc --version` builds one")
+        raise Unexplored(f"there is no program {silc}; `./silc build` builds it")
     shutil.copy2(silc, room / runs.PROGRAM)
     put_files(room, FIRST, *space.files(next(space.choices())))
     judge(options, space, *runs.run(room, FIRST))
