@@ -19,8 +19,8 @@ HELP = ROOT / "tests" / "commands" / "help.txt"
 # What plays a program or a tool: it says its name, its words and what it reads.
 PLAYED = '#!/bin/sh\nprintf "%s:" "${0##*/}" "$@"; cat; echo to stderr >&2; exit 7\n'
 # Tools for who changes the repository, which are no words.
-UNSAID = {"alike", "build", "calling", "completions", "layout", "proved", "release", "remake", "trusted", "unreached",
-          "wrong-bodies"}
+UNSAID = {"alike", "build", "calling", "completions", "crates", "layout", "proved", "release", "remake", "trusted",
+          "unreached", "wrong-bodies"}
 # The words of the script itself.
 OWN = {"show", "build", "help"}
 
