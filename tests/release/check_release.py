@@ -123,7 +123,7 @@ def check_tarball(room):
                 "the names are in no order")
     room.expect({(member.uid, member.gid, member.uname, member.mtime) for member in members} == {(0, 0, "root", members[0].mtime)},
                 "owners or times differ")
-    room.expect({member.mode for member in members} == {0o644, 0o755}, "there are other rights")
+    room.expect({member.mode for member in members if not member.issym()} == {0o644, 0o755}, "there are other rights")
     release = module_of(ROOT / "tools" / "release")
     words = {name for name in os.listdir(room.top / "tools") if (room.top / "tools" / name).is_file()}
     for name in [*WANTED, *(f"tools/{word}" for word in words - {"build", "release"})]:

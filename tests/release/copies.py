@@ -33,7 +33,7 @@ def copy_of(top, programs, most=None):
         if most and part in LARGE and taken[part] > most and Path(name).name not in WANTED:
             continue
         (top / name).parent.mkdir(parents=True, exist_ok=True)
-        shutil.copy2(ROOT / name, top / name)
+        shutil.copy2(ROOT / name, top / name, follow_symlinks=False)
     (top / "crates.txt").write_text("low:\n" + "".join(f"{name}: low\n" for name in programs))
     for name, file in (("low", "lib.rt"), *((name, "main.rt") for name in programs)):
         (top / "crates" / name / "src").mkdir(parents=True)

@@ -48,7 +48,7 @@ KIND_OF = {operation: kind for kind, operations in OF_KIND.items() for operation
 CALLED = {operation.name: operation for kind in TABLE.values() for operation in kind.operations}
 OPCODE = {name: operation.opcode for name, operation in CALLED.items()}
 # By their numbers in version 1.
-OPERATIONS = tuple(sorted(OPCODE, key=OPCODE.get))
+OPERATIONS = tuple(sorted(OPCODE, key=lambda name: OPCODE[name]))
 
 FORMATTED = tuple(name for name, operation in CALLED.items() if operation.is_formatted)
 TRUTHS = tuple(name for name, operation in CALLED.items() if operation.is_truth)
