@@ -1,7 +1,6 @@
 -- What the source and the datapath have is what the call of a plan answers, unless memory runs out.
 use Rattle.std.proofs.Common.{◌≡◌, refl, sym, subst, ap, ◌∙◌, inl, inr, ⊎_elim, ◌⊎◌, Result, Ok, Err}
-use Rattle.std.specs.Prelude.{IsErrAnd, IfErr}
-use Rattle.std.proofs.lemmas.Result.{err_from_is_err_and}
+use Rattle.std.specs.Prelude.{IsErrAnd}
 use Rattle.datapath.specs.Described.{IsPathOf}
 use Rattle.datapath.specs.PathRules.{IsPathFault}
 use Rattle.datapath.specs.declared.fault.PathFault.{PathFault}
@@ -30,12 +29,13 @@ use Rattle.plan_commands.proofs.Plans.{file_fault}
 use Rattle.plan_commands.specs.PlanOf.{AnswersPlan, AnswersRefusal}
 use Rattle.plan_commands.specs.Refusals.{IsOfPath, IsRefusal, IsRefused, IsNoPlan}
 use Rattle.silc_files.specs.Sources.{IsAcceptedSource}
+use Rattle.silc_files.proofs.Results.{error_is}
 use Rattle.plan_commands.specs.Planning.{TellsWhy}
 use Rattle.statuses.specs.Faults.{of_front, of_path, of_plan}
 use Rattle.plan_commands.specs.declared.planning.Planned.{Planned}
 use Rattle.statuses.specs.declared.status.Status.{Status}
-use Rattle.statuses.specs.declared.status.Status.TheVariants.{Done, Memory, Words, Desk, FrontEnd, Path, LinesFull}
-use Rattle.statuses.specs.declared.status.Status.TheVariants.{Period, FileFull, Image, Samples, Conflict}
+use Rattle.statuses.specs.declared.status.Status.TheVariants.{Memory, FrontEnd, Path, LinesFull}
+use Rattle.statuses.specs.declared.status.Status.TheVariants.{Period, FileFull}
 use Rattle.statuses.specs.declared.status.Status.TheVariants as status
 use Rattle.statuses.specs.declared.status.UnitRefusal.{UnitRefusal}
 use Rattle.statuses.specs.declared.status.UnitRefusal.TheVariants.{NoUnit, NoRoute, TooWide, NoRam, NoAcu}
@@ -57,15 +57,7 @@ module _ (g : Graph) (d : Datapath) where
   fault_for (LinesFull v) h = (plan.Line (line.LinesFull v), h, refl)
   fault_for (Period v) h = (plan.Period v, h, refl)
   fault_for (FileFull u port v) h = (plan.FileFull u port v, h, refl)
-  fault_for Done h = absurd h
-  fault_for Memory h = absurd h
-  fault_for Words h = absurd h
-  fault_for Desk h = absurd h
-  fault_for (FrontEnd fault) h = absurd h
-  fault_for (Path fault) h = absurd h
-  fault_for (Image fault) h = absurd h
-  fault_for (Samples fault) h = absurd h
-  fault_for (Conflict conflict) h = absurd h
+  fault_for other h = absurd h
 
 -- what the planner answers is what the graph has
 module _ (g : Graph) (d : Datapath) (answer : Result Plan PlanFault)
@@ -146,13 +138,7 @@ module _ (s d : Content) where
   cause (LinesFull v) is h = of_graph h
   cause (Period v) is h = of_graph h
   cause (FileFull u port v) is h = of_graph h
-  cause Done is h = absurd is
-  cause Memory is h = absurd is
-  cause Words is h = absurd is
-  cause Desk is h = absurd is
-  cause (Image fault) is h = absurd is
-  cause (Samples fault) is h = absurd is
-  cause (Conflict conflict) is h = absurd is
+  cause other is h = absurd is
 
   -- the source was refused
   module _ (error : FrontError) (status : Status) (told : status ≡ of_front error)
@@ -230,12 +216,13 @@ module _ (s d : Content) where
               (same_graph over.program over.read over.graph over.graph_of) over.unplanned)
 
 -- where the call answers an error
-module _ {A : Type 0} (r : Result A Status) (told : Status) (is : IsErrAnd r (λ (status : Status). status ≡ told)) where
-  error_is : (s : Status) → told ≡ s → r ≡ Err s
-  error_is s e = let x = err_from_is_err_and r is in x.1 ∙ ap (λ (status : Status). Err status) (x.2 ∙ e)
-
-  either_is : (why : Status) → (told ≡ why) ⊎ (told ≡ Memory) → (r ≡ Err why) ⊎ (r ≡ Err Memory)
-  either_is why h = ⊎_elim (λ e. inl (error_is why e)) (λ e. inr (error_is Memory e)) h
+either_is : {A : Type 0} (r : Result A Status) (told : Status)
+    → IsErrAnd r (λ (status : Status). status ≡ told)
+    → (why : Status)
+    → (told ≡ why) ⊎ (told ≡ Memory)
+    → (r ≡ Err why) ⊎ (r ≡ Err Memory)
+either_is r told is why =
+    ⊎_elim (λ e. inl (error_is r told is why e)) (λ e. inr (error_is r told is Memory e))
 
 pub no_plan : (r : Result Planned Status) (told : Status)
     → IsErrAnd r (λ (status : Status). status ≡ told)
@@ -262,13 +249,6 @@ pub tells_why : (r : Result Plan Status) (told : Status)
 tells_why r told is why h =
     ⊎_elim (λ e. subst (λ (x : Result Plan Status). TellsWhy why x) (sym e) (inl refl))
     (λ e. subst (λ (x : Result Plan Status). TellsWhy why x) (sym e) (inr refl)) (either_is r told is why h)
-
-pub at_error : {A : Type 0} (r : Result A Status) (told : Status)
-    → IsErrAnd r (λ (status : Status). status ≡ told)
-    → (P : Status → Type 0)
-    → P told
-    → IfErr r P
-at_error {A} r told is P h = subst (λ (x : Result A Status). IfErr x P) (sym (error_is r told is told refl)) h
 
 -- the fault of a file, or no memory, is why a source with a program has no plan
 pub no_path_plan : (s d : Content) (program : Program)

@@ -21,11 +21,11 @@ use Rattle.plan_commands.specs.Refusals.{IsPlanError}
 use Rattle.plan_commands.proofs.Complete.{plan_memory}
 use Rattle.plan_core.specs.declared.plan.Plan.{Plan}
 use Rattle.sample_commands.specs.Eval.{program_channels, IsSolutionRows, IsEvalDone, IsEvalAnswer}
-use Rattle.run_command.specs.Run.{IsRunAnswer}
 use Rattle.sample_commands.specs.Samples.{IsEndedEarly}
-use Rattle.sample_commands.specs.Sim.{HasImage, IsSimAnswer}
-use Rattle.sample_commands.specs.declared.simulator.Kept.{Kept}
-use Rattle.sample_commands.specs.declared.simulator.Kept.TheVariants.{Nothing}
+use Rattle.sample_commands.specs.Sim.{HasImage}
+use Rattle.silc.specs.Runs.{IsSimAnswer, IsRunAnswer}
+use Rattle.silc.specs.declared.kept.Kept.{Kept}
+use Rattle.silc.specs.declared.kept.Kept.TheVariants.{Nothing}
 use Rattle.sample_io.specs.declared.RowFault.{RowFault}
 use Rattle.sample_io.specs.declared.channel.Channel.{Channel}
 use Rattle.sample_loops.specs.Machines.{channels_of, IsClearOver, IsConflictInLast}
@@ -41,9 +41,8 @@ use Rattle.silc_laws.proofs.Reading.{bad_place_read, lines_read, all_rows_read, 
 use Rattle.silc_laws.proofs.StreamEnds.{IsEnd, status_at}
 use Rattle.statuses.specs.declared.status.SampleFault.TheVariants as sample_fault
 use Rattle.statuses.specs.declared.status.Status.{Status}
-use Rattle.statuses.specs.declared.status.Status.TheVariants as status
-use Rattle.statuses.specs.declared.status.Status.TheVariants.{Done, Memory, Words, Desk, FrontEnd, Path, LinesFull}
-use Rattle.statuses.specs.declared.status.Status.TheVariants.{Period, FileFull, Image, Samples, Conflict}
+use Rattle.statuses.specs.declared.status.Status.TheVariants.{Done, Memory, Desk, FrontEnd}
+use Rattle.statuses.specs.declared.status.Status.TheVariants.{Image, Samples, Conflict}
 
 -- memory ran out, or the status is that of one of these ends
 abbrev pub EndsBy : (Option StreamFault → Type 0) → Status → Type 0
@@ -167,13 +166,7 @@ module _ (mic samples out : Name) (old new : View) (kept : Kept) (files : Files)
       (conflict_stops samples out (channels_of h.image.inputs) old new files specified _
       (IsConflictInLast (microprogram_of h.image) [])
       (IsClearOver (microprogram_of h.image) []) (run_clear h.image) conflict h.ended)
-  sim_ends Words h = absurd h
-  sim_ends (FrontEnd fault) h = absurd h
-  sim_ends (Path fault) h = absurd h
-  sim_ends (status.Unit refusal) h = absurd h
-  sim_ends (LinesFull node) h = absurd h
-  sim_ends (Period node) h = absurd h
-  sim_ends (FileFull unit port node) h = absurd h
+  sim_ends other h = absurd h
 
 -- SRC has this program
 module _ (src samples out : Name) (old new : View) (files : Files) (specified : old.files ≡ Some files)
@@ -231,14 +224,7 @@ module _ (src samples out : Name) (old new : View) (files : Files) (specified : 
   eval_ends none (Samples (sample_fault.Row line at)) h =
       bad_row line at h.program (h.specified files specified).read h.ended
   eval_ends none (Samples sample_fault.TooLong) h = too_long h.program (h.specified files specified).read h.ended
-  eval_ends none Words h = absurd h
-  eval_ends none (Path fault) h = absurd h
-  eval_ends none (status.Unit refusal) h = absurd h
-  eval_ends none (LinesFull node) h = absurd h
-  eval_ends none (Period node) h = absurd h
-  eval_ends none (FileFull unit port node) h = absurd h
-  eval_ends none (Image fault) h = absurd h
-  eval_ends none (Conflict conflict) h = absurd h
+  eval_ends none other h = absurd h
 
 -- SRC's program has this plan over DP's datapath
 module _ (src datapath samples out : Name) (old new : View) (kept : Kept) (files : Files)
@@ -250,11 +236,12 @@ module _ (src datapath samples out : Name) (old new : View) (kept : Kept) (files
 
   memory : (error : Status) → IsPlanError src datapath old new error → PlannedEnds error
   memory error h =
-      inl (plan_memory src datapath old new files specified (path, plan, (program, has)) (λ r. none (inl r))
-      (λ r. none (inr (inl r))) error h)
+      inl (plan_memory src datapath old new files specified (path, plan, (program, has))
+      (λ r. none (inl (src, inl refl, r)))
+      (λ r. none (inl (datapath, inr (inl refl), r))) error h)
 
   pub run_ends : (status : Status) → IsRunAnswer src datapath samples out old new kept status → PlannedEnds status
-  run_ends Done h = done src samples out old new files specified program has.read h.solved
+  run_ends Done h = done src samples out old new files specified program has.read h.2.solved
   run_ends Desk h = absurd (none (running old new kept src datapath samples out h))
   run_ends (Samples (sample_fault.Row line at)) h =
       bad_row src samples out old new files specified program has.read line at h.program
@@ -264,11 +251,4 @@ module _ (src datapath samples out : Name) (old new : View) (kept : Kept) (files
       h.ended
   run_ends (Image fault) h = absurd h
   run_ends (Conflict conflict) h = absurd h
-  run_ends Memory h = memory Memory h
-  run_ends Words h = memory Words h
-  run_ends (FrontEnd fault) h = memory (FrontEnd fault) h
-  run_ends (Path fault) h = memory (Path fault) h
-  run_ends (status.Unit refusal) h = memory (status.Unit refusal) h
-  run_ends (LinesFull node) h = memory (LinesFull node) h
-  run_ends (Period node) h = memory (Period node) h
-  run_ends (FileFull unit port node) h = memory (FileFull unit port node) h
+  run_ends error h = memory error h
