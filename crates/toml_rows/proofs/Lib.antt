@@ -1,0 +1,5 @@
+pub mod AmongKeys
+pub mod ArrayEntries
+pub mod Turn
+pub mod Kept
+pub mod FirstRules

@@ -1,0 +1,5 @@
+pub mod Values
+pub mod Rows
+pub mod Texts
+pub mod Reading
+pub mod RowRules
