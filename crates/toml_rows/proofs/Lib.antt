@@ -3,3 +3,4 @@ pub mod ArrayEntries
 pub mod Turn
 pub mod Kept
 pub mod FirstRules
+pub mod Judged
