@@ -1,0 +1,5 @@
+pub mod Spelling
+pub mod Table
+pub mod Described
+pub mod NetRules
+pub mod Private
