@@ -162,6 +162,25 @@ module _ (shape : NetShape) (sound : IsShape shape) where
       none_change points (processors shape)
       (λ k d h. finished_lacks shape sound points marking done (get_or (processors shape) k d) (all_within k d h))
 
+  none_run : (points : List Point) (ps : List ℕ)
+      → All (λ p. lacks shape points p ≡ true) ps
+      → some_runs shape points ps ≡ false
+  none_run points [] none = refl
+  none_run points (p ∷ ps) none =
+      let here : lacks shape points p ≡ true = none 0 p (omega arith) in
+      rw here
+      (subst (λ (qs : List Point). some_runs shape qs ps ≡ false) (sym (turn-lacks shape points p here))
+      (none_run points ps (λ k d h. none (suc k) d (omega arith))))
+
+  -- and runs no cycle
+  pub round_runs_none : (points : List Point)
+      → IsMarking shape points
+      → is_finished shape points ≡ true
+      → some_runs shape points (processors shape) ≡ false
+  round_runs_none points marking done =
+      none_run points (processors shape)
+      (λ k d h. finished_lacks shape sound points marking done (get_or (processors shape) k d) (all_within k d h))
+
   pub rounds_stay : (n : ℕ) (points : List Point)
       → IsMarking shape points
       → is_finished shape points ≡ true
