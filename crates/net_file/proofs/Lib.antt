@@ -1,3 +1,4 @@
 pub mod Spelled
 pub mod Described
 pub mod Allowed
+mod Worked
