@@ -1,0 +1,4 @@
+pub mod RowListLaws
+pub mod Cycles
+pub mod Solving
+mod Chain
