@@ -60,6 +60,8 @@ module _ (p : Program) (checked : IsChecked p) where
         pub program_solution : (words : Words) × IsOneSolution p stream words
         program_solution =
             let (numbered, one) = flat_solution f sound stream loopless in
-            let (words, solves, same) = expanded_keeps.solutions.back numbered one.solves in
-            (words, (one_system p stream words).1 (equal_to_one (program_system p stream) (flat_system f stream)
-            (HaveSameWords es stream) expanded_keeps.solutions words numbered solves same one))
+            let (words, solves, same) = expanded_keeps.solutions.back numbered one.solves in (
+              words,
+              (one_system p stream words).1 (equal_to_one (program_system p stream) (flat_system f stream)
+                  (HaveSameWords es stream) expanded_keeps.solutions words numbered solves same one),
+            )

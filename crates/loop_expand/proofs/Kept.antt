@@ -108,6 +108,7 @@ module _ (p : Program) (checked : IsChecked p) (es : Elements) (numbering : IsNu
           ∙ x.present k n (inside_count k e number) inside in
           subst (Gives p stream words n source) (sym same) (given k e number n inside source defined);
     }
+
     row_same : (n : ℕ)
         → n < length stream
         → (ks : List ℕ) (xs : List Element)
@@ -155,7 +156,7 @@ module _ (p : Program) (checked : IsChecked p) (es : Elements) (numbering : IsNu
       back = λ numbered x. (
         words_of numbered,
         (solves_system p stream (words_of numbered)).0
-        (program_solves (words_of numbered) numbered (words_agree numbered) x),
+            (program_solves (words_of numbered) numbered (words_agree numbered) x),
         words_agree numbered,
       );
       one = λ words others a b x y. (

@@ -1,5 +1,5 @@
--- The words of the solutions of a checked program without a delay-free loop are in their types, element by element along
--- its flat program.
+-- The words of the solutions of a checked program without a delay-free loop are in their types, element by element
+-- along its flat program.
 use Rattle.std.proofs.Common.{◌≡◌, refl, sym, subst, ◌∙◌, ap, arith, ℕ, zero, suc, ◌+◌, ◌<◌, ◌≤◌, List, [], ◌∷◌, ◌++◌}
 use Rattle.std.proofs.Common.{map, length, slice_get, get_or, Option, Some, None, ℤ}
 use Rattle.std.specs.Prelude.{pos, negsuc, ◌-ℤ◌, ◌==◌, All, find, replicate}
@@ -16,12 +16,15 @@ use Rattle.fix_word.specs.declared.types.SigType.TheVariants as sig
 use Rattle.silage_syntax.specs.declared.tree.Decl.{Decl}
 use Rattle.silage_syntax.specs.Tree.{Func, Program}
 use Rattle.silage_syntax.specs.Names.{decls, element_count, main_of}
-use Rattle.silage_meaning.specs.Instances.{Instance, main, Element, element, IsInstance, main_is, IsElement, elements_from}
+use Rattle.silage_meaning.specs.Instances.{Instance, main, Element, element, IsInstance, main_is, IsElement}
+use Rattle.silage_meaning.specs.Instances.{elements_from}
 use Rattle.silage_meaning.specs.Instances.{results_of, inputs, outputs, made, result_of}
 use Rattle.silage_meaning.specs.Types.{IsInType, word_types}
 use Rattle.silage_meaning.specs.Value.{Words}
-use Rattle.silage_meaning.specs.Solves.{Source, same, IsDefined, input, equated, argument, array, table as by_table, result}
-use Rattle.silage_meaning.specs.Solves.{array_result, Gives, Solves, IsSample, IsRow, IsStream, input_types, types_of, out}
+use Rattle.silage_meaning.specs.Solves.{Source, same, IsDefined, input, equated, argument, array, table as by_table}
+use Rattle.silage_meaning.specs.Solves.{result}
+use Rattle.silage_meaning.specs.Solves.{array_result, Gives, Solves, IsSample, IsRow, IsStream, input_types, types_of}
+use Rattle.silage_meaning.specs.Solves.{out}
 use Rattle.silage_meaning.specs.Rules.{SourceReads}
 use Rattle.silage_meaning.proofs.Elements.{declared_at, made_is, source_there}
 use Rattle.silage_meaning.proofs.Outputs.{in_second, in_first}
@@ -188,7 +191,9 @@ module _ (p : Program) (checked : IsChecked p) (es : Elements) (made_of : IsExpa
       (body_on p es checked distinct c l ago its e at.source (element_of f k).body at.defined at.body read) c its)
       (solves.present e n at.source at.is inside at.defined)))
 
-  pub words_typed : (e : Element) (n : ℤ) (is : IsElement p e) → IsSample (length stream) n → IsInType is.decl.ty (words e n)
+  pub words_typed : (e : Element) (n : ℤ) (is : IsElement p e)
+      → IsSample (length stream) n
+      → IsInType is.decl.ty (words e n)
   words_typed e n is sample =
       let numbers = numbering p checked es made_of in
       let k = number_of p es numbers e in
@@ -220,7 +225,9 @@ module _ (g : Element → ℤ) where
   )
 
   typed_declarations : (i : Instance) (ds : List Decl) (d : ℕ)
-      → ((a : ℕ) (x : Decl) (k : ℕ) → slice_get ds a ≡ Some x → k < element_count x.dims
+      → ((a : ℕ) (x : Decl) (k : ℕ)
+      → slice_get ds a ≡ Some x
+      → k < element_count x.dims
       → IsInType x.ty (g (element i (d + a) k)))
       → AllZip IsInType (word_types ds) (map g (elements_from i d ds))
   typed_declarations i [] d all = tt
@@ -228,7 +235,8 @@ module _ (g : Element → ℤ) where
       subst (λ vs. AllZip IsInType (word_types (x ∷ ds)) vs)
       (sym (map-append g (map (element i d) (range_with_len 0 (element_count x.dims))) (elements_from i (d + 1) ds)))
       (typed_array i d x.ty 0 (element_count x.dims)
-      (λ k less. subst (λ (n : ℕ). IsInType x.ty (g (element i n k))) (omega arith) (all 0 x k refl (omega (arith, less))))
+      (λ k less.
+      subst (λ (n : ℕ). IsInType x.ty (g (element i n k))) (omega arith) (all 0 x k refl (omega (arith, less))))
       (word_types ds) (map g (elements_from i (d + 1) ds))
       (typed_declarations i ds (d + 1)
       (λ a y k at less.
@@ -252,8 +260,9 @@ module _ (p : Program) (f : Func) (is_main : main_of p ≡ Some f) where
       })))
 
 -- so is each output row
-pub typed_solutions : (p : Program) (checked : IsChecked p) (es : Elements) (made_of : IsExpansion p es)
-    (f : flat.Program) (flat_of : IsFlatOf p es f)
+pub typed_solutions :
+    (p : Program) (checked : IsChecked p) (es : Elements) (made_of : IsExpansion p es) (f : flat.Program)
+    (flat_of : IsFlatOf p es f)
     → IsFlat f
     → IsFlatLoopless f
     → HasTypedSolutions p

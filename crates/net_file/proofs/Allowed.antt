@@ -1,5 +1,6 @@
 -- A net that a file describes is within the ranges of a net.
-use Rattle.std.proofs.Common.{◌≡◌, ◌≢◌, ℕ, suc, ◌+◌, ◌<◌, ◌≤◌, Bool, true, false, nat_lt, List, [], ◌∷◌, length, Option, Some, None}
+use Rattle.std.proofs.Common.{◌≡◌, ◌≢◌, ℕ, suc, ◌+◌, ◌<◌, ◌≤◌, Bool, true, false, nat_lt, List, [], ◌∷◌, length, Option}
+use Rattle.std.proofs.Common.{Some, None}
 use Rattle.std.proofs.Common.{Result, Ok, Err, inl, inr, refl, arith}
 use Rattle.std.specs.Prelude.{IfOk, find, Contains}
 use Rattle.std.specs.List.{All}
@@ -111,7 +112,8 @@ net_allowed t net is =
     (λ h. (let same : 1 ≡ net.capacity = cc in omega arith)) (λ d h. whole_within 1 64 d net.capacity h) in
     let tables : IsWithin 1 8 (length is.proc) = value_is (λ (ts : List Members). IsWithin 1 8 (length ts)) row.proc t
     is.proc is.proc_is (λ h. absurd (cc))
-    (λ d h. (let each = array_each (λ (m : Members). Unit {0}) a_table (λ d m e. tt) 1 8 d is.proc h in (each.0, each.1)))
+    (λ d h. (let each = array_each (λ (m : Members). Unit {0}) a_table (λ d m e. tt) 1 8 d is.proc h in
+    (each.0, each.1)))
     in
     let (procs, count) = procs_allowed net.inputs 0 is.proc net.procs inputs.1 (omega (arith, tables.1)) is.procs in
     record {

@@ -1,6 +1,8 @@
 -- What is read of a file is what it describes, within the ranges of a net; and the fault that is met is the first.
-use Rattle.std.proofs.Common.{◌≡◌, ◌≢◌, ◌^◌, ◌⊎◌, ℕ, ◌+◌, ◌<◌, ◌≤◌, Bool, true, false, List, [], ◌∷◌, ◌++◌, length, Option}
-use Rattle.std.proofs.Common.{Some, None, Result, Ok, Err, nat_lt, nat_le, if◌then◌else◌, refl, ap, ap₂, sym, ◌∙◌, subst, inl, inr}
+use Rattle.std.proofs.Common.{◌≡◌, ◌≢◌, ◌^◌, ◌⊎◌, ℕ, ◌+◌, ◌<◌, ◌≤◌, Bool, true, false, List, [], ◌∷◌, ◌++◌, length}
+use Rattle.std.proofs.Common.{Option}
+use Rattle.std.proofs.Common.{Some, None, Result, Ok, Err, nat_lt, nat_le, if◌then◌else◌, refl, ap, ap₂, sym, ◌∙◌}
+use Rattle.std.proofs.Common.{subst, inl, inr}
 use Rattle.std.proofs.Common.{arith, IsUtf8, append_assoc}
 use Rattle.std.specs.Prelude.{IfOk, IfErr, OnOk}
 use Rattle.std.specs.Str.{is_utf8}
@@ -24,7 +26,8 @@ use Rattle.net_core.specs.declared.fault.NetSection.TheVariants.{Top, Proc}
 use Rattle.net_core.specs.declared.types.NetFile.{NetFile}
 use Rattle.net_core.specs.declared.types.NetProc.{NetProc}
 use Rattle.net_file.specs.Described.{IsProcIn, AreProcsIn, IsNetIn, IsNetOf}
-use Rattle.net_file.specs.NetRules.{in_table, proc_rules, net_rules, document_rules, file_rules, IsNetFileFault, HasNoFault}
+use Rattle.net_file.specs.NetRules.{in_table, proc_rules, net_rules, document_rules, file_rules, IsNetFileFault}
+use Rattle.net_file.specs.NetRules.{HasNoFault}
 use Rattle.net_file.specs.Table as row
 use Rattle.net_file.specs.Table.{top_keys, proc_keys}
 use Rattle.net_file.specs.Private.Reading.{Read, proc_in, proc_at, net_in, document_in, net_of}
@@ -59,7 +62,9 @@ procs_push inputs p (s ∷ ts) (z ∷ ys) t y before is = (
       (subst (λ (n : ℕ). IsProcIn inputs n t y) (omega arith) is),
 )
 
-procs_length : (inputs p : ℕ) (ts : List Members) (ys : List NetProc) → AreProcsIn inputs p ts ys → length ys ≡ length ts
+procs_length : (inputs p : ℕ) (ts : List Members) (ys : List NetProc)
+    → AreProcsIn inputs p ts ys
+    → length ys ≡ length ts
 procs_length inputs p [] [] are = refl
 procs_length inputs p [] (z ∷ ys) are = absurd are
 procs_length inputs p (s ∷ ts) [] are = absurd are
@@ -190,7 +195,8 @@ procs_first_at : (inputs others : ℕ) (tables more : List Members)
     → more ≡ tables
     → first (parts (each_from (proc_rules others) 0 more)) ≡ fault_of (in_turn (proc_at inputs) [] tables)
 procs_first_at inputs others tables more same is =
-    ap₂ (λ (n : ℕ) (ts : List Members). first (parts (each_from (proc_rules n) 0 ts))) same is ∙ procs_first inputs tables
+    ap₂ (λ (n : ℕ) (ts : List Members). first (parts (each_from (proc_rules n) 0 ts))) same is
+    ∙ procs_first inputs tables
 
 net_first : (t : Members) → first (net_rules t) ≡ fault_of (net_in t)
 unfolding net_in

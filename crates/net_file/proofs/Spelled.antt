@@ -1,6 +1,7 @@
 -- The wire that is found by the bytes of a text is the one that is written so.
 use Rattle.std.proofs.Common.{◌≡◌, ℕ, zero, suc, ◌+◌, ◌-◌, ◌*◌, ◌/◌, ◌%◌, ◌<◌, ◌≤◌, ◌⊎◌, Bool, true, false, ◌&&◌, ◌==◌}
-use Rattle.std.proofs.Common.{nat_lt, nat_le, List, [], ◌∷◌, ◌++◌, length, get_or, drop, map, Option, Some, None, option_map}
+use Rattle.std.proofs.Common.{nat_lt, nat_le, List, [], ◌∷◌, ◌++◌, length, get_or, drop, map, Option, Some, None}
+use Rattle.std.proofs.Common.{option_map}
 use Rattle.std.proofs.Common.{if◌then◌else◌, refl, ap, ap₂, inl, inr, arith, sym, ◌∙◌, subst}
 use Rattle.std.specs.Prelude.{codes, find, Contains}
 use Rattle.std.specs.Fmt.{decimal, digits}
@@ -107,7 +108,9 @@ abbrev pub IsShort : Wire → Type 0
 IsShort (Input j) = j < 16
 IsShort (From q j) = (q < 10) × (j < 16)
 
-mapped : {A B : Type 0} (f : A → B) (o : Option A) (y : B) → option_map f o ≡ Some y → (x : A) × (o ≡ Some x) × (f x ≡ y)
+mapped : {A B : Type 0} (f : A → B) (o : Option A) (y : B)
+    → option_map f o ≡ Some y
+    → (x : A) × (o ≡ Some x) × (f x ≡ y)
 mapped f (Some x) y h = (x, refl, cc)
 mapped f None y h = absurd (cc)
 
@@ -232,11 +235,16 @@ from_there inputs p q j h small =
           ∙ ap (λ (n : ℕ). From n ((q * 16 + j) % 16)) is_q ∙ ap (From q) is_j,
     )
 
-pub wire_there : (inputs p : ℕ) (wire : Wire) → IsShort wire → is_wire inputs p wire ≡ true → Contains (wires inputs p) wire
+pub wire_there : (inputs p : ℕ) (wire : Wire)
+    → IsShort wire
+    → is_wire inputs p wire ≡ true
+    → Contains (wires inputs p) wire
 wire_there inputs p (Input j) short is = input_there inputs p j (grind (arith, nat_tests))
 wire_there inputs p (From q j) short is = from_there inputs p q j (grind (arith, nat_tests)) short.1
 
-in_map : {A : Type 0} (f : ℕ → A) (n : ℕ) (x : A) → Contains (map f (range_with_len 0 n)) x → (k : ℕ) × (k < n) × (f k ≡ x)
+in_map : {A : Type 0} (f : ℕ → A) (n : ℕ) (x : A)
+    → Contains (map f (range_with_len 0 n)) x
+    → (k : ℕ) × (k < n) × (f k ≡ x)
 in_map f n x (k, h, is) =
     let within : k < n = omega (arith, length-map-range_with_len f 0 n) in
     (k, within, sym (get_or-map-range_with_len f 0 n k k x within (omega arith)) ∙ is)

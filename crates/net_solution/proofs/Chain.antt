@@ -37,7 +37,9 @@ second_runs : IsRunOut (microprogram_of increment) (fed chain (first ∷ second 
 unfolding value entries_by wrap_of
 second_runs = record { clear = λ t below. increment-clear _ t; put = refl }
 
-runs : (p : ℕ) → p < 2 → IsRunOut (program_of chain p) (fed chain (first ∷ second ∷ []) p) (nth (first ∷ second ∷ []) p [])
+runs : (p : ℕ)
+    → p < 2
+    → IsRunOut (program_of chain p) (fed chain (first ∷ second ∷ []) p) (nth (first ∷ second ∷ []) p [])
 runs zero h = first_runs
 runs (suc zero) h = second_runs
 runs (suc (suc p)) h = absurd (omega arith)
@@ -67,8 +69,9 @@ unfolding lacks after_turn
 second_begins = refl
 
 -- all rows stand after 2 * 3 * 16 rounds, and not after 3 * 16
-all_stand : is_finished (shape_of chain) (after_rounds (shape_of chain) (enough_rounds (shape_of chain)) (starts (shape_of chain)))
-    ≡ true
+all_stand :
+    is_finished (shape_of chain)
+    (after_rounds (shape_of chain) (enough_rounds (shape_of chain)) (starts (shape_of chain))) ≡ true
 unfolding lacks after_turn
 all_stand = refl
 

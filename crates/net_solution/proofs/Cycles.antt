@@ -1,7 +1,9 @@
 -- A processor of a net runs its image over the rows that it reads: it meets no conflict, and puts the run's rows.
-use Rattle.std.proofs.Common.{◌≡◌, ℕ, ◌+◌, ◌-◌, ◌*◌, ◌<◌, ◌≤◌, List, [], ◌∷◌, ◌++◌, length, get_or, take, drop, replicate, ℤ}
+use Rattle.std.proofs.Common.{◌≡◌, ℕ, ◌+◌, ◌-◌, ◌*◌, ◌<◌, ◌≤◌, List, [], ◌∷◌, ◌++◌, length, get_or, take, drop}
+use Rattle.std.proofs.Common.{replicate, ℤ}
 use Rattle.std.proofs.Common.{ap, ap₂, sym, ◌∙◌, arith, append_assoc}
-use Rattle.std.proofs.lemmas.List.{length-append, length-replicate, length-take-le, append-nil, take_more, drop_more, take-append-drop}
+use Rattle.std.proofs.lemmas.List.{length-append, length-replicate, length-take-le, append-nil, take_more, drop_more}
+use Rattle.std.proofs.lemmas.List.{take-append-drop}
 use Rattle.std.proofs.lemmas.List.{replicate-append-replicate}
 use Rattle.std.proofs.lemmas.List.FromFn.{get_or-map-range_with_len}
 use Rattle.std.proofs.Common.{mul-le-mul_right}
@@ -104,7 +106,8 @@ module _ (micro : Microprogram) (stream rows : Rows) (run : IsRunOut micro strea
   -- the row of a sample that ends
   pub row_put : (put : List ℤ)
       → put
-      ≡ latches micro (spread micro.period (take (ran + 1) stream)) (length (spread micro.period (take (ran + 1) stream)))
+      ≡ latches micro (spread micro.period (take (ran + 1) stream))
+      (length (spread micro.period (take (ran + 1) stream)))
       → put ≡ get_or rows ran []
   row_put put is_put =
       let count : length (take (ran + 1) stream) ≡ ran + 1 = length-take-le (ran + 1) stream (omega (arith, within)) in

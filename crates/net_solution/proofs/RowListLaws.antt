@@ -1,5 +1,6 @@
 -- Rows in a list: what one has after another was written.
-use Rattle.std.proofs.Common.{◌≡◌, ℕ, ◌+◌, ◌-◌, ◌*◌, ◌<◌, ◌≤◌, ◌⊎◌, List, ◌++◌, length, get_or, take, drop, ap, sym, ◌∙◌}
+use Rattle.std.proofs.Common.{◌≡◌, ℕ, ◌+◌, ◌-◌, ◌*◌, ◌<◌, ◌≤◌, ◌⊎◌, List, ◌++◌, length, get_or, take, drop, ap, sym}
+use Rattle.std.proofs.Common.{◌∙◌}
 use Rattle.std.proofs.Common.{arith, inl, inr, append_assoc}
 use Rattle.std.proofs.lemmas.Bool.{cases_lt}
 use Rattle.std.proofs.lemmas.List.{length-append, length-drop, length-take-le, get_or-take, get_or-drop}
@@ -10,7 +11,9 @@ use Rattle.std.proofs.Common.{mul-le-mul_right}
 abbrev pub part : {A : Type 0} → (width from : ℕ) → List A → List A
 part width from xs = take width (drop from xs)
 
-pub length-part : {A : Type 0} (width from : ℕ) (xs : List A) → from + width ≤ length xs → length (part width from xs) ≡ width
+pub length-part : {A : Type 0} (width from : ℕ) (xs : List A)
+    → from + width ≤ length xs
+    → length (part width from xs) ≡ width
 length-part width from xs h = length-take-le width (drop from xs) (omega (arith, h, length-drop from xs))
 
 pub get_or-part : {A : Type 0} (width from : ℕ) (xs : List A) (i : ℕ) (d : A)

@@ -1,5 +1,6 @@
 -- A net has one solution, and parts that make a net have it.
-use Rattle.std.proofs.Common.{◌≡◌, ℕ, zero, suc, ◌+◌, ◌<◌, ◌≤◌, List, [], ◌∷◌, ◌++◌, length, get_or, map, ℤ, pos, negsuc}
+use Rattle.std.proofs.Common.{◌≡◌, ℕ, zero, suc, ◌+◌, ◌<◌, ◌≤◌, List, [], ◌∷◌, ◌++◌, length, get_or, map, ℤ, pos}
+use Rattle.std.proofs.Common.{negsuc}
 use Rattle.std.proofs.Common.{refl, ap, ap₂, sym, ◌∙◌, subst, arith, inl, inr}
 use Rattle.std.specs.List.{All, AllZip, Contains, range_with_len}
 use Rattle.std.proofs.lemmas.Bool.{cases_lt}
@@ -45,7 +46,8 @@ AgreeBelow p a b = (q : ℕ) → q < p → get_or a q [] ≡ get_or b q []
 
 -- what is put by a processor
 abbrev put_by : Parts → List Rows → ℕ → Rows
-put_by parts puts p = map (row_of (program_of parts p) (fed parts puts p)) (range_with_len 0 (length (fed parts puts p)))
+put_by parts puts p =
+    map (row_of (program_of parts p) (fed parts puts p)) (range_with_len 0 (length (fed parts puts p)))
 
 module _ (parts : Parts) where
   pub length-fed : (puts : List Rows) (p : ℕ) → length (fed parts puts p) ≡ length parts.stream
@@ -77,7 +79,12 @@ module _ (parts : Parts) where
 
   module _ (wires : (p : ℕ) → p < length parts.images → All (IsBrought parts p) (feed_to parts p)) where
     -- two solutions agree
-    agree : (a b : List Rows) → IsNetSolution parts a → IsNetSolution parts b → (p : ℕ) → p ≤ length parts.images → AgreeBelow p a b
+    agree : (a b : List Rows)
+        → IsNetSolution parts a
+        → IsNetSolution parts b
+        → (p : ℕ)
+        → p ≤ length parts.images
+        → AgreeBelow p a b
     agree a b is_a is_b zero h q early = absurd (omega arith)
     agree a b is_a is_b (suc p) h q early =
         elim (cases_lt q p) [
@@ -168,7 +175,8 @@ module _ (parts : Parts) (are : AreParts parts) where
   -- what is known of processor q
   record Good (q : ℕ) : Type 0 where
     valid : IsStreamFor (image_of parts q) (fed parts (puts_to parts (length parts.images)) q)
-    run : IsRunOut (program_of parts q) (fed parts (puts_to parts (length parts.images)) q)
+    run :
+        IsRunOut (program_of parts q) (fed parts (puts_to parts (length parts.images)) q)
         (get_or (puts_to parts (length parts.images)) q [])
 
   put_is : (q : ℕ) → q < length parts.images → get_or all_puts q [] ≡ put_by parts all_puts q
@@ -246,10 +254,13 @@ module _ (parts : Parts) (are : AreParts parts) where
       let few = All-head (λ w. w ≤ 40) width widths all in
       let rest = read_row widths row (All-tail (λ w. w ≤ 40) width widths all) h.1 in (
         omega (arith, rest.0),
-        All-cons IsOperand word row (in_channel (channel_of width) word (channel_is width (omega (arith, few))) h.0) rest.1,
+        All-cons IsOperand word row (in_channel (channel_of width) word (channel_is width (omega (arith, few))) h.0)
+            rest.1,
       )
 
-  all_read : (p : ℕ) → p < length parts.images → All (IsReadRow (image_of parts p)) (fed parts (puts_to parts (length parts.images)) p)
+  all_read : (p : ℕ)
+      → p < length parts.images
+      → All (IsReadRow (image_of parts p)) (fed parts (puts_to parts (length parts.images)) p)
   all_read p h k d inside =
       let words = read_row (image_of parts p).inputs (get_or (fed parts all_puts p) k d) ((are.each p h).valid).inputs
       ((all_good p h).valid k d inside) in

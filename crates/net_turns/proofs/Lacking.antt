@@ -30,8 +30,11 @@ none_passes test xs x none (k, within, is) =
     ]
 
 pub in_processors : (shape : NetShape) (r : ℕ) → r < length shape.feeds → Contains (processors shape) r
-in_processors shape r h =
-    (r, rw (length-range_with_len 0 (length shape.feeds)) h, get_or-range_with_len 0 (length shape.feeds) r r h ∙ zero-add r)
+in_processors shape r h = (
+  r,
+  rw (length-range_with_len 0 (length shape.feeds)) h,
+  get_or-range_with_len 0 (length shape.feeds) r r h ∙ zero-add r,
+)
 
 nat_le-false : (m n : ℕ) → nat_le m n ≡ false → n < m
 nat_le-false m n h = grind (arith, nat_tests)

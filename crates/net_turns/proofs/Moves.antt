@@ -1,5 +1,6 @@
 -- In a round before all samples are run some processor runs: the first of those that have run the fewest samples.
-use Rattle.std.proofs.Common.{◌≡◌, ℕ, zero, suc, ◌+◌, ◌<◌, ◌≤◌, ◌⊎◌, Bool, true, false, not, ◌&&◌, ◌||◌, ◌==◌, nat_le, List}
+use Rattle.std.proofs.Common.{◌≡◌, ℕ, zero, suc, ◌+◌, ◌<◌, ◌≤◌, ◌⊎◌, Bool, true, false, not, ◌&&◌, ◌||◌, ◌==◌, nat_le}
+use Rattle.std.proofs.Common.{List}
 use Rattle.std.proofs.Common.{[], ◌∷◌, length, get_or, refl, inl, inr, arith, sym, ◌∙◌, subst}
 use Rattle.std.specs.List.{All, Contains}
 use Rattle.std.proofs.lemmas.Bool.{cases_Bool, cases_lt, false≢true}
@@ -102,7 +103,8 @@ not_zero : (n : ℕ) → 0 < n → (n == 0) ≡ false
 not_zero n h = grind (arith, nat_tests)
 
 module _ (shape : NetShape) (sound : IsShape shape) (points : List Point) (marking : IsMarking shape points) (p : ℕ)
-    (is : IsFirstLeast (λ r. (point_of points r).ran) (length shape.feeds) p) (more : (point_of points p).ran < shape.samples) where
+    (is : IsFirstLeast (λ r. (point_of points r).ran) (length shape.feeds) p)
+    (more : (point_of points p).ran < shape.samples) where
   ran-le : (r : ℕ) → r < length shape.feeds → (point_of points r).ran ≤ (point_of points r).taken
   ran-le r within =
       let at = marking.each r within in
@@ -111,7 +113,10 @@ module _ (shape : NetShape) (sound : IsShape shape) (points : List Point) (marki
         | inr first ↦ omega (arith, at.between (omega arith))
       ]
 
-  not_dry : (wire : Wire) → Contains (feed_of shape p) wire → (point_of points p).cycle ≡ 0 → is_dry points p wire ≡ false
+  not_dry : (wire : Wire)
+      → Contains (feed_of shape p) wire
+      → (point_of points p).cycle ≡ 0
+      → is_dry points p wire ≡ false
   not_dry (Input j) there at_first = refl
   not_dry (From q j) there at_first =
       not_zero (queued points q p)
@@ -136,7 +141,8 @@ module _ (shape : NetShape) (sound : IsShape shape) (points : List Point) (marki
       → (lacks_input shape points p || (lacks_row shape points p || lacks_place shape points p)) ≡ false
   nothing at_first =
       neither (lacks_input shape points p) (lacks_row shape points p) (lacks_place shape points p)
-      (not_le shape.samples (point_of points p).taken (omega (arith, more, (marking.each p is.within).between at_first)))
+      (not_le shape.samples (point_of points p).taken
+      (omega (arith, more, (marking.each p is.within).between at_first)))
       (list_any_none (is_dry points p) (feed_of shape p) (all_feed at_first))
       (list_any_none (λ r. reads shape r p && is_full shape points p r) (processors shape) all_places)
 

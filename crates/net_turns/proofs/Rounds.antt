@@ -1,6 +1,8 @@
--- Each round before all samples are run adds to the cycles that were run, and these have a bound: so many rounds run all.
+-- Each round before all samples are run adds to the cycles that were run, and these have a bound: so many rounds run
+-- all.
 use Rattle.std.proofs.Common.{◌≡◌, ℕ, zero, suc, ◌+◌, ◌*◌, ◌<◌, ◌≤◌, ◌⊎◌, true, false, List, [], ◌∷◌}
-use Rattle.std.proofs.Common.{mul-le-mul_left, mul-le-mul_right, length, get_or, refl, ap, ap₂, inl, inr, arith, sym, ◌∙◌, subst}
+use Rattle.std.proofs.Common.{mul-le-mul_left, mul-le-mul_right, length, get_or, refl, ap, ap₂, inl, inr, arith, sym}
+use Rattle.std.proofs.Common.{◌∙◌, subst}
 use Rattle.std.specs.List.{All}
 use Rattle.std.proofs.Math.ListN.{set}
 use Rattle.std.proofs.lemmas.Bool.{cases_Bool, cases_lt}
@@ -102,7 +104,8 @@ module _ (shape : NetShape) (sound : IsShape shape) where
       → IsMarking shape points
       → All (λ p. p < length shape.feeds) ps
       → (cycles_run shape points ≤ cycles_run shape (after_turns shape points ps))
-      × (some_runs shape points ps ≡ true → cycles_run shape points < cycles_run shape (after_turns shape points ps))
+      × (some_runs shape points ps ≡ true
+      → cycles_run shape points < cycles_run shape (after_turns shape points ps))
   turns_add points [] marking within = (omega arith, λ h. absurd (cc))
   turns_add points (p ∷ ps) marking within =
       let here : p < length shape.feeds = within 0 p (omega arith) in
@@ -206,7 +209,9 @@ module _ (shape : NetShape) (sound : IsShape shape) where
             ]
       ]
 
-  pub rounds_keep : (n : ℕ) (points : List Point) → IsMarking shape points → IsMarking shape (after_rounds shape n points)
+  pub rounds_keep : (n : ℕ) (points : List Point)
+      → IsMarking shape points
+      → IsMarking shape (after_rounds shape n points)
   rounds_keep zero points marking = marking
   rounds_keep (suc n) points marking = rounds_keep n (after_round shape points) (round_keeps points marking)
 
@@ -221,7 +226,8 @@ module _ (shape : NetShape) (sound : IsShape shape) where
       → is_finished shape (after_rounds shape (enough_rounds shape) points) ≡ true
   enough points marking = by (rounds_add (enough_rounds shape) points marking)
     where
-      by : (is_finished shape (after_rounds shape (enough_rounds shape) points) ≡ true)
+      by :
+          (is_finished shape (after_rounds shape (enough_rounds shape) points) ≡ true)
           ⊎ (cycles_run shape points + enough_rounds shape
           ≤ cycles_run shape (after_rounds shape (enough_rounds shape) points))
           → is_finished shape (after_rounds shape (enough_rounds shape) points) ≡ true

@@ -139,7 +139,8 @@ module _ {o : Overlap} (d : Datapath) (p : Plan) (words : Counted) (plan : IsFea
       let cells : ℕ = cells_on d (line_at p l).ram in
       let room-l : (line_at p l).offset + reach o (line_at p l) < cells = (plan.memory.lines l in-l).room in
       let room-m : (line_at p m).offset + reach o (line_at p m) < cells =
-      subst (λ u. (line_at p m).offset + reach o (line_at p m) < cells_on d u) (sym ram) (plan.memory.lines m in-m).room in
+      subst (λ u. (line_at p m).offset + reach o (line_at p m) < cells_on d u) (sym ram)
+      (plan.memory.lines m in-m).room in
       let same : cell_in cells past (line_at p l).offset s ≡ cell_in cells past (line_at p m).offset n =
       cell ∙ ap (λ u. cell_in (cells_on d u) past (line_at p m).offset n) (sym ram) in
       let one = cells-apart cells past d.period (line_at p l).offset (reach o (line_at p l)) (line_at p m).offset

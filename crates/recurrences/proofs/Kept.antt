@@ -53,8 +53,7 @@ keeps_all_through s t u First Second a b = record {
 }
 
 -- the other way round
-pub keeps_all_back :
-    {E F A : Type 0} (s : System E A) (t : System F A) (AreEqual : Signals E A → Signals F A → Type 0)
+pub keeps_all_back : {E F A : Type 0} (s : System E A) (t : System F A) (AreEqual : Signals E A → Signals F A → Type 0)
     → KeepsAllSolutions s t AreEqual
     → KeepsAllSolutions t s (λ y x. AreEqual x y)
 keeps_all_back s t AreEqual keeps = record {

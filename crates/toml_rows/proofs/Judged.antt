@@ -1,11 +1,14 @@
 -- What is known of a value that its key may have.
-use Rattle.std.proofs.Common.{◌≡◌, ℕ, zero, suc, ◌+◌, ◌≤◌, ◌<◌, Bool, true, false, ◌&&◌, nat_le, List, [], ◌∷◌, length, get_or}
-use Rattle.std.proofs.Common.{pos, negsuc, Option, Some, None, Result, Ok, Err, if◌then◌else◌, refl, ap, arith, subst, sym}
+use Rattle.std.proofs.Common.{◌≡◌, ℕ, zero, suc, ◌+◌, ◌≤◌, ◌<◌, Bool, true, false, ◌&&◌, nat_le, List, [], ◌∷◌, length}
+use Rattle.std.proofs.Common.{get_or}
+use Rattle.std.proofs.Common.{pos, negsuc, Option, Some, None, Result, Ok, Err, if◌then◌else◌, refl, ap, arith, subst}
+use Rattle.std.proofs.Common.{sym}
 use Rattle.std.specs.Prelude.{MatchOption}
 use Rattle.std.specs.List.{All}
 use Rattle.std.proofs.lemmas.Bool.{cases_Bool}
 use Rattle.std.proofs.lemmas.Bool.Decides.{nat_tests}
-use Rattle.toml.specs.Data.{Data, Items, no_items, item, Members, string, integer, float, boolean, datetime, array, table}
+use Rattle.toml.specs.Data.{Data, Items, no_items, item, Members, string, integer, float, boolean, datetime, array}
+use Rattle.toml.specs.Data.{table}
 use Rattle.toml.specs.Data.{get_member}
 use Rattle.toml_rows.specs.declared.misfit.Misfit.{Misfit}
 use Rattle.toml_rows.specs.declared.misfit.Misfit.TheVariants.{WrongKind, Range}
@@ -80,7 +83,8 @@ module _ {A : Type 0} (P : A → Type 0) (judge : Judge A) (each : (d : Data) (x
   counted_is least most (Ok ys) xs h =
       let (test, same) = if_ok (is_within least most (length ys)) ys xs Range h in
       let (low, high) = within_is least most (length ys) test in
-      subst (λ (zs : List A). (◌≡◌ {A = Result (List A) Misfit} (Ok ys) (Ok zs)) × (least ≤ length zs) × (length zs ≤ most))
+      subst
+      (λ (zs : List A). (◌≡◌ {A = Result (List A) Misfit} (Ok ys) (Ok zs)) × (least ≤ length zs) × (length zs ≤ most))
       same (refl, low, high)
 
   array_is : (d : Data) (xs : List A) → array_of judge d ≡ Ok xs → All P xs

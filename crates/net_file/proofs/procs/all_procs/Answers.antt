@@ -23,7 +23,8 @@ returns-in_err-proc c =
 pub loop-table-preserved : goal.loop-table-preserved
 loop-table-preserved c =
     rw c.in_ok-push.ensures.ok (
-      turn_goes_on Memory (proc_at c.args.inputs) members c.args.tables.now c.loop-table.table-index c.table-item.result _
+      turn_goes_on Memory (proc_at c.args.inputs) members c.args.tables.now c.loop-table.table-index c.table-item.result
+          _
           c.loop-table.procs _ c.loop-table-test.true c.table-item.is (rw c.len-own.ensures at c.in_ok-proc.ensures)
           c.loop-table.invariant.0,
       length_push c.loop-table.procs _ ∙ ap (λ n. n + 1) c.loop-table.invariant.1,

@@ -7,7 +7,8 @@ returns-clause-described c = describes c.args.text.now c.read_in_order.result c.
 
 pub returns-clause-allowed : goal.returns-clause-allowed
 returns-clause-allowed c =
-    allowed c.args.text.now c.read_in_order.result (describes c.args.text.now c.read_in_order.result c.read_in_order.ensures)
+    allowed c.args.text.now c.read_in_order.result
+    (describes c.args.text.now c.read_in_order.result c.read_in_order.ensures)
 
 pub returns-clause-clear : goal.returns-clause-clear
 returns-clause-clear c = is_clear c.args.text.now c.read_in_order.result c.read_in_order.ensures

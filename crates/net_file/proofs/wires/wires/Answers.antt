@@ -11,12 +11,15 @@ returns-in-Err-WrongKind c =
     let bad : row.wire c.args.inputs c.args.own (view c.value-item.result) ≡ Err WrongKind = cc
     (c.as_wire.ensures, c.in-Err-WrongKind.is, c.in-Err-WrongKind.field-0-is) in
     rw (← c.deref-value-items.ensures.value)
-    (sym (stops (row.wire c.args.inputs c.args.own) c.deref-value-items.result.now c.loop-value.value-index c.value-item.result
+    (sym (stops (row.wire c.args.inputs c.args.own) c.deref-value-items.result.now c.loop-value.value-index
+    c.value-item.result
     c.loop-value-test.true c.value-item.is bad))
 
 pub loop-value-preserved : goal.loop-value-preserved
 loop-value-preserved c =
-    let more = goes_on (row.wire c.args.inputs c.args.own) c.deref-value-items.result.now c.loop-value.value-index c.value-item.result
+    let more =
+    goes_on (row.wire c.args.inputs c.args.own) c.deref-value-items.result.now c.loop-value.value-index
+    c.value-item.result
     (so_far c.loop-value.in_range c.loop-value.wires) in
     elim c.match-as_wire.branch [
       | in-Ok+in_ok-push-in-Ok w ↦

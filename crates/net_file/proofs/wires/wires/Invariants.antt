@@ -6,5 +6,6 @@ use Rattle.toml_rows.proofs.ArrayEntries.{so_far}
 use Rattle.net_file.proofs.wires.wires.Given as goal
 
 abbrev pub invariant-loop-value : goal.invariant-loop-value
-invariant-loop-value l = entries (row.wire l.inputs l.own) (items_view (take l.value-index l.value-items)) ≡ so_far l.in_range
+invariant-loop-value l =
+    entries (row.wire l.inputs l.own) (items_view (take l.value-index l.value-items)) ≡ so_far l.in_range
     l.wires
