@@ -2,7 +2,9 @@ pub mod Counts
 pub mod FirstFaults
 pub mod OneAnswer
 pub mod FirstLoops
+pub mod NumberedPlaces
 pub mod OneGraph
+pub mod Flats
 pub mod Graphs
 pub mod TokenLines
 pub mod FaultPlaces
