@@ -1,6 +1,6 @@
 -- A binary search finds the lifetime of a node at a port.
 use Rattle.std.proofs.Common.{◌≡◌, ◌∙◌, ◌⊎◌, inl, inr, sym, ap, subst, refl, arith, ⊎_elim, Bool, true, false, ℕ, ◌<◌}
-use Rattle.std.proofs.Common.{◌≤◌, get_or}
+use Rattle.std.proofs.Common.{◌≤◌, List, length, get_or}
 use Rattle.std.specs.List.{position_or_len}
 use Rattle.std.specs.List.Sorted.{IsPartitionedBy, IsPartitionPoint}
 use Rattle.std.proofs.lemmas.Bool.{cases_lt, false_from_ne_true}
@@ -8,12 +8,15 @@ use Rattle.std.proofs.lemmas.Bool.Decides.{nat_tests}
 use Rattle.std.proofs.lemmas.List.Sums.{position_or_len_is}
 use Rattle.operations.specs.declared.units.PortRef.{PortRef}
 use Rattle.datapath.specs.declared.types.Datapath.{Datapath}
-use Rattle.plan_core.specs.ListSchedule.{ends}
+use Rattle.plan_core.specs.Stages.{written_around}
 use Rattle.plan_core.specs.Arcs.{arc_of, no_arc, IsArcBefore}
-use Rattle.plan_core.specs.declared.plan.Plan.{Plan}
+use Rattle.plan_core.specs.declared.schedule.Assigned.{Assigned}
+use Rattle.plan_core.specs.declared.schedule.Schedule.{Schedule}
 use Rattle.plan_core.specs.declared.registers.Arc.{Arc}
+use Rattle.plan_core.specs.declared.registers.Registers.{Registers}
 use Rattle.microcode_asm.specs.ScheduleText.{is_arc_for}
-use Rattle.microcode_asm.specs.Private.Printable.{is_before, HasArc, AreArcs}
+use Rattle.microcode_asm.specs.Printable.{HasArc, AreArcs}
+use Rattle.microcode_asm.specs.Private.Shown.{is_before}
 
 -- the arc is for node v, and is written in cycle w, at the port
 record IsSought (port : PortRef) (w v : ℕ) (arc : Arc) : Type 0 where
@@ -74,72 +77,76 @@ before_before port w v x y before is = grind (arith, nat_tests)
 opposite : (b : Bool) → b ≡ true → b ≡ false → ⊥
 opposite b is is_not = cc
 
-module _ (d : Datapath) (p : Plan) (arcs : AreArcs d p) (v : ℕ) (port : PortRef) where
+module _ (d : Datapath) (a : Assigned) (s : Schedule) (xs : List Arc) (r : Registers) (arcs : AreArcs d a s xs r)
+    (v : ℕ) (in_list : v < length a.lowered.nodes) (port : PortRef) where
   abbrev w : ℕ
-  w = ends d p.assigned p.schedule v
+  w = written_around d a s v
 
-  pub parted : IsPartitionedBy (is_before port w v) p.arcs
+  pub parted : IsPartitionedBy (is_before port w v) xs
   parted i j e upto there is =
       ⊎_elim
       (λ (below : i < j).
-      before_before port w v (get_or p.arcs i e) (get_or p.arcs j e)
-      (precedes (get_or p.arcs i e) (get_or p.arcs j e) (arcs.order i j e below there)) is)
+      before_before port w v (get_or xs i e) (get_or xs j e)
+      (precedes (get_or xs i e) (get_or xs j e) (arcs.order i j e below there)) is)
       (λ (above : j ≤ i).
       let same : j ≡ i = omega arith in
-      subst (λ (n : ℕ). is_before port w v (get_or p.arcs n e) ≡ true) same is)
+      subst (λ (n : ℕ). is_before port w v (get_or xs n e) ≡ true) same is)
       (cases_lt i j)
 
   -- an arc for the node at the port is the one that is sought
   sought_by : (arc : Arc)
-      → arc.w ≡ ends d p.assigned p.schedule arc.node
+      → (arc.node < length a.lowered.nodes → arc.w ≡ written_around d a s arc.node)
       → is_arc_for v port arc ≡ true
       → IsSought port w v arc
   sought_by arc written is_it =
       sought_for port w v arc is_it
-      (written ∙ ap (λ (n : ℕ). ends d p.assigned p.schedule n) (for_node v port arc is_it))
+      (let node = for_node v port arc is_it in
+      written (subst (λ (n : ℕ). n < length a.lowered.nodes) (sym node) in_list) ∙ ap (written_around d a s) node)
 
-  module _ (has : HasArc d p v port) where
+  module _ (has : HasArc xs v port) where
     abbrev k : ℕ
     k = has.place
 
-    sought : IsSought port w v (arc_of p.arcs k)
+    sought : IsSought port w v (arc_of xs k)
     sought = record {
       unit = ap (λ (x : PortRef). x.unit) has.is.port_is;
       port_is = ap (λ (x : PortRef). x.port) has.is.port_is;
       cycle =
-          arcs.written k no_arc has.there ∙ ap (λ (n : ℕ). ends d p.assigned p.schedule n) has.is.node;
+          arcs.written k no_arc has.there
+          (subst (λ (n : ℕ). n < length a.lowered.nodes) (sym has.is.node) in_list)
+          ∙ ap (written_around d a s) has.is.node;
       node = has.is.node;
     }
 
     pub found : (i : ℕ)
-        → IsPartitionPoint (λ y. is_before port w v y ≡ true) (λ y. is_before port w v y ≡ false) p.arcs i
+        → IsPartitionPoint (λ y. is_before port w v y ≡ true) (λ y. is_before port w v y ≡ false) xs i
         → i ≡ k
     found i point =
         ⊎_elim
         (λ (below : i < k).
-        absurd (opposite (is_before port w v (arc_of p.arcs i))
-        (before_sought port w v (arc_of p.arcs i) (arc_of p.arcs k)
-        (precedes (arc_of p.arcs i) (arc_of p.arcs k) (arcs.order i k no_arc below has.there)) sought)
+        absurd (opposite (is_before port w v (arc_of xs i))
+        (before_sought port w v (arc_of xs i) (arc_of xs k)
+        (precedes (arc_of xs i) (arc_of xs k) (arcs.order i k no_arc below has.there)) sought)
         (point.1 i no_arc (omega arith) (let there = has.there in omega arith))))
         (λ (upto : k ≤ i).
         ⊎_elim
         (λ (above : k < i).
-        absurd (opposite (is_before port w v (arc_of p.arcs k)) (point.0 k no_arc (omega arith) above)
-        (not_before port w v (arc_of p.arcs k) sought)))
+        absurd (opposite (is_before port w v (arc_of xs k)) (point.0 k no_arc (omega arith) above)
+        (not_before port w v (arc_of xs k) sought)))
         (λ (same : i ≤ k). omega arith)
         (cases_lt k i))
         (cases_lt i k)
 
-    pub first_for : k ≡ position_or_len (is_arc_for v port) p.arcs
+    pub first_for : k ≡ position_or_len (is_arc_for v port) xs
     first_for =
         let there = has.there in
-        sym (position_or_len_is (is_arc_for v port) p.arcs k no_arc (omega arith)
+        sym (position_or_len_is (is_arc_for v port) xs k no_arc (omega arith)
         (λ j below.
-        false_from_ne_true (is_arc_for v port (arc_of p.arcs j))
+        false_from_ne_true (is_arc_for v port (arc_of xs j))
         (λ is_it.
-        opposite (is_before port w v (arc_of p.arcs j))
-        (before_sought port w v (arc_of p.arcs j) (arc_of p.arcs k)
-        (precedes (arc_of p.arcs j) (arc_of p.arcs k) (arcs.order j k no_arc below there)) sought)
-        (not_before port w v (arc_of p.arcs j)
-        (sought_by (arc_of p.arcs j) (arcs.written j no_arc (omega arith)) is_it))))
-        (λ _. is_for port w v (arc_of p.arcs k) sought))
+        opposite (is_before port w v (arc_of xs j))
+        (before_sought port w v (arc_of xs j) (arc_of xs k)
+        (precedes (arc_of xs j) (arc_of xs k) (arcs.order j k no_arc below there)) sought)
+        (not_before port w v (arc_of xs j)
+        (sought_by (arc_of xs j) (arcs.written j no_arc (omega arith)) is_it))))
+        (λ _. is_for port w v (arc_of xs k) sought))

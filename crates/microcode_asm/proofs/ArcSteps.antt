@@ -5,7 +5,8 @@ use Rattle.std.proofs.lemmas.List.{get_or_default}
 use Rattle.operations.specs.declared.units.PortRef.{PortRef}
 use Rattle.plan_core.specs.Arcs.{arc_of}
 use Rattle.plan_core.specs.declared.registers.Arc.{Arc}
-use Rattle.microcode_asm.specs.Private.Lifetimes.{AreKept, IsFoundArc, IsOnWay}
+use Rattle.microcode_asm.specs.Lifetimes.{AreKept, IsFoundArc}
+use Rattle.microcode_asm.specs.Private.Lifetimes.{IsOnWay}
 use Rattle.bucket_sort.specs.Linked.{IsNext}
 use Rattle.bucket_sort.specs.declared.Buckets.{Buckets}
 use Rattle.bucket_sort.proofs.Linked.{next_after}

@@ -9,7 +9,8 @@ use Rattle.micro_image.specs.declared.image.UnitDesc.{UnitDesc}
 use Rattle.micro_image.specs.Fields.{nth, no_unit}
 use Rattle.micro_image.specs.Log.{Place, Register, Cell, Latch}
 use Rattle.plan_core.specs.Hardware.{unit_of}
-use Rattle.microcode_asm.specs.Private.Starts.{held, IsAlike, Writes, AreUnitsOf}
+use Rattle.microcode_asm.specs.Units.{held, IsAlike, Writes}
+use Rattle.microcode_asm.specs.Private.Starts.{AreUnitsOf}
 use Rattle.microcode_asm.proofs.IssueSteps.{read_at}
 
 -- two places are one or not

@@ -17,12 +17,13 @@ use Rattle.plan_core.specs.declared.plan.Plan.{Plan}
 use Rattle.plan_soundness.proofs.SomeWord.{enough_ports}
 use Rattle.plan_soundness.specs.Parts.{nodes_of, node_at, edge_at, unit_at, arc_at, register_at, ReadsThrough, IsCopy}
 use Rattle.plan_soundness.specs.ImageOf.{IsIssueOf}
-use Rattle.plan_soundness.specs.Feasible.{IsFeasible}
+use Rattle.plan_soundness.specs.Feasible.{IsFeasibleOver}
+use Rattle.plan_soundness.specs.Overlap.{Overlap}
 use Rattle.plan_soundness.proofs.Elements.{nth_past}
 use Rattle.plan_soundness.proofs.Samples.{split, one_more}
 use Rattle.plan_soundness.proofs.SomeWord.{copy_once}
-use Rattle.microcode_asm.specs.Private.Ready.{IsReady}
-use Rattle.microcode_asm.specs.Private.Lifetimes.{IsFoundArc}
+use Rattle.microcode_asm.specs.Private.Ready.{IsReadyOver}
+use Rattle.microcode_asm.specs.Lifetimes.{IsFoundArc}
 use Rattle.microcode_asm.specs.Private.Words.{IsPortRegister, ArePortRegisters}
 use Rattle.microcode_asm.proofs.PlanFacts.{one_through}
 
@@ -47,8 +48,8 @@ copy_in_turn copies n ago some = record {
         let rest : ago % copies < copies = mod-lt ago some in
         omega (arith, split ago copies, one_more (ago / copies) copies, rest)
 
-module _ (d : Datapath) (p : Plan) (ready : IsReady d p) where
-  feasible : IsFeasible d p
+module _ {o : Overlap} {hold spare : ℕ} (d : Datapath) (p : Plan) (ready : IsReadyOver o hold spare d p) where
+  feasible : IsFeasibleOver o d p
   feasible = ready.plan.feasible
 
   pub unit_is : (v unit : ℕ)

@@ -7,7 +7,7 @@ use Rattle.signal_graph.specs.GraphRules.{IsGraph}
 use Rattle.signal_graph.specs.declared.graph.Node.{Node}
 use Rattle.signal_graph.specs.declared.graph.Graph.{Graph}
 use Rattle.plan_core.specs.IsPlan.{IsPlan}
-use Rattle.plan_core.specs.Lowered.{Origin, own, address, store, load, IsNumber, IsOwn, IsAddress, IsStore, IsLoad}
+use Rattle.plan_core.specs.Lowered.{Origin, own, address, store, load, IsNumber, IsOwnOver, IsAddress, IsStore, IsLoad}
 use Rattle.plan_core.specs.declared.plan.Plan.{Plan}
 use Rattle.micro_image.specs.declared.image.Image.{Image}
 use Rattle.micro_image.specs.Size.{IsShort}
@@ -17,7 +17,8 @@ use Rattle.plan_soundness.specs.Instances.{FindsInstances}
 use Rattle.plan_soundness.specs.Machine.{IsMachine}
 use Rattle.plan_soundness.specs.Parts.{nodes_of, node_at}
 use Rattle.plan_soundness.specs.Run.{RunsSolution}
-use Rattle.plan_soundness.specs.Feasible.{IsFeasiblePlan}
+use Rattle.plan_soundness.specs.Overlap.{Overlap}
+use Rattle.plan_soundness.specs.Feasible.{IsFeasiblePlanOver}
 use Rattle.plan_soundness.proofs.FromLowered.{made_at, made_as, own_below, graph_node}
 use Rattle.plan_soundness.proofs.Instances.{finds_instances}
 use Rattle.plan_soundness.proofs.RunsSolution.{plan_feasible, image_runs_solution}
@@ -37,16 +38,17 @@ none_rise : (inits : List (ℕ × ℤ)) → inits ≡ [] → IsStrictlyIncreasin
 none_rise inits e =
     subst (λ inits. IsStrictlyIncreasing (samples_of inits)) (sym e) (λ k below. absurd (omega (arith, below)))
 
-module _ (g : Graph) (d : Datapath) (p : Plan) (sound : IsGraph g) (machine : IsMachine d) (plan : IsFeasiblePlan g d p)
+module _ {o : Overlap} {hold spare : ℕ} (g : Graph) (d : Datapath) (p : Plan) (sound : IsGraph g)
+    (plan : IsFeasiblePlanOver o hold spare g d p)
   where
     -- the initial values of each node rise
-    inits_rise : (i : ℕ) → i < length (nodes_of p) → IsStrictlyIncreasing (samples_of (node_at p i).inits)
+    pub inits_rise : (i : ℕ) → i < length (nodes_of p) → IsStrictlyIncreasing (samples_of (node_at p i).inits)
     inits_rise i in-i =
         let at = made_at g d p sound plan.lowered plan.assigned i in-i in by at.origin at.number
       where
         by : (o : Origin) → IsNumber plan.lowered.delays o i → IsStrictlyIncreasing (samples_of (node_at p i).inits)
         by (own v) number =
-            let made : IsOwn g d p.assigned.lowered plan.lowered.delays v (node_at p i) =
+            let made : IsOwnOver g d p.assigned.lowered plan.lowered.delays hold v (node_at p i) =
             made_as g d p sound plan.lowered plan.assigned (own v) i number in
             let node = graph_node g d p sound plan.lowered plan.assigned v
             (own_below g d p sound plan.lowered plan.assigned v i number) in
@@ -77,7 +79,7 @@ ready d p path planned =
       slot_count = planned.plan.schedule.count;
       register_count = planned.plan.registers.count;
       copies = planned.plan.registers.copies;
-      inits = inits_rise planned.graph d p planned.sound machine feasible;
+      inits = inits_rise planned.graph d p planned.sound feasible;
     }
 
 -- its image is valid

@@ -24,10 +24,12 @@ use Rattle.micro_image.specs.Valid.{EnableBefore, TakeBefore}
 use Rattle.plan_soundness.specs.Parts.{nodes_of, unit_at, cycle_at, transfers_at, arc_at, register_at, IsTransferOf}
 use Rattle.plan_soundness.specs.Parts.{ends_at}
 use Rattle.plan_soundness.specs.ImageOf.{IsIssueOf, enable_of, take_of}
-use Rattle.plan_soundness.specs.Feasible.{IsFeasible}
-use Rattle.microcode_asm.specs.Private.Ready.{IsReady}
-use Rattle.microcode_asm.specs.Private.Buses.{IsBusTo, Drives, drive_of}
-use Rattle.microcode_asm.specs.Private.Order.{IsUnitOrder}
+use Rattle.plan_soundness.specs.Feasible.{IsFeasibleOver}
+use Rattle.plan_soundness.specs.Overlap.{Overlap}
+use Rattle.microcode_asm.specs.Private.Ready.{IsReadyOver}
+use Rattle.microcode_asm.specs.Buses.{IsBusTo}
+use Rattle.microcode_asm.specs.Private.Drives.{Drives, drive_of}
+use Rattle.microcode_asm.specs.Order.{IsUnitOrder}
 use Rattle.bucket_sort.specs.Linked.{IsNext}
 use Rattle.microcode_asm.specs.Private.Words.{HasIssues, HasEnables, HasTakes, IsTakeFor, AreIssuesTo, AreEnablesTo}
 use Rattle.microcode_asm.specs.Private.Words.{AreTakesTo, IsIssued, IsEnded, IsWritten, node_in}
@@ -38,22 +40,32 @@ use Rattle.microcode_asm.proofs.Linked.{first_reached, next_reached, all_reached
 use Rattle.microcode_asm.proofs.BusSteps.{drives_rise}
 use Rattle.microcode_asm.proofs.IssueSteps.{read_at, arc_is, unit_is, register_is, register_room}
 use Rattle.microcode_asm.proofs.OrderSteps.{one_rises}
-use Rattle.microcode_asm.proofs.PlanFacts.{at_index, latency_some, one_node, one_end}
+use Rattle.microcode_asm.proofs.PlanFacts.{at_index, latency_some}
 
-in_mapped : {A B : Type 0} (f : A → B) (xs : List A) (x : A) → Contains xs x → Contains (map f xs) (f x)
+pub in_mapped : {A B : Type 0} (f : A → B) (xs : List A) (x : A) → Contains xs x → Contains (map f xs) (f x)
 in_mapped f xs x (k, below, is) =
     (k, omega (arith, below, length-map xs f), get_or-map f xs k x (f x) below ∙ ap f is)
 
-from_mapped : {A B : Type 0} (f : A → B) (xs : List A) (y : B) (default : A)
+pub from_mapped : {A B : Type 0} (f : A → B) (xs : List A) (y : B) (default : A)
     → Contains (map f xs) y
     → (x : A) × Contains xs x × (y ≡ f x)
 from_mapped f xs y default (k, below, is) =
     let in-k : k < length xs = omega (arith, below, length-map xs f) in
     (slice_index_or xs k default, at_index xs k default in-k, sym is ∙ get_or-map f xs k default y in-k)
 
-module _ (d : Datapath) (p : Plan) (ready : IsReady d p) where
-  feasible : IsFeasible d p
+module _ {o : Overlap} {hold spare : ℕ} (d : Datapath) (p : Plan) (ready : IsReadyOver o hold spare d p) where
+  feasible : IsFeasibleOver o d p
   feasible = ready.plan.feasible
+
+  -- nodes of one unit and one such number are one
+  abbrev pub OneBy : (ℕ → ℕ) → Type 0
+  OneBy number =
+      (u v : ℕ)
+      → u < length (nodes_of p)
+      → v < length (nodes_of p)
+      → unit_at p u ≡ unit_at p v
+      → number u ≡ number v
+      → u ≡ v
 
   -- the latency of a node's unit
   pub unit_latency : (v unit number : ℕ) (x : of_unit.Unit)
@@ -84,7 +96,7 @@ module _ (d : Datapath) (p : Plan) (ready : IsReady d p) where
   slot_is v slot in-v is =
       read_at p.schedule.slots v slot no_slot (omega (arith, in-v, ready.slot_count)) is
 
-  module _ (order : List ℕ) (ordered : IsUnitOrder p order) where
+  module _ (order : List ℕ) (ordered : IsUnitOrder p.assigned order) where
     pub node_there : (i : ℕ) → i < length order → node_in order i < length (nodes_of p)
     node_there i below = ordered.node (node_in order i) (at_index order i 0 below)
 
@@ -96,7 +108,7 @@ module _ (d : Datapath) (p : Plan) (ready : IsReady d p) where
     in_nodes i v below is =
         subst (λ v. v < length (nodes_of p)) (sym (node_is i v below is)) (node_there i below)
 
-    unit_before : (i m : ℕ)
+    pub unit_before : (i m : ℕ)
         → i < m
         → m < length order
         → (unit_at p (node_in order i) ≡ unit_at p (node_in order m) → node_in order i ≡ node_in order m)
@@ -133,7 +145,8 @@ module _ (d : Datapath) (p : Plan) (ready : IsReady d p) where
       pub no_issues : (c i : ℕ) → IsNext cycle_in (length order) c 0 i → AreIssuesTo d p order n c i []
       no_issues c i next = first_reached cycle_in IssueIn IsIssue IssueBefore (length order) c i next
 
-      pub one_more_issue : (by : Buckets) (c m v next : ℕ) (issue : Issue) (issues : List Issue)
+      pub one_more_issue : OneBy (cycle_at p)
+          → (by : Buckets) (c m v next : ℕ) (issue : Issue) (issues : List Issue)
           → IsIssued d p order by
           → m < length order
           → v ≡ slice_index_or order m v
@@ -141,7 +154,7 @@ module _ (d : Datapath) (p : Plan) (ready : IsReady d p) where
           → next ≡ slice_index_or by.next m next
           → AreIssuesTo d p order n c m issues
           → AreIssuesTo d p order n c next (issues ++ issue ∷ [])
-      one_more_issue by c m v next issue issues links below v-is is after to =
+      one_more_issue once by c m v next issue issues links below v-is is after to =
           next_reached cycle_in IssueIn IsIssue IssueBefore (length order) c m next issues (issue ∷ []) below things
           (next_after cycle_in d.period (length order) by links m next below after) (record {
             has = (issue, Contains-append_right issues (issue ∷ []) issue (in_head issue []), is-m);
@@ -157,7 +170,7 @@ module _ (d : Datapath) (p : Plan) (ready : IsReady d p) where
             more = λ i xs ys has. (has.0, Contains-append_left xs ys has.0 has.1, has.2);
             later = λ i a b less at is-a is-b.
                 let unit : unit_at p (node_in order i) < unit_at p (node_in order m) =
-                unit_before i m less below (λ same. one_node d p ready (node_in order i) (node_in order m)
+                unit_before i m less below (λ same. once (node_in order i) (node_in order m)
                 (node_there i (omega (arith, less, below))) (node_there m below) same at) in
                 omega (arith, unit, is-a.unit, is-b.unit);
           }
@@ -230,8 +243,8 @@ module _ (d : Datapath) (p : Plan) (ready : IsReady d p) where
           ready.machine.bus_count.1,
         )
 
-    pub more_enables :
-        (by : Buckets) (c m v next unit : ℕ) (slot : Slot) (transfers : List Transfer) (old new : List Enable)
+    pub more_enables : OneBy (ends_at d p)
+        → (by : Buckets) (c m v next unit : ℕ) (slot : Slot) (transfers : List Transfer) (old new : List Enable)
         → IsEnded d p order by
         → m < length order
         → v ≡ slice_index_or order m v
@@ -242,7 +255,8 @@ module _ (d : Datapath) (p : Plan) (ready : IsReady d p) where
         → next ≡ slice_index_or by.next m next
         → AreEnablesTo d p order c m old
         → AreEnablesTo d p order c next new
-    more_enables by c m v next unit slot transfers old new links below v-is slot-is unit-is transfers-are drives after
+    more_enables once by c m v next unit slot transfers old new links below v-is slot-is unit-is transfers-are drives
+        after
         to =
         let in-v : v < length (nodes_of p) = in_nodes m v below v-is in
         let at : v ≡ node_in order m = node_is m v below v-is in
@@ -273,7 +287,7 @@ module _ (d : Datapath) (p : Plan) (ready : IsReady d p) where
                 bus.2 ∙ ap (λ u. drive_of u bus.0) unit'
                     ∙ ap (drive_of (unit_at p (node_in order m))) (sym of.is),
               );
-          rise = drives_rise unit transfers drives.buses drives.rise;
+          rise = drives_rise unit drives.buses drives.rise;
         }) to)
       where
         things : AreThings end_in EnablesIn IsEnableIn EnableBefore m
@@ -281,7 +295,7 @@ module _ (d : Datapath) (p : Plan) (ready : IsReady d p) where
           more = λ i xs ys has transfer among. Contains-append_left xs ys _ (has transfer among);
           later = λ i a b less at is-a is-b.
               let unit : unit_at p (node_in order i) < unit_at p (node_in order m) =
-              unit_before i m less below (λ same. one_end d p ready (node_in order i) (node_in order m)
+              unit_before i m less below (λ same. once (node_in order i) (node_in order m)
               (node_there i (omega (arith, less, below))) (node_there m below) same at) in
               inl (omega (
                 arith,
@@ -402,7 +416,7 @@ module _ (d : Datapath) (p : Plan) (ready : IsReady d p) where
         first_reached written_in TakesIn (λ k take. IsTakeFor p k n take) TakeBefore (length p.arcs) c k next
 
     -- the takes of a lifetime are one
-    one_take : (k : ℕ) (take : Take) (transfer : Transfer)
+    pub one_take : (k : ℕ) (take : Take) (transfer : Transfer)
         → IsTakeFor p k n take
         → IsTransferOf p k transfer
         → take ≡ take_of p k transfer n
@@ -418,7 +432,7 @@ module _ (d : Datapath) (p : Plan) (ready : IsReady d p) where
     take_port : (k : ℕ) (take : Take) → IsTakeFor p k n take → take.port ≡ (arc_at p k).port
     take_port k take is = ap (λ (t : Take). t.port) is.is ∙ is.of.port
 
-    port_before : (a b : Take) (q r : PortRef)
+    pub port_before : (a b : Take) (q r : PortRef)
         → a.port ≡ q
         → b.port ≡ r
         → IsPortBefore q r

@@ -28,7 +28,8 @@ use Rattle.plan_soundness.proofs.Ordinary.{room as line_room}
 use Rattle.plan_soundness.proofs.Elements.{nth_past}
 use Rattle.plan_soundness.proofs.SomeWord.{copy_once}
 use Rattle.microcode_asm.specs.Private.Ready.{IsReady, samples_of}
-use Rattle.microcode_asm.specs.Private.Starts.{zeros, blank_unit, held, initial_of, Writes, AreUnitsOf, AreStarted}
+use Rattle.microcode_asm.specs.Units.{zeros, blank_unit, held, Writes}
+use Rattle.microcode_asm.specs.Private.Starts.{initial_of, AreUnitsOf, AreStarted}
 use Rattle.microcode_asm.specs.Private.Starts.{ArePreloaded, AreCellsPut, inits_of, no_init}
 use Rattle.microcode_asm.proofs.HeldSteps.{place_cases, file_length}
 use Rattle.microcode_asm.proofs.IssueSteps.{read_at, arc_is, register_is, register_room}
@@ -49,11 +50,11 @@ pub record IsInitAt (inits : List (ℕ × ℤ)) (ago i : ℕ) : Type 0 where
   pub sample : (slice_index_or inits i no_init).0 ≡ ago
   pub word : word_before inits ago ≡ (slice_index_or inits i no_init).1
 
-record IsNoInitAt (inits : List (ℕ × ℤ)) (ago : ℕ) : Type 0 where
+pub record IsNoInitAt (inits : List (ℕ × ℤ)) (ago : ℕ) : Type 0 where
   pub none : (i : ℕ) → i < length inits → (slice_index_or inits i no_init).0 ≡ ago → ⊥
   pub word : word_before inits ago ≡ pos 0
 
-init_cases : (inits : List (ℕ × ℤ)) (ago : ℕ) → ((i : ℕ) × IsInitAt inits ago i) ⊎ IsNoInitAt inits ago
+pub init_cases : (inits : List (ℕ × ℤ)) (ago : ℕ) → ((i : ℕ) × IsInitAt inits ago i) ⊎ IsNoInitAt inits ago
 init_cases [] ago = inr (record { none = λ i below. absurd (omega (arith, below)); word = refl })
 init_cases (x ∷ rest) ago = by (x.0 == ago) refl (init_cases rest ago)
   where
@@ -79,7 +80,7 @@ init_cases (x ∷ rest) ago = by (x.0 == ago) refl (init_cases rest ago)
         none (suc i) below is = absent.none i (omega (arith, below)) is
 
 -- each initial value is that of its sample
-init_word : (inits : List (ℕ × ℤ)) (i : ℕ)
+pub init_word : (inits : List (ℕ × ℤ)) (i : ℕ)
     → IsStrictlyIncreasing (samples_of inits)
     → i < length inits
     → word_before inits (slice_index_or inits i no_init).0 ≡ (slice_index_or inits i no_init).1

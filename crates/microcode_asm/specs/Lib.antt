@@ -1,5 +1,10 @@
 pub mod Planned
 pub mod OperationText
 pub mod ScheduleText
+pub mod Printable
 pub mod Listing
+pub mod Order
+pub mod Lifetimes
+pub mod Buses
+pub mod Units
 pub mod Private

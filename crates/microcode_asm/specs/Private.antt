@@ -1,9 +1,9 @@
-pub mod Printable
+pub mod Shown
 pub mod Ready
 pub mod Dealt
 pub mod Linked
 pub mod Order
 pub mod Lifetimes
-pub mod Buses
+pub mod Drives
 pub mod Words
 pub mod Starts

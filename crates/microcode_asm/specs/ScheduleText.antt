@@ -12,8 +12,11 @@ use Rattle.plan_core.specs.Operands.{node_of}
 use Rattle.plan_core.specs.Assigned.{unit_in}
 use Rattle.plan_core.specs.ListSchedule.{slot_of, cycle_of}
 use Rattle.plan_core.specs.declared.plan.Plan.{Plan}
+use Rattle.plan_core.specs.declared.schedule.Assigned.{Assigned}
+use Rattle.plan_core.specs.declared.schedule.Schedule.{Schedule}
 use Rattle.plan_core.specs.declared.schedule.Transfer.{Transfer}
 use Rattle.plan_core.specs.declared.registers.Arc.{Arc}
+use Rattle.plan_core.specs.declared.registers.Registers.{Registers}
 use Rattle.operations.specs.Names.{operation_name}
 use Rattle.microcode_asm.specs.OperationText.{line_feed, blank, point, argument, format_part}
 
@@ -43,7 +46,7 @@ operation_part node =
 abbrev pub is_arc_for : (v : ℕ) → PortRef → Arc → Bool
 is_arc_for v port arc = arc.node == v && arc.port.unit == port.unit && arc.port.port == port.port
 
-module _ (d : Datapath) (p : Plan) where
+module _ (d : Datapath) where
   abbrev pub unit_name : (unit : ℕ) → List ℕ
   unit_name unit = (unit_of d unit).name
 
@@ -53,32 +56,39 @@ module _ (d : Datapath) (p : Plan) where
   abbrev pub port_name : PortRef → List ℕ
   port_name port = unit_name port.unit ++ point ∷ decimal port.port
 
-  -- the registers of the copies of the lifetime that the words of node v have at the port
-  abbrev pub registers_at : (v : ℕ) → PortRef → List ℕ
-  registers_at v port = slice_index_or p.registers.regs (position_or_len (is_arc_for v port) p.arcs) []
+  -- units, a schedule, and lifetimes with their registers
+  module _ (a : Assigned) (s : Schedule) (arcs : List Arc) (r : Registers) where
+    -- the registers of the copies of the lifetime that the words of node v have at the port
+    abbrev pub registers_at : (v : ℕ) → PortRef → List ℕ
+    registers_at v port = slice_index_or r.regs (position_or_len (is_arc_for v port) arcs) []
 
-  -- a port that takes the node's result, the bus on which it goes there, and where it stands then
-  unfoldable pub destination : (v : ℕ) → Transfer → List ℕ
-  destination v transfer =
-      codes " to " ++ port_name transfer.port ++ codes " bus " ++ bus_name transfer.bus
-      ++ codes " regs " ++ register_list (registers_at v transfer.port)
+    -- a port that takes the node's result, the bus on which it goes there, and where it stands then
+    unfoldable pub destination : (v : ℕ) → Transfer → List ℕ
+    destination v transfer =
+        codes " to " ++ port_name transfer.port ++ codes " bus " ++ bus_name transfer.bus
+        ++ codes " regs " ++ register_list (registers_at v transfer.port)
 
-  -- when and where a node is done
-  unfoldable pub placing_part : (v : ℕ) → List ℕ
-  placing_part v =
-      codes "node " ++ decimal v ++ codes " cycle " ++ decimal (cycle_of p.schedule v)
-      ++ codes " unit " ++ unit_name (unit_in p.assigned.units v)
+    -- when and where a node is done
+    unfoldable pub placing_part : (v : ℕ) → List ℕ
+    placing_part v =
+        codes "node " ++ decimal v ++ codes " cycle " ++ decimal (cycle_of s v)
+        ++ codes " unit " ++ unit_name (unit_in a.units v)
 
-  unfoldable pub node_line : (v : ℕ) → List ℕ
-  node_line v =
-      placing_part v ++ operation_part (node_of p.assigned.lowered.nodes v)
-      ++ flat_map (destination v) (slot_of p.schedule v).transfers ++ line_feed ∷ []
+    unfoldable pub node_line : (v : ℕ) → List ℕ
+    node_line v =
+        placing_part v ++ operation_part (node_of a.lowered.nodes v)
+        ++ flat_map (destination v) (slot_of s v).transfers ++ line_feed ∷ []
 
+    -- the lines of the nodes by number
+    abbrev pub node_lines : List ℕ
+    node_lines = flat_map node_line (range_with_len 0 (length a.lowered.nodes))
+
+module _ (d : Datapath) (p : Plan) where
   unfoldable pub head_line : List ℕ
   head_line =
       codes "period " ++ decimal d.period ++ codes " unroll " ++ decimal p.unroll
       ++ codes " nodes " ++ decimal (length p.assigned.lowered.nodes) ++ line_feed ∷ []
 
-  -- the head, and the lines of the nodes by number
+  -- the head, and the lines of the nodes
   unfoldable pub schedule_text : List ℕ
-  schedule_text = head_line ++ flat_map node_line (range_with_len 0 (length p.assigned.lowered.nodes))
+  schedule_text = head_line ++ node_lines d p.assigned p.schedule p.arcs p.registers

@@ -2,22 +2,24 @@
 
 ghost use Rattle.std.specs.Prelude.{◌≡◌, ◌<◌, length};
 ghost use Rattle.std.specs.List.{position_or_len};
-ghost use Rattle.plan_core.specs.ListSchedule.{ends as ends_in};
-ghost use Rattle.microcode_asm.specs.ScheduleText.{is_arc_for, registers_at as registers_in};
-ghost use Rattle.microcode_asm.specs.Private.Printable.{is_before as is_before_in, HasArc, IsPrintable};
+ghost use Rattle.microcode_asm.specs.ScheduleText.{is_arc_for};
+ghost use Rattle.microcode_asm.specs.Printable.{HasArc, IsPrintable};
+ghost use Rattle.microcode_asm.specs.Private.Shown.{is_before as is_before_in, nodes_of, written_in};
+ghost use Rattle.microcode_asm.specs.Private.Shown.{registers_at as registers_in};
 
-use datapath::{Datapath, PortRef};
-use plan_core::{Arc, Plan};
+use crate::printed::Printed;
+use datapath::PortRef;
+use plan_core::Arc;
 
-/// The cycle in which the result of node v is there.
-fn ends(datapath: &Datapath, plan: &Plan, v: usize) -> u16
-    requires printable { IsPrintable datapath.now plan.now }
-    requires node { v < length plan.now.assigned.lowered.nodes }
-    ensures { result ≡ ends_in datapath.now plan.now.assigned plan.now.schedule v }
+/// The cycle of the period in which the result of node v is there.
+fn written(printed: &Printed, v: usize) -> u16
+    requires printable { IsPrintable printed.now }
+    requires node { v < length (nodes_of printed.now) }
+    ensures { result ≡ written_in printed.now v }
 {
-    let unit = plan.assigned.units[v];
-    let latency = datapath.units[usize::from(unit)].latency;
-    plan.schedule.slots[v].cycle + (u16::from(latency) - 1)
+    let unit = printed.assigned.units[v];
+    let latency = printed.datapath.units[usize::from(unit)].latency;
+    (printed.schedule.slots[v].cycle + (u16::from(latency) - 1)) % printed.datapath.period
 }
 
 /// Whether a lifetime stands before one of node v that is written in cycle w at the port.
@@ -30,31 +32,27 @@ fn is_before(arc: &Arc, port: PortRef, w: u16, v: usize) -> bool
 }
 
 /// Where the lifetime of node v at the port stands. Takes time in proportion to the logarithm of the lifetimes.
-fn arc_place(datapath: &Datapath, plan: &Plan, v: usize, port: PortRef) -> usize
-    requires printable { IsPrintable datapath.now plan.now }
-    requires node { v < length plan.now.assigned.lowered.nodes }
-    requires arc { HasArc datapath.now plan.now v port }
-    ensures place { result ≡ position_or_len (is_arc_for v port) plan.now.arcs }
-    ensures there { result < length plan.now.arcs }
+fn arc_place(printed: &Printed, v: usize, port: PortRef) -> usize
+    requires printable { IsPrintable printed.now }
+    requires node { v < length (nodes_of printed.now) }
+    requires arc { HasArc printed.now.arcs.now v port }
+    ensures place { result ≡ position_or_len (is_arc_for v port) printed.now.arcs.now }
+    ensures there { result < length printed.now.arcs.now }
 {
-    let w = ends(datapath, plan, v);
-    plan.arcs
+    let w = written(printed, v);
+    printed
+        .arcs
         .as_slice()
         .partition_point(|arc| is_before(arc, port, w, v))
 }
 
 /// The registers of the copies of the lifetime of node v at the port.
-pub(crate) fn registers_at<'a>(
-    datapath: &Datapath,
-    plan: &'a Plan,
-    v: usize,
-    port: PortRef,
-) -> &'a [u8]
-    requires printable { IsPrintable datapath.now plan.now }
-    requires node { v < length plan.now.assigned.lowered.nodes }
-    requires arc { HasArc datapath.now plan.now v port }
-    ensures { result.now ≡ registers_in datapath.now plan.now v port }
+pub(crate) fn registers_at<'a>(printed: &'a Printed, v: usize, port: PortRef) -> &'a [u8]
+    requires printable { IsPrintable printed.now }
+    requires node { v < length (nodes_of printed.now) }
+    requires arc { HasArc printed.now.arcs.now v port }
+    ensures { result.now ≡ registers_in printed.now v port }
 {
-    let place = arc_place(datapath, plan, v, port);
-    plan.registers.regs[place].as_slice()
+    let place = arc_place(printed, v, port);
+    printed.registers.regs[place].as_slice()
 }

@@ -21,7 +21,7 @@ use fix_word::SigType;
 use lists::List;
 use micro_image::Image;
 use plan_core::Plan;
-use std::alloc::Global;
+use std::alloc::{AllocError, Global};
 
 /// The width of a word of the type in a microcode file.
 fn width_of(sig: SigType) -> u8
@@ -33,7 +33,12 @@ fn width_of(sig: SigType) -> u8
     }
 }
 
-fn widths_of(alloc: Global, types: &List<SigType>) -> Result<List<u8>, AsmFault>
+/// The widths of words of the types in a microcode file.
+///
+/// # Errors
+///
+/// `AllocError` where no memory is left.
+pub fn widths_of(alloc: Global, types: &List<SigType>) -> Result<List<u8>, AllocError>
     ensures { IfOk result (λ widths. widths ≡ map width_in_file types.now) }
 {
     let mut widths = List::with_capacity(alloc, types.len())?;

@@ -1,6 +1,6 @@
 //! The issues of a cycle.
 
-ghost use Rattle.std.specs.Prelude.{◌≡◌, ◌<◌, length, IfOk};
+ghost use Rattle.std.specs.Prelude.{◌≡◌, ◌<◌, ◌^◌, length, IfOk};
 ghost use Rattle.plan_core.specs.Hardware.{unit_of};
 ghost use Rattle.plan_soundness.specs.Parts.{nodes_of, node_at, edge_at, unit_at, IsCopy};
 ghost use Rattle.plan_soundness.specs.ImageOf.{IsIssueOf};
@@ -21,9 +21,9 @@ const UNREAD: u8 = 0;
 
 /// The copy with the word of so many samples before sample n, where the words of successive samples stand in so many
 /// copies in turn.
-pub(crate) fn copy_ago(copies: u8, n: usize, ago: usize) -> usize
+pub fn copy_ago(copies: u8, n: usize, ago: usize) -> usize
     requires some { 0 < copies }
-    requires few { n < 4 }
+    requires few { n < 2 ^ 16 }
     ensures { IsCopy copies n ago result }
 {
     // Most lifetimes have one copy, for which nothing is divided.

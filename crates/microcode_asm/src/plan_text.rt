@@ -1,15 +1,15 @@
 //! The schedule of a plan as text.
 
-ghost use Rattle.std.specs.Prelude.{◌≡◌, ◌++◌, length, IfOk, OnOk};
-ghost use Rattle.std.specs.List.{flat_map, range_with_len};
+ghost use Rattle.std.specs.Prelude.{◌≡◌, ◌++◌, IfOk, OnOk};
 ghost use Rattle.datapath.specs.Allowed.{IsDatapath};
 ghost use Rattle.microcode_asm.specs.Planned.{IsPlanned};
 ghost use Rattle.microcode_asm.specs.ScheduleText as spec;
-ghost use Rattle.microcode_asm.specs.ScheduleText.{head_line, node_line};
-ghost use Rattle.microcode_asm.specs.Private.Printable.{IsPrintable};
+ghost use Rattle.microcode_asm.specs.ScheduleText.{head_line};
+ghost use Rattle.microcode_asm.specs.Printable.{IsPrintable, node_lines};
 
 use crate::fault::AsmFault;
 use crate::node_line::put_node;
+use crate::printed::Printed;
 use crate::text::put_number;
 use datapath::Datapath;
 use fix_word::Bytes;
@@ -28,14 +28,18 @@ fn put_head(out: &mut Bytes, datapath: &Datapath, plan: &Plan) -> Result<(), All
     Ok(out.push(b'\n')?)
 }
 
-/// Adds the lines of the nodes.
-fn put_nodes(out: &mut Bytes, datapath: &Datapath, plan: &Plan) -> Result<(), AllocError>
-    requires { IsPrintable datapath.now plan.now }
-    ensures { OnOk result (out.new ≡ out.old ++ flat_map (node_line datapath.now plan.now)
-        (range_with_len 0 (length plan.now.assigned.lowered.nodes))) }
+/// Adds a line for each node, by number: the text of a schedule below its head line. Page `docs/PLANNING.md`, "The text
+/// of a schedule".
+///
+/// # Errors
+///
+/// An error where no memory is left. Some of the text may be added then.
+pub fn put_node_lines(out: &mut Bytes, printed: &Printed) -> Result<(), AllocError>
+    requires { IsPrintable printed.now }
+    ensures { OnOk result (out.new ≡ out.old ++ node_lines printed.now) }
 {
-    for v in 0..plan.assigned.lowered.nodes.len() {
-        put_node(out, datapath, plan, v)?;
+    for v in 0..printed.assigned.lowered.nodes.len() {
+        put_node(out, printed, v)?;
     }
     Ok(())
 }
@@ -54,6 +58,13 @@ pub fn schedule_text(alloc: Global, plan: &Plan, datapath: &Datapath) -> Result<
 {
     let mut out = List::new(alloc);
     put_head(&mut out, datapath, plan)?;
-    put_nodes(&mut out, datapath, plan)?;
+    let printed = Printed {
+        datapath,
+        assigned: &plan.assigned,
+        schedule: &plan.schedule,
+        arcs: &plan.arcs,
+        registers: &plan.registers,
+    };
+    put_node_lines(&mut out, &printed)?;
     Ok(out)
 }

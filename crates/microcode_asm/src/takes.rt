@@ -3,7 +3,7 @@
 ghost use Rattle.std.specs.Prelude.{◌≡◌, ◌%◌, ◌<◌, ℕ, length, IfOk};
 ghost use Rattle.plan_core.specs.declared.schedule.Transfer.{Transfer};
 ghost use Rattle.microcode_asm.specs.Private.Ready.{IsReady};
-ghost use Rattle.microcode_asm.specs.Private.Buses.{IsBusTo};
+ghost use Rattle.microcode_asm.specs.Buses.{IsBusTo};
 ghost use Rattle.microcode_asm.specs.Private.Words.{HasTakes, IsTakeFor, IsIssuer};
 
 use crate::fault::AsmFault;
@@ -15,7 +15,7 @@ use plan_core::{Plan, Transfer};
 use std::alloc::Global;
 
 /// The bus of the transfer to the port, which there is.
-fn bus_to(transfers: &[Transfer], port: PortRef) -> u8
+pub fn bus_to(transfers: &[Transfer], port: PortRef) -> u8
     requires { (bus : ℕ) × IsBusTo transfers.now port bus }
     ensures { IsBusTo transfers.now port result }
 {
@@ -28,7 +28,7 @@ fn bus_to(transfers: &[Transfer], port: PortRef) -> u8
 }
 
 /// The copy with the word of sample n, where the words of successive samples stand in so many copies in turn.
-fn copy_in(copies: u8, n: usize) -> usize
+pub fn copy_in(copies: u8, n: usize) -> usize
     requires { 0 < copies }
     ensures { result ≡ n % copies }
 {

@@ -16,8 +16,12 @@ pub(crate) fn put_text(out: &mut Bytes, label: &[u8], text: &[u8]) -> Result<(),
     out.extend_from_slice(text)
 }
 
-/// Adds a label and a number.
-pub(crate) fn put_number(out: &mut Bytes, label: &[u8], value: u64) -> Result<(), AllocError>
+/// Adds a label and a number in decimal.
+///
+/// # Errors
+///
+/// An error where no memory is left. Some of the text may be added then.
+pub fn put_number(out: &mut Bytes, label: &[u8], value: u64) -> Result<(), AllocError>
     ensures { OnOk result (out.new ≡ out.old ++ (label.now ++ decimal value)) }
 {
     let mut buffer = Buffer::new();

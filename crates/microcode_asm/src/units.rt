@@ -4,9 +4,8 @@ ghost use Rattle.std.specs.Prelude.{◌≡◌, ◌<◌, ℕ, [], length, map, re
 ghost use Rattle.operations.specs.declared.units.PortRef as of_port;
 ghost use Rattle.micro_image.specs.Fields.{no_unit};
 ghost use Rattle.micro_image.specs.Log.{Register, Cell};
-ghost use Rattle.microcode_asm.specs.Private.Starts.{zeros, blank_unit, Writes};
+ghost use Rattle.microcode_asm.specs.Units.{zeros, blank_unit, Writes};
 
-use crate::fault::AsmFault;
 use datapath::{Datapath, PortRef, Unit};
 use lists::List;
 use micro_image::UnitDesc;
@@ -18,7 +17,7 @@ fn zero_words(alloc: Global, count: usize) -> Result<List<i64>, AllocError>
     Ok(List::from_vec(vec![in alloc; 0; count]?))
 }
 
-fn blank_files(alloc: Global, sizes: &List<u16>) -> Result<List<List<i64>>, AsmFault>
+fn blank_files(alloc: Global, sizes: &List<u16>) -> Result<List<List<i64>>, AllocError>
     ensures { IfOk result (λ files. files ≡ map zeros sizes.now) }
 {
     let mut files = List::with_capacity(alloc, sizes.len())?;
@@ -29,7 +28,7 @@ fn blank_files(alloc: Global, sizes: &List<u16>) -> Result<List<List<i64>>, AsmF
 }
 
 /// The unit, whose registers and cells hold 0.
-fn blank(alloc: Global, unit: &Unit) -> Result<UnitDesc, AsmFault>
+fn blank(alloc: Global, unit: &Unit) -> Result<UnitDesc, AllocError>
     ensures { IfOk result (λ blank. blank ≡ blank_unit unit.now) }
 {
     Ok(UnitDesc {
@@ -43,7 +42,11 @@ fn blank(alloc: Global, unit: &Unit) -> Result<UnitDesc, AsmFault>
 }
 
 /// The units of the datapath, whose registers and cells hold 0.
-pub(crate) fn blank_units(alloc: Global, datapath: &Datapath) -> Result<List<UnitDesc>, AsmFault>
+///
+/// # Errors
+///
+/// `AllocError` where no memory is left.
+pub fn blank_units(alloc: Global, datapath: &Datapath) -> Result<List<UnitDesc>, AllocError>
     ensures { IfOk result (λ units. units ≡ map blank_unit datapath.now.units) }
 {
     let mut units = List::with_capacity(alloc, datapath.units.len())?;
@@ -66,7 +69,7 @@ pub(crate) fn write_register(units: &mut List<UnitDesc>, port: PortRef, reg: u8,
 }
 
 /// Writes a cell of a ram.
-pub(crate) fn write_cell(units: &mut List<UnitDesc>, ram: u8, cell: usize, word: i64)
+pub fn write_cell(units: &mut List<UnitDesc>, ram: u8, cell: usize, word: i64)
     requires unit { ram < length units.old }
     requires cell { cell < length (slice_index_or units.old ram no_unit).cells }
     ensures { Writes (Cell ram cell) word units.old units.new }

@@ -69,8 +69,9 @@ pub(crate) fn words(alloc: Global, plan: &Plan, datapath: &Datapath) -> Result<L
     requires { IsReady datapath.now plan.now }
     ensures { IfOk result (AreWords datapath.now plan.now plan.now.unroll) }
 {
-    let order = unit_order(alloc, plan, datapath)?;
-    let lifetimes = lifetimes_of(alloc, plan, datapath)?;
+    let order = unit_order(alloc, &plan.assigned, datapath)?;
+    let nodes = plan.assigned.lowered.nodes.len();
+    let lifetimes = lifetimes_of(alloc, &plan.arcs, nodes, datapath.period)?;
     let cycles = node_cycles(alloc, plan, datapath, &order)?;
     let issuer = Issuer {
         plan,

@@ -17,8 +17,8 @@ use Rattle.plan_soundness.specs.ImageOf.{IsIssueOf, IsWordOf, enable_of, take_of
 use Rattle.microcode_asm.specs.Private.Ready.{IsReady}
 use Rattle.bucket_sort.specs.Linked.{AreBuckets}
 use Rattle.microcode_asm.specs.Private.Linked.{IsReached}
-use Rattle.microcode_asm.specs.Private.Order.{IsUnitOrder}
-use Rattle.microcode_asm.specs.Private.Lifetimes.{AreKept}
+use Rattle.microcode_asm.specs.Order.{IsUnitOrder}
+use Rattle.microcode_asm.specs.Lifetimes.{AreKept, AreWritten}
 use Rattle.bucket_sort.specs.declared.Buckets.{Buckets}
 use Rattle.microcode_asm.specs.declared.issues.Issuer.{Issuer}
 
@@ -139,12 +139,12 @@ IsEnded d p order by = AreBuckets (λ (i : ℕ). ends_at d p (node_in order i)) 
 
 -- the lifetimes by the cycle of their write
 abbrev pub IsWritten : Datapath → Plan → Buckets → Type 0
-IsWritten d p by = AreBuckets (λ (k : ℕ). (arc_at p k).w) d.period (length p.arcs) by
+IsWritten d p by = AreWritten d.period p.arcs by
 
 -- a plan with its nodes by unit, and these and its lifetimes by cycle, and lifetimes by node
 pub record IsIssuer (issuer : Issuer) : Type 0 where
   pub ready : IsReady issuer.datapath.now issuer.plan.now
-  pub order : IsUnitOrder issuer.plan.now issuer.order.now
+  pub order : IsUnitOrder issuer.plan.now.assigned issuer.order.now
   pub kept : AreKept (length (nodes_of issuer.plan.now)) issuer.plan.now.arcs issuer.kept.now
   pub issued : IsIssued issuer.datapath.now issuer.plan.now issuer.order.now issuer.issued.now
   pub ended : IsEnded issuer.datapath.now issuer.plan.now issuer.order.now issuer.ended.now

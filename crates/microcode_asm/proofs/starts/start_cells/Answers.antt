@@ -1,6 +1,7 @@
 use Rattle.std.proofs.Common.{◌≡◌, ◌∙◌, ℤ, rules, to_z, of_z, w64, ◌+◌, refl, arith, sym, subst, slice_index_or}
 use Rattle.micro_image.specs.Log.{Cell}
-use Rattle.microcode_asm.specs.Private.Starts.{AreUnitsOf, AreCellsPut, Writes, no_init}
+use Rattle.microcode_asm.specs.Units.{Writes}
+use Rattle.microcode_asm.specs.Private.Starts.{AreUnitsOf, AreCellsPut, no_init}
 use Rattle.microcode_asm.proofs.HeldSteps.{units_kept}
 use Rattle.microcode_asm.proofs.StartSteps.{cell_there, cell_put, cell_skipped, cells_started}
 use Rattle.microcode_asm.proofs.starts.start_cells.Goals as goal

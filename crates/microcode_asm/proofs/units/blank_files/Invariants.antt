@@ -1,5 +1,5 @@
 use Rattle.std.proofs.Common.{◌≡◌, take, map}
-use Rattle.microcode_asm.specs.Private.Starts.{zeros}
+use Rattle.microcode_asm.specs.Units.{zeros}
 use Rattle.microcode_asm.proofs.units.blank_files.Given as goal
 
 abbrev pub invariant-loop-size : goal.invariant-loop-size

@@ -1,5 +1,5 @@
 use Rattle.std.proofs.Common.{◌≡◌, take, map}
-use Rattle.microcode_asm.specs.Private.Starts.{blank_unit}
+use Rattle.microcode_asm.specs.Units.{blank_unit}
 use Rattle.microcode_asm.proofs.units.blank_units.Given as goal
 
 abbrev pub invariant-loop-unit : goal.invariant-loop-unit
