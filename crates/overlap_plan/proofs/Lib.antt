@@ -1,0 +1,13 @@
+pub mod WorkedPlans
+pub mod AtOneStage
+pub mod OneStage
+pub mod LinesBehind
+pub mod SameLoads
+pub mod Asked
+pub mod StagedPlacing
+pub mod OneOutcome
+pub mod StageTexts
+pub mod Exits
+pub mod WorkedTexts
+pub mod StagedCycles
+pub mod BeforeLoads

@@ -1,0 +1,5 @@
+pub mod IsStagePlan
+pub mod Faults
+pub mod StagePlanned
+pub mod StageText
+pub mod Private

@@ -1,0 +1,34 @@
+//! Why there is no text or guarded image of a plan over several stages, or no machine.
+
+use std::alloc::{AllocError, AllocFailed};
+use thiserror::Error;
+
+/// Why there is no text or guarded image of a plan over several stages, or no machine for one.
+#[derive(Debug, Clone, Copy, PartialEq, Eq, Drop, Error)]
+pub enum GuardFault {
+    /// Out of memory.
+    #[error("no memory")]
+    Memory,
+}
+
+impl<T: Drop> From<AllocFailed<T>> for GuardFault {
+    ghost use Rattle.std.specs.Prelude.{◌≡◌};
+    ghost use Rattle.overlap_plan.specs.declared.guard_fault.GuardFault.TheVariants.{Memory};
+
+    ghost from_gives = { λ _ fault. fault ≡ Memory };
+
+    fn from(_: AllocFailed<T>) -> GuardFault {
+        GuardFault::Memory
+    }
+}
+
+impl From<AllocError> for GuardFault {
+    ghost use Rattle.std.specs.Prelude.{◌≡◌};
+    ghost use Rattle.overlap_plan.specs.declared.guard_fault.GuardFault.TheVariants.{Memory};
+
+    ghost from_gives = { λ _ fault. fault ≡ Memory };
+
+    fn from(_: AllocError) -> GuardFault {
+        GuardFault::Memory
+    }
+}
