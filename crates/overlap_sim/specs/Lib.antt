@@ -1,0 +1,4 @@
+pub mod Guarded
+pub mod GuardedOf
+pub mod StagePlanned
+pub mod Private
