@@ -1,6 +1,5 @@
 -- How a wire is written: `in.J` for word J of the net's row, and `Q.J` for output word J of processor Q, with the
--- numbers
--- in decimal without leading zeros.
+-- numbers in decimal without leading zeros.
 use Rattle.std.specs.Prelude.{ℕ, ◌*◌, ◌/◌, ◌%◌, List, ◌++◌, map, codes, Option, find}
 use Rattle.std.specs.Fmt.{decimal}
 use Rattle.std.specs.List.{range_with_len}

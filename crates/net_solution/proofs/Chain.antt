@@ -68,13 +68,18 @@ second_begins : lacks (shape_of chain) after_sample 1 ≡ false
 unfolding lacks after_turn
 second_begins = refl
 
--- all rows stand after 2 * 3 * 16 rounds, and not after 3 * 16
+-- all rows stand after 2 * 3 * 16 rounds
 all_stand :
     is_finished (shape_of chain)
     (after_rounds (shape_of chain) (enough_rounds (shape_of chain)) (starts (shape_of chain))) ≡ true
 unfolding lacks after_turn
 all_stand = refl
 
-not_all : is_finished (shape_of chain) (after_rounds (shape_of chain) 48 (starts (shape_of chain))) ≡ false
+-- and after 63 already, not after 62
+all_after : is_finished (shape_of chain) (after_rounds (shape_of chain) 63 (starts (shape_of chain))) ≡ true
+unfolding lacks after_turn
+all_after = refl
+
+not_all : is_finished (shape_of chain) (after_rounds (shape_of chain) 62 (starts (shape_of chain))) ≡ false
 unfolding lacks after_turn
 not_all = refl

@@ -106,6 +106,27 @@ module _ (parts : Parts) where
         ext_get_or [] a b (is_a.count ∙ sym is_b.count)
         (λ q h. agree a b is_a is_b (length parts.images) (omega arith) q (omega (arith, h, is_a.count)))
 
+  -- a processor puts a row for each of the net's
+  pub length-put : (puts : List Rows) (p : ℕ)
+      → IsNetSolution parts puts
+      → p < length parts.images
+      → length (get_or puts p []) ≡ length parts.stream
+  length-put puts p is h =
+      ap length (is.runs p h).put
+      ∙ length-map-range_with_len (row_of (program_of parts p) (fed parts puts p)) 0 (length (fed parts puts p))
+      ∙ length-fed puts p
+
+  -- as many rows, each of them the row that it puts, are all that it puts
+  pub all_put : (puts : List Rows) (p : ℕ) (rows : Rows)
+      → IsNetSolution parts puts
+      → p < length parts.images
+      → length rows ≡ length parts.stream
+      → ((n : ℕ) → n < length parts.stream → get_or rows n [] ≡ get_or (get_or puts p []) n [])
+      → rows ≡ get_or puts p []
+  all_put puts p rows is h count each =
+      ext_get_or [] rows (get_or puts p []) (count ∙ sym (length-put puts p is h))
+      (λ n within. each n (omega (arith, within, count)))
+
 -- The solution.
 
 abbrev pub puts_to : Parts → ℕ → List Rows
@@ -236,6 +257,15 @@ module _ (parts : Parts) (are : AreParts parts) where
     count = length-puts_to parts (length parts.images);
     runs = λ p h. (all_good p h).run;
   }
+
+  -- what a processor reads is in the ranges of its input words
+  pub fed_valid : (puts : List Rows) (p : ℕ)
+      → IsNetSolution parts puts
+      → p < length parts.images
+      → IsStreamFor (image_of parts p) (fed parts puts p)
+  fed_valid puts p is h =
+      subst (λ (all : List Rows). IsStreamFor (image_of parts p) (fed parts all p))
+      (one_solution parts all_brought (puts_to parts (length parts.images)) puts solution is) ((all_good p h).valid)
 
   -- words in the ranges of input words are such as machines take
 

@@ -170,7 +170,11 @@ not_finished shape points none least most =
     let test : ((get_or points k d).ran == shape.samples) ≡ true = grind (arith, nat_tests) in test))
 
 module _ (shape : NetShape) (sound : IsShape shape) (points : List Point) (marking : IsMarking shape points) where
-  all_ran : is_finished shape points ≡ true → (q : ℕ) → q < length shape.feeds → (point_of points q).ran ≡ shape.samples
+  -- once each has run all samples
+  pub all_ran : is_finished shape points ≡ true
+      → (q : ℕ)
+      → q < length shape.feeds
+      → (point_of points q).ran ≡ shape.samples
   all_ran done q h =
       let test : ((point_of points q).ran == shape.samples) ≡ true =
       AllPass-from_list_all (λ point. point.ran == shape.samples) points done q start (omega (arith, marking.count)) in

@@ -75,8 +75,7 @@ abbrev pub lacks_place : NetShape → List Point → ℕ → Bool
 lacks_place shape points p = list_any (λ r. reads shape r p && is_full shape points p r) (processors shape)
 
 -- at the first cycle of a sample p needs the net's next row, a row in each queue that it reads, and a free place in
--- each
--- that it fills
+-- each that it fills
 unfoldable pub lacks : NetShape → List Point → ℕ → Bool
 lacks shape points p =
     (point_of points p).cycle == 0
