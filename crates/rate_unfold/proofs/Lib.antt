@@ -1,0 +1,23 @@
+pub mod FrameRows
+pub mod Samples
+pub mod Blocks
+pub mod UnfoldedElements
+pub mod UnfoldedLoops
+pub mod UnfoldedInits
+pub mod FrameWords
+pub mod UnfoldedValues
+pub mod UnfoldedSolves
+pub mod UnfoldedKeeps
+pub mod UnfoldedSound
+pub mod InitsRise
+pub mod FrameStream
+pub mod FrameOuts
+pub mod OnePhase
+pub mod KeepsFrames
+pub mod PhaseParts
+pub mod PhaseElements
+pub mod Weights
+pub mod OneKept
+pub mod OneFault
+pub mod OneUnfolded
+mod Examples
