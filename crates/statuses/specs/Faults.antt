@@ -7,11 +7,15 @@ use Rattle.source_faults.specs.declared.fault.FrontError.TheVariants.{Fault}
 use Rattle.source_faults.specs.declared.fault.FrontError.TheVariants as front
 use Rattle.micro_file.specs.declared.fault.FormFault.{FormFault}
 use Rattle.micro_file.specs.declared.fault.FormFault.TheVariants as form
+use Rattle.net_core.specs.declared.fault.NetFault.{NetFault}
+use Rattle.net_core.specs.declared.fault.NetFault.TheVariants as net
 use Rattle.planner.specs.declared.fault.PlanFault.{PlanFault}
 use Rattle.planner.specs.declared.fault.PlanFault.TheVariants as plan
+use Rattle.rate_faults.specs.declared.FrameFault.{FrameFault}
+use Rattle.rate_faults.specs.declared.FrameFault.TheVariants as frame
 use Rattle.statuses.specs.declared.status.ImageFault.TheVariants.{File}
 use Rattle.statuses.specs.declared.status.Status.{Status}
-use Rattle.statuses.specs.declared.status.Status.TheVariants.{Memory, FrontEnd, Path, Image}
+use Rattle.statuses.specs.declared.status.Status.TheVariants.{Memory, FrontEnd, Path, Image, Net, Frame}
 use Rattle.statuses.specs.declared.status.Status.TheVariants as status
 use Rattle.statuses.specs.declared.status.UnitRefusal.TheVariants.{NoUnit, NoRoute, TooWide, NoRam, NoAcu}
 use Rattle.unit_assign.specs.declared.fault.UnitFault.TheVariants as unit
@@ -44,3 +48,13 @@ of_plan plan.Memory = Memory
 abbrev pub of_form : FormFault → Status
 of_form form.Memory = Memory
 of_form fault = Image (File fault)
+
+-- the status where a net is not run
+abbrev pub of_net : NetFault → Status
+of_net net.Memory = Memory
+of_net fault = Net fault
+
+-- the status where a program has no frames
+abbrev pub of_frame : FrameFault → Status
+of_frame frame.Memory = Memory
+of_frame fault = Frame fault

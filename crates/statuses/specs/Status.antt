@@ -4,6 +4,7 @@ use Rattle.statuses.specs.declared.status.Status.{Status}
 use Rattle.statuses.specs.declared.status.Status.TheVariants as status
 use Rattle.statuses.specs.declared.status.Status.TheVariants.{Done, Memory, Words, Desk, FrontEnd, Path}
 use Rattle.statuses.specs.declared.status.Status.TheVariants.{LinesFull, Period, FileFull, Image, Samples, Conflict}
+use Rattle.statuses.specs.declared.status.Status.TheVariants.{Net, Frame}
 
 abbrev pub code_of : Status → ℕ
 code_of Done = 0
@@ -19,3 +20,5 @@ code_of (FileFull unit port node) = 9
 code_of (Image fault) = 10
 code_of (Samples fault) = 11
 code_of (Conflict conflict) = 12
+code_of (Net fault) = 14
+code_of (Frame fault) = 15

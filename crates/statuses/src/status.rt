@@ -1,6 +1,6 @@
 ghost use Rattle.std.specs.Prelude.{◌≡◌, None};
 ghost use Rattle.statuses.specs.Status.{code_of};
-ghost use Rattle.statuses.specs.Faults.{of_front, of_path, of_plan, of_form};
+ghost use Rattle.statuses.specs.Faults.{of_front, of_path, of_plan, of_form, of_net, of_frame};
 ghost use Rattle.planner.specs.declared.fault.PlanFault.TheVariants.{Line as Unstored, Unit as Unbound};
 ghost use Rattle.statuses.specs.declared.status.Status.TheVariants.{Memory, Desk, Conflict as in_conflict};
 
@@ -12,7 +12,9 @@ use equation_eval::EvalFault;
 use micro_file::{CodeFault, FormFault};
 use micro_image::Conflict;
 use microcode_asm::AsmFault;
+use net_core::NetFault;
 use planner::PlanFault;
+use rate_faults::FrameFault;
 use sample_io::RowsFault;
 use source_faults::{FrontError, FrontFault, NamedElement, Rejection};
 use std::alloc::AllocError;
@@ -113,6 +115,12 @@ pub enum Status {
     /// The microcode asks for what the hardware can't do.
     #[error(transparent)]
     Conflict(Conflict),
+    /// The net file describes no net, or its processors' words do not fit one another.
+    #[error(transparent)]
+    Net(NetFault),
+    /// The program has no frames of this form.
+    #[error(transparent)]
+    Frame(FrameFault),
 }
 
 impl From<AllocError> for Status {
@@ -260,6 +268,28 @@ impl From<Conflict> for Status {
     }
 }
 
+impl From<NetFault> for Status {
+    ghost from_gives = { λ fault status. status ≡ of_net fault };
+
+    fn from(fault: NetFault) -> Self {
+        match fault {
+            NetFault::Memory => Status::Memory,
+            fault => Status::Net(fault),
+        }
+    }
+}
+
+impl From<FrameFault> for Status {
+    ghost from_gives = { λ fault status. status ≡ of_frame fault };
+
+    fn from(fault: FrameFault) -> Self {
+        match fault {
+            FrameFault::Memory => Status::Memory,
+            fault => Status::Frame(fault),
+        }
+    }
+}
+
 /// How a command ended, and what of the source or the datapath the error is about.
 #[derive(Drop)]
 pub struct Ending {
@@ -362,5 +392,7 @@ pub fn code(status: &Status) -> u8
         Status::Image(_) => 10,
         Status::Samples(_) => 11,
         Status::Conflict(_) => 12,
+        Status::Net(_) => 14,
+        Status::Frame(_) => 15,
     }
 }
