@@ -1,6 +1,5 @@
 -- Where a source has a plan over a datapath, no refusal is due, so `compile` and `schedule` are done, memory runs out,
--- or
--- faults rise.
+-- or faults rise.
 use Rattle.std.proofs.Common.{◌≡◌, ◌⊎◌, ◌∙◌, ◌^◌, refl, sym, inl, inr, ⊎_elim, length, Ok, Some}
 use Rattle.std.proofs.lemmas.Bool.{le-ltb}
 use Rattle.datapath.specs.Allowed.{IsDatapath}
@@ -17,16 +16,14 @@ use Rattle.silage_syntax.specs.Tree.{Program}
 use Rattle.front_end.proofs.SoundGraph.{program_graph_sound, program_graph_loopless}
 use Rattle.plan_commands.specs.Compile.{IsAnswer}
 use Rattle.plan_commands.specs.Plans.{IsPlanOver, IsPlannable}
-use Rattle.plan_commands.specs.Refusals.{IsRefusal, IsRefused, IsPlanError}
-use Rattle.plan_commands.specs.Schedule.{IsScheduleAnswer}
+use Rattle.plan_commands.specs.Refusals.{IsRefusal, IsRefused, IsErrorOf, IsPlanError}
+use Rattle.plan_commands.specs.Schedule.{IsTextOf, IsPrintAnswerOf, IsScheduleAnswer}
 use Rattle.plan_commands.proofs.PlanAnswers.{fault_for, its_refusal}
 use Rattle.statuses.specs.declared.status.Status.{Status}
-use Rattle.statuses.specs.declared.status.Status.TheVariants.{Done, Memory, Words, Desk, FrontEnd, Path, LinesFull}
-use Rattle.statuses.specs.declared.status.Status.TheVariants.{Period, FileFull, Image, Samples, Conflict}
-use Rattle.statuses.specs.declared.status.Status.TheVariants as status
+use Rattle.statuses.specs.declared.status.Status.TheVariants.{Done, Memory, Desk}
 
 -- a datapath that a file describes has numbers that it may have
-path_allowed : (bytes : Content) (d : Datapath) → IsPathOf bytes d → IsDatapath d
+pub path_allowed : (bytes : Content) (d : Datapath) → IsPathOf bytes d → IsDatapath d
 unfolding path_of
 path_allowed bytes d is = allowed_from_gives is.table (Ok d) (sym at ∙ is_read bytes d is)
   where
@@ -51,22 +48,53 @@ module _ (s d : Content) where
   pub never_refused : IsPlannable s d → (why : Status) → IsRefusal why → IsRefused why s d → ⊥
   never_refused (at, plan, (program, over)) why is h = planned program at plan over why is h
 
-module _ (src datapath : Name) (old new : View) (files : Files) (told : old.files ≡ Some files)
-    (has : IsPlannable (content_of (files src)) (content_of (files datapath))) where
+-- the files are not refused; `Tells` says what a status tells of them
+module _ (Tells : Status → (source datapath : Content) → Type 0) (src datapath : Name) (old new : View)
+    (files : Files) (told : old.files ≡ Some files)
+    (never : (why : Status)
+    → IsRefusal why
+    → Tells why (content_of (files src)) (content_of (files datapath))
+    → ⊥) where
   -- an error before anything is made or printed
   error_is : (error : Status)
-      → IsPlanError src datapath old new error
+      → IsErrorOf IsRefusal Tells src datapath old new error
       → (error ≡ Memory) ⊎ ((error ≡ Desk) × (ReadFaultsRose src old new ⊎ ReadFaultsRose datapath old new))
   error_is error (inl memory) = inl memory.0
   error_is error (inr (inl unread)) = inr (unread.0, unread.1.rose)
-  error_is error (inr (inr refused)) =
-      absurd (never_refused (content_of (files src)) (content_of (files datapath)) has error refused.0
-      (refused.1.why files told))
+  error_is error (inr (inr refused)) = absurd (never error refused.0 (refused.1.why files told))
+
+  module _ (no_src : ReadFaultsRose src old new → ⊥) (no_datapath : ReadFaultsRose datapath old new → ⊥) where
+    pub error_memory : (error : Status) → IsErrorOf IsRefusal Tells src datapath old new error → error ≡ Memory
+    error_memory error h =
+        ⊎_elim (λ memory. memory) (λ desk. absurd (⊎_elim no_src no_datapath desk.1)) (error_is error h)
+
+    ends_in_error : (error : Status)
+        → IsErrorOf IsRefusal Tells src datapath old new error
+        → (error ≡ Done) ⊎ (error ≡ Memory)
+    ends_in_error error h = inr (error_memory error h)
+
+    -- a text of the files is printed
+    pub print_complete : (IsOf : Content → Files → Type 0)
+        → (PrintFaultsRose old new → ⊥)
+        → (answer : Status)
+        → IsPrintAnswerOf IsOf (IsErrorOf IsRefusal Tells src datapath) datapath old new answer
+        → (answer ≡ Done) ⊎ (answer ≡ Memory)
+    print_complete IsOf no_print Done h = inl refl
+    print_complete IsOf no_print Desk (inl h) = ends_in_error Desk h
+    print_complete IsOf no_print Desk (inr cut) = absurd (no_print cut.rose)
+    print_complete IsOf no_print error h = ends_in_error error h
+
+module _ (src datapath : Name) (old new : View) (files : Files) (told : old.files ≡ Some files)
+    (has : IsPlannable (content_of (files src)) (content_of (files datapath))) where
+  never : (why : Status)
+      → IsRefusal why
+      → IsRefused why (content_of (files src)) (content_of (files datapath))
+      → ⊥
+  never = never_refused (content_of (files src)) (content_of (files datapath)) has
 
   module _ (no_src : ReadFaultsRose src old new → ⊥) (no_datapath : ReadFaultsRose datapath old new → ⊥) where
     pub plan_memory : (error : Status) → IsPlanError src datapath old new error → error ≡ Memory
-    plan_memory error h =
-        ⊎_elim (λ memory. memory) (λ desk. absurd (⊎_elim no_src no_datapath desk.1)) (error_is error h)
+    plan_memory = error_memory IsRefused src datapath old new files told never no_src no_datapath
 
     ends : (error : Status) → IsPlanError src datapath old new error → (error ≡ Done) ⊎ (error ≡ Memory)
     ends error h = inr (plan_memory error h)
@@ -79,33 +107,11 @@ module _ (src datapath : Name) (old new : View) (files : Files) (told : old.file
     compile_complete out no_out Done h = inl refl
     compile_complete out no_out Desk (inl h) = ends Desk h
     compile_complete out no_out Desk (inr cut) = absurd (no_out cut.written.rose)
-    compile_complete out no_out Memory h = ends Memory h
-    compile_complete out no_out Words h = ends Words h
-    compile_complete out no_out (FrontEnd fault) h = ends (FrontEnd fault) h
-    compile_complete out no_out (Path fault) h = ends (Path fault) h
-    compile_complete out no_out (status.Unit refusal) h = ends (status.Unit refusal) h
-    compile_complete out no_out (LinesFull v) h = ends (LinesFull v) h
-    compile_complete out no_out (Period v) h = ends (Period v) h
-    compile_complete out no_out (FileFull u port v) h = ends (FileFull u port v) h
-    compile_complete out no_out (Image fault) h = ends (Image fault) h
-    compile_complete out no_out (Samples fault) h = ends (Samples fault) h
-    compile_complete out no_out (Conflict conflict) h = ends (Conflict conflict) h
+    compile_complete out no_out error h = ends error h
 
     pub schedule_complete : (PrintFaultsRose old new → ⊥)
         → (answer : Status)
         → IsScheduleAnswer src datapath old new answer
         → (answer ≡ Done) ⊎ (answer ≡ Memory)
-    schedule_complete no_print Done h = inl refl
-    schedule_complete no_print Desk (inl h) = ends Desk h
-    schedule_complete no_print Desk (inr cut) = absurd (no_print cut.rose)
-    schedule_complete no_print Memory h = ends Memory h
-    schedule_complete no_print Words h = ends Words h
-    schedule_complete no_print (FrontEnd fault) h = ends (FrontEnd fault) h
-    schedule_complete no_print (Path fault) h = ends (Path fault) h
-    schedule_complete no_print (status.Unit refusal) h = ends (status.Unit refusal) h
-    schedule_complete no_print (LinesFull v) h = ends (LinesFull v) h
-    schedule_complete no_print (Period v) h = ends (Period v) h
-    schedule_complete no_print (FileFull u port v) h = ends (FileFull u port v) h
-    schedule_complete no_print (Image fault) h = ends (Image fault) h
-    schedule_complete no_print (Samples fault) h = ends (Samples fault) h
-    schedule_complete no_print (Conflict conflict) h = ends (Conflict conflict) h
+    schedule_complete =
+        print_complete IsRefused src datapath old new files told never no_src no_datapath (IsTextOf src datapath)

@@ -6,12 +6,10 @@ use Rattle.desk_core.proofs.DeskLemmas.{specified_from}
 use Rattle.plan_commands.specs.Compile.{IsDone, IsCompileDone, IsCutShort, IsAnswer}
 use Rattle.silc_files.specs.Endings.{IsNotWritten, IsFinished}
 use Rattle.silc_files.specs.Limits.{text_limit}
-use Rattle.plan_commands.specs.Refusals.{IsPlanError}
+use Rattle.plan_commands.specs.Refusals.{IsRefusal, IsRefused, IsPlanError}
 use Rattle.plan_commands.specs.Compiling.{IsMade}
 use Rattle.statuses.specs.declared.status.Status.{Status}
-use Rattle.statuses.specs.declared.status.Status.TheVariants.{Done, Memory, Words, Desk, FrontEnd, Path, LinesFull}
-use Rattle.statuses.specs.declared.status.Status.TheVariants.{Period, FileFull, Image, Samples, Conflict}
-use Rattle.statuses.specs.declared.status.Status.TheVariants as status
+use Rattle.statuses.specs.declared.status.Status.TheVariants.{Done, Desk}
 use Rattle.silc_files.proofs.Endings.{specified_still, finished_still, not_written_still}
 use Rattle.plan_commands.proofs.Errors.{error_still}
 
@@ -58,7 +56,7 @@ module _ (src datapath out : Name) (old mid new : View) (same : IsUnchanged mid 
   }
 
   still : (status : Status) → IsPlanError src datapath old mid status → IsPlanError src datapath old new status
-  still = error_still src datapath old mid new same later before
+  still = error_still IsRefusal IsRefused src datapath old mid new same later before
 
   pub reported : (status : Status) → IsAnswer src datapath out old mid status → IsAnswer src datapath out old new status
   reported Done h = record {
@@ -68,14 +66,4 @@ module _ (src datapath out : Name) (old mid new : View) (same : IsUnchanged mid 
     put = specified_still old mid new same (IsPut out h.microcode) h.put;
   }
   reported Desk h = ⊎_elim (λ early. inl (still Desk early)) (λ late. inr (cut_short_still late)) h
-  reported Memory h = still Memory h
-  reported Words h = still Words h
-  reported (FrontEnd fault) h = still (FrontEnd fault) h
-  reported (Path fault) h = still (Path fault) h
-  reported (status.Unit refusal) h = still (status.Unit refusal) h
-  reported (LinesFull node) h = still (LinesFull node) h
-  reported (Period node) h = still (Period node) h
-  reported (FileFull unit port node) h = still (FileFull unit port node) h
-  reported (Image fault) h = still (Image fault) h
-  reported (Samples fault) h = still (Samples fault) h
-  reported (Conflict conflict) h = still (Conflict conflict) h
+  reported error h = still error h

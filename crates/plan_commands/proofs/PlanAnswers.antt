@@ -1,7 +1,6 @@
 -- What the source and the datapath have is what the call of a plan answers, unless memory runs out.
 use Rattle.std.proofs.Common.{◌≡◌, refl, sym, subst, ap, ◌∙◌, inl, inr, ⊎_elim, ◌⊎◌, Result, Ok, Err}
-use Rattle.std.specs.Prelude.{IsErrAnd, IfErr}
-use Rattle.std.proofs.lemmas.Result.{err_from_is_err_and}
+use Rattle.std.specs.Prelude.{IsErrAnd}
 use Rattle.datapath.specs.Described.{IsPathOf}
 use Rattle.datapath.specs.PathRules.{IsPathFault}
 use Rattle.datapath.specs.declared.fault.PathFault.{PathFault}
@@ -25,17 +24,18 @@ use Rattle.planner.specs.declared.fault.PlanFault.TheVariants as plan
 use Rattle.delay_memory.specs.declared.fault.LineFault.TheVariants as line
 use Rattle.signal_graph.specs.declared.graph.Graph.{Graph}
 use Rattle.silage_syntax.specs.Tree.{Program}
-use Rattle.plan_commands.specs.Plans.{HasPlan, IsUnplanned, IsUnplannedOver, fault_of}
+use Rattle.plan_commands.specs.Plans.{HasPlan, IsUnplanned, IsUnplannedBy, fault_of}
 use Rattle.plan_commands.proofs.Plans.{file_fault}
 use Rattle.plan_commands.specs.PlanOf.{AnswersPlan, AnswersRefusal}
-use Rattle.plan_commands.specs.Refusals.{IsOfPath, IsRefusal, IsRefused, IsNoPlan}
+use Rattle.plan_commands.specs.Refusals.{IsOfPath, IsRefusal, IsRefusedBy, IsRefused, IsNoPlan}
 use Rattle.silc_files.specs.Sources.{IsAcceptedSource}
+use Rattle.silc_files.proofs.Results.{error_is}
 use Rattle.plan_commands.specs.Planning.{TellsWhy}
 use Rattle.statuses.specs.Faults.{of_front, of_path, of_plan}
 use Rattle.plan_commands.specs.declared.planning.Planned.{Planned}
 use Rattle.statuses.specs.declared.status.Status.{Status}
-use Rattle.statuses.specs.declared.status.Status.TheVariants.{Done, Memory, Words, Desk, FrontEnd, Path, LinesFull}
-use Rattle.statuses.specs.declared.status.Status.TheVariants.{Period, FileFull, Image, Samples, Conflict}
+use Rattle.statuses.specs.declared.status.Status.TheVariants.{Memory, FrontEnd, Path, LinesFull}
+use Rattle.statuses.specs.declared.status.Status.TheVariants.{Period, FileFull}
 use Rattle.statuses.specs.declared.status.Status.TheVariants as status
 use Rattle.statuses.specs.declared.status.UnitRefusal.{UnitRefusal}
 use Rattle.statuses.specs.declared.status.UnitRefusal.TheVariants.{NoUnit, NoRoute, TooWide, NoRam, NoAcu}
@@ -57,15 +57,7 @@ module _ (g : Graph) (d : Datapath) where
   fault_for (LinesFull v) h = (plan.Line (line.LinesFull v), h, refl)
   fault_for (Period v) h = (plan.Period v, h, refl)
   fault_for (FileFull u port v) h = (plan.FileFull u port v, h, refl)
-  fault_for Done h = absurd h
-  fault_for Memory h = absurd h
-  fault_for Words h = absurd h
-  fault_for Desk h = absurd h
-  fault_for (FrontEnd fault) h = absurd h
-  fault_for (Path fault) h = absurd h
-  fault_for (Image fault) h = absurd h
-  fault_for (Samples fault) h = absurd h
-  fault_for (Conflict conflict) h = absurd h
+  fault_for other h = absurd h
 
 -- what the planner answers is what the graph has
 module _ (g : Graph) (d : Datapath) (answer : Result Plan PlanFault)
@@ -117,15 +109,12 @@ module _ (g : Graph) (d : Datapath) (answer : Result Plan PlanFault)
       let (fault, is_fault, again) = fault_for g d why has in
       ⊎_elim (λ e. good p fault is e) (λ e. good p plan.Memory is e) (refused fault is_fault)
 
-module _ (s d : Content) where
-  abbrev no_path : PathFault → Result Datapath PathFault
-  no_path fault = Err fault
-
-  -- why there is no plan: the source has a fault, the file describes no datapath, or the graph has no plan
+-- why there is no plan: the source has a fault, the file describes no datapath, or the graph has no plan
+module _ (IsWhy : Status → Graph → Datapath → Type 0) (s d : Content) where
   data Cause (why : Status) : Type 0 where
     of_source : (fault : FrontFault) → IsFrontFault s fault → why ≡ FrontEnd fault → Cause why
     of_datapath : (fault : PathFault) → IsAcceptedSource s → IsPathFault d fault → why ≡ of_path fault → Cause why
-    of_graph : IsUnplannedOver why s d → Cause why
+    of_graph : IsUnplannedBy IsProgramGraph IsWhy why s d → Cause why
 
   same_status : (fault : PathFault) → IsOfPath fault → Path fault ≡ of_path fault
   same_status path.Memory h = absurd h
@@ -139,20 +128,54 @@ module _ (s d : Content) where
   same_status (path.UnknownPort section) h = refl
   same_status (path.Twice section) h = refl
 
-  cause : (why : Status) → IsRefusal why → IsRefused why s d → Cause why
+  cause : (why : Status) → IsRefusal why → IsRefusedBy (IsUnplannedBy IsProgramGraph IsWhy) why s d → Cause why
   cause (FrontEnd fault) is h = of_source fault h refl
   cause (Path fault) is h = of_datapath fault h.0 h.1 (same_status fault is)
   cause (status.Unit refusal) is h = of_graph h
   cause (LinesFull v) is h = of_graph h
   cause (Period v) is h = of_graph h
   cause (FileFull u port v) is h = of_graph h
-  cause Done is h = absurd is
-  cause Memory is h = absurd is
-  cause Words is h = absurd is
-  cause Desk is h = absurd is
-  cause (Image fault) is h = absurd is
-  cause (Samples fault) is h = absurd is
-  cause (Conflict conflict) is h = absurd is
+  cause other is h = absurd is
+
+-- the program has this graph, and the file describes this datapath
+module _ (s d : Content) (program : Program) (read : HasProgram s program) (g : Graph)
+    (graph_of : IsProgramGraph program g) (at : Datapath) (described : IsPathOf d at) where
+  same_path : (other : Datapath) → IsPathOf d other → other ≡ at
+  same_path other its = one_path d other at its described
+
+  same_graph : (other : Program) → HasProgram s other → (h : Graph) → IsProgramGraph other h → h ≡ g
+  same_graph other has h its =
+      program_graph_once s program read h g
+      (subst (λ (p : Program). IsProgramGraph p h) (one_program s program other read has) its) graph_of
+
+  pub its_plan : (other : Datapath) (p : Plan) → HasPlan s d other p → (at ≡ other) × IsPlan g at p
+  its_plan other p (q, has) = (
+    sym (same_path other has.described),
+    subst (λ (z : Datapath). IsPlan g z p) (same_path other has.described)
+        (subst (λ (h : Graph). IsPlan h other p) (same_graph q has.read has.graph has.graph_of) has.planned),
+  )
+
+  pub refusal_by : (IsWhy : Status → Graph → Datapath → Type 0) (why : Status)
+      → IsRefusal why
+      → IsRefusedBy (IsUnplannedBy IsProgramGraph IsWhy) why s d
+      → IsWhy why g at
+  refusal_by IsWhy why is h = by (cause IsWhy s d why is h)
+    where
+      by : Cause IsWhy s d why → IsWhy why g at
+      by (of_source f has e) = absurd (no_fault s program read f has)
+      by (of_datapath f accepted is_f e) =
+          absurd (let both : Ok at ≡ Err f = sym (is_read d at described) ∙ first_read d f is_f in cc)
+      by (of_graph over) =
+          subst (λ (z : Datapath). IsWhy why g z) (same_path over.path over.described)
+          (subst (λ (h : Graph). IsWhy why h over.path)
+          (same_graph over.program over.read over.graph over.graph_of) over.unplanned)
+
+  pub its_refusal : (why : Status) → IsRefusal why → IsRefused why s d → IsUnplanned why g at
+  its_refusal = refusal_by IsUnplanned
+
+module _ (s d : Content) where
+  abbrev no_path : PathFault → Result Datapath PathFault
+  no_path fault = Err fault
 
   -- the source was refused
   module _ (error : FrontError) (status : Status) (told : status ≡ of_front error)
@@ -165,9 +188,9 @@ module _ (s d : Content) where
     source_plan at p (program, has) = memory program has.read
 
     pub source_refusal : (why : Status) → IsRefusal why → IsRefused why s d → (status ≡ why) ⊎ (status ≡ Memory)
-    source_refusal why is h = by (cause why is h)
+    source_refusal why is h = by (cause IsUnplanned s d why is h)
       where
-        by : Cause why → (status ≡ why) ⊎ (status ≡ Memory)
+        by : Cause IsUnplanned s d why → (status ≡ why) ⊎ (status ≡ Memory)
         by (of_source fault has e) =
             ⊎_elim (λ same. inl (told ∙ ap of_front same ∙ sym e)) (λ none. inr (told ∙ ap of_front none))
             (each_fault fault has)
@@ -192,50 +215,22 @@ module _ (s d : Content) where
       datapath_plan at p (other, has) = no_datapath at has.described
 
       pub datapath_refusal : (why : Status) → IsRefusal why → IsRefused why s d → (status ≡ why) ⊎ (status ≡ Memory)
-      datapath_refusal why is h = by (cause why is h)
+      datapath_refusal why is h = by (cause IsUnplanned s d why is h)
         where
-          by : Cause why → (status ≡ why) ⊎ (status ≡ Memory)
+          by : Cause IsUnplanned s d why → (status ≡ why) ⊎ (status ≡ Memory)
           by (of_source f has e) = absurd (no_fault s program read f has)
           by (of_datapath f accepted has e) =
               ⊎_elim (λ same. inl (tells f same ∙ sym e)) (λ none. inr (tells path.Memory none)) (refused f has)
           by (of_graph over) = inr (no_datapath over.path over.described)
 
-    -- the program has this graph, and the file describes this datapath
-    module _ (g : Graph) (graph_of : IsProgramGraph program g) (at : Datapath) (described : IsPathOf d at) where
-      same_path : (other : Datapath) → IsPathOf d other → other ≡ at
-      same_path other its = one_path d other at its described
-
-      same_graph : (other : Program) → HasProgram s other → (h : Graph) → IsProgramGraph other h → h ≡ g
-      same_graph other has h its =
-          program_graph_once s program read h g
-          (subst (λ (p : Program). IsProgramGraph p h) (one_program s program other read has) its) graph_of
-
-      pub its_plan : (other : Datapath) (p : Plan) → HasPlan s d other p → (at ≡ other) × IsPlan g at p
-      its_plan other p (q, has) = (
-        sym (same_path other has.described),
-        subst (λ (z : Datapath). IsPlan g z p) (same_path other has.described)
-            (subst (λ (h : Graph). IsPlan h other p) (same_graph q has.read has.graph has.graph_of) has.planned),
-      )
-
-      pub its_refusal : (why : Status) → IsRefusal why → IsRefused why s d → IsUnplanned why g at
-      its_refusal why is h = by (cause why is h)
-        where
-          by : Cause why → IsUnplanned why g at
-          by (of_source f has e) = absurd (no_fault s program read f has)
-          by (of_datapath f accepted is_f e) =
-              absurd (let both : Ok at ≡ Err f = sym (is_read d at described) ∙ first_read d f is_f in cc)
-          by (of_graph over) =
-              subst (λ (z : Datapath). IsUnplanned why g z) (same_path over.path over.described)
-              (subst (λ (h : Graph). IsUnplanned why h over.path)
-              (same_graph over.program over.read over.graph over.graph_of) over.unplanned)
-
 -- where the call answers an error
-module _ {A : Type 0} (r : Result A Status) (told : Status) (is : IsErrAnd r (λ (status : Status). status ≡ told)) where
-  error_is : (s : Status) → told ≡ s → r ≡ Err s
-  error_is s e = let x = err_from_is_err_and r is in x.1 ∙ ap (λ (status : Status). Err status) (x.2 ∙ e)
-
-  either_is : (why : Status) → (told ≡ why) ⊎ (told ≡ Memory) → (r ≡ Err why) ⊎ (r ≡ Err Memory)
-  either_is why h = ⊎_elim (λ e. inl (error_is why e)) (λ e. inr (error_is Memory e)) h
+either_is : {A : Type 0} (r : Result A Status) (told : Status)
+    → IsErrAnd r (λ (status : Status). status ≡ told)
+    → (why : Status)
+    → (told ≡ why) ⊎ (told ≡ Memory)
+    → (r ≡ Err why) ⊎ (r ≡ Err Memory)
+either_is r told is why =
+    ⊎_elim (λ e. inl (error_is r told is why e)) (λ e. inr (error_is r told is Memory e))
 
 pub no_plan : (r : Result Planned Status) (told : Status)
     → IsErrAnd r (λ (status : Status). status ≡ told)
@@ -262,13 +257,6 @@ pub tells_why : (r : Result Plan Status) (told : Status)
 tells_why r told is why h =
     ⊎_elim (λ e. subst (λ (x : Result Plan Status). TellsWhy why x) (sym e) (inl refl))
     (λ e. subst (λ (x : Result Plan Status). TellsWhy why x) (sym e) (inr refl)) (either_is r told is why h)
-
-pub at_error : {A : Type 0} (r : Result A Status) (told : Status)
-    → IsErrAnd r (λ (status : Status). status ≡ told)
-    → (P : Status → Type 0)
-    → P told
-    → IfErr r P
-at_error {A} r told is P h = subst (λ (x : Result A Status). IfErr x P) (sym (error_is r told is told refl)) h
 
 -- the fault of a file, or no memory, is why a source with a program has no plan
 pub no_path_plan : (s d : Content) (program : Program)

@@ -18,10 +18,11 @@ use Rattle.silage_syntax.specs.Tree.{Program}
 use Rattle.source_faults.specs.Faults.{HasProgram}
 use Rattle.front_end.specs.GraphOf.{IsProgramGraph}
 use Rattle.front_end.proofs.OneAnswer.{one_program}
-use Rattle.plan_commands.specs.Plans.{IsPlannedOver, IsUnplanned, IsUnplannedOver}
-use Rattle.plan_commands.specs.Refusals.{IsRefusal, IsRefused}
+use Rattle.plan_commands.specs.Plans.{IsPlannedOver, IsPlannedOverBy, IsUnplanned, IsUnplannedBy}
+use Rattle.plan_commands.specs.Refusals.{IsRefusal, IsRefusedBy}
 use Rattle.loop_expand.specs.GraphFor.{IsGraphFor}
-use Rattle.plan_commands.specs.Planning.{IsSourceIn, IsPathIn, IsNoPath, IsWithoutPlan, IsInputPlan, IsNoInputPlan}
+use Rattle.plan_commands.specs.Planning.{IsSourceIn, IsPathIn, IsNoPath, IsWithoutPlanBy, IsInputPlan, IsInputPlanBy}
+use Rattle.plan_commands.specs.Planning.{IsNoInputPlanOf}
 use Rattle.silc_files.specs.Reading.{IsInput}
 use Rattle.statuses.specs.Faults.{of_path}
 use Rattle.silc_files.specs.declared.files.Input.{Input}
@@ -29,8 +30,8 @@ use Rattle.silc_files.specs.declared.files.Input.TheVariants.{Whole, TooLong}
 use Rattle.plan_commands.specs.declared.planning.Planned.{Planned}
 use Rattle.statuses.specs.declared.status.Ending.{Ending}
 use Rattle.statuses.specs.declared.status.Status.{Status}
-use Rattle.statuses.specs.declared.status.Status.TheVariants.{Done, Memory, Words, Desk, FrontEnd, Path, LinesFull}
-use Rattle.statuses.specs.declared.status.Status.TheVariants.{Period, FileFull, Image, Samples, Conflict}
+use Rattle.statuses.specs.declared.status.Status.TheVariants.{Memory, Path, LinesFull}
+use Rattle.statuses.specs.declared.status.Status.TheVariants.{Period, FileFull}
 use Rattle.statuses.specs.declared.status.Status.TheVariants as status
 
 refused_whole : (d : Content) → IsInput d TooLong → path_of d ≡ Err path.TooLong
@@ -69,96 +70,122 @@ path_error d (path.UnknownUnit s) h = (tt, its d (path.UnknownUnit s) h (λ e. c
 path_error d (path.UnknownPort s) h = (tt, its d (path.UnknownPort s) h (λ e. cc))
 path_error d (path.Twice s) h = (tt, its d (path.Twice s) h (λ e. cc))
 
--- the status tells why a source has no plan, whatever the source and the datapath are
-refusal : (g : Graph) (path : Datapath) (status : Status) → IsUnplanned status g path → IsRefusal status
-refusal g path (status.Unit reason) h = tt
-refusal g path (LinesFull node) h = tt
-refusal g path (Period node) h = tt
-refusal g path (FileFull u port node) h = tt
-refusal g path Done h = absurd h
-refusal g path Memory h = absurd h
-refusal g path Words h = absurd h
-refusal g path Desk h = absurd h
-refusal g path (FrontEnd fault) h = absurd h
-refusal g path (Path fault) h = absurd h
-refusal g path (Image fault) h = absurd h
-refusal g path (Samples fault) h = absurd h
-refusal g path (Conflict conflict) h = absurd h
+-- the status tells why a graph has no plan, whatever the graph and the datapath are
+abbrev pub IsOfGraph : Status → Type 0
+IsOfGraph (status.Unit reason) = Unit {0}
+IsOfGraph (LinesFull node) = Unit {0}
+IsOfGraph (Period node) = Unit {0}
+IsOfGraph (FileFull u port node) = Unit {0}
+IsOfGraph _ = ⊥
+
+pub of_graph : (g : Graph) (path : Datapath) (status : Status) → IsUnplanned status g path → IsOfGraph status
+of_graph g path (status.Unit reason) h = tt
+of_graph g path (LinesFull node) h = tt
+of_graph g path (Period node) h = tt
+of_graph g path (FileFull u port node) h = tt
+of_graph g path other h = absurd h
+
+refusal : (status : Status) → IsOfGraph status → IsRefusal status
+refusal (status.Unit reason) h = tt
+refusal (LinesFull node) h = tt
+refusal (Period node) h = tt
+refusal (FileFull u port node) h = tt
+refusal other h = absurd h
 
 -- what a source with a program has over a datapath
 module _ (s d : Content) (program : Program) (read : HasProgram s program) (g : Graph)
     (graph_of : IsProgramGraph program g) (path : Datapath) (described : IsPathOf d path) where
-  pub planned_over : (plan : Plan) → IsPlan g path plan → IsPlannedOver s d program path plan
-  planned_over plan is = record {
+  pub planned_by : {P : Type 0} (IsPlanOf : Graph → Datapath → P → Type 0) (plan : P)
+      → IsPlanOf g path plan
+      → IsPlannedOverBy IsProgramGraph IsPlanOf s d program path plan
+  planned_by IsPlanOf plan is = record {
     has = record { read = read; described = described; graph = g; graph_of = graph_of; planned = is };
     unique = λ other its. one_program s program other read its;
   }
 
-  unplanned_over : (status : Status) → IsUnplanned status g path → IsUnplannedOver status s d
-  unplanned_over status is =
-      record {
-        program = program;
-        read = read;
-        graph = g;
-        graph_of = graph_of;
-        path = path;
-        described = described;
-        unplanned = is;
-      }
+  pub planned_over : (plan : Plan) → IsPlan g path plan → IsPlannedOver s d program path plan
+  planned_over = planned_by IsPlan
 
-  pub refused : (status : Status) → IsUnplanned status g path → IsRefused status s d
-  refused (status.Unit refusal) h = unplanned_over (status.Unit refusal) h
-  refused (LinesFull node) h = unplanned_over (LinesFull node) h
-  refused (Period node) h = unplanned_over (Period node) h
-  refused (FileFull u port node) h = unplanned_over (FileFull u port node) h
-  refused Done h = absurd h
-  refused Memory h = absurd h
-  refused Words h = absurd h
-  refused Desk h = absurd h
-  refused (FrontEnd fault) h = absurd h
-  refused (Path fault) h = absurd h
-  refused (Image fault) h = absurd h
-  refused (Samples fault) h = absurd h
-  refused (Conflict conflict) h = absurd h
+  module _ (IsWhy : Status → Graph → Datapath → Type 0) where
+    unplanned_over : (status : Status) → IsWhy status g path → IsUnplannedBy IsProgramGraph IsWhy status s d
+    unplanned_over status is =
+        record {
+          program = program;
+          read = read;
+          graph = g;
+          graph_of = graph_of;
+          path = path;
+          described = described;
+          unplanned = is;
+        }
 
--- why the file describes no datapath is why the inputs have no plan
-pub no_path : (source datapath : Input) (program : Program) (g : Graph)
-    → IsSourceIn source program g
-    → (status : Status)
-    → IsNoPath datapath status
-    → IsNoInputPlan source datapath status
-no_path source datapath program g has Memory h = inl refl
-no_path source datapath program g has (Path fault) h = inr (h.0, λ s d hs hd. ((program, (has s hs).read), h.1 d hd))
-no_path source datapath program g has Done h = absurd h
-no_path source datapath program g has Words h = absurd h
-no_path source datapath program g has Desk h = absurd h
-no_path source datapath program g has (FrontEnd fault) h = absurd h
-no_path source datapath program g has (status.Unit reason) h = absurd h
-no_path source datapath program g has (LinesFull node) h = absurd h
-no_path source datapath program g has (Period node) h = absurd h
-no_path source datapath program g has (FileFull u port node) h = absurd h
-no_path source datapath program g has (Image fault) h = absurd h
-no_path source datapath program g has (Samples fault) h = absurd h
-no_path source datapath program g has (Conflict conflict) h = absurd h
+    pub refused : (status : Status)
+        → IsOfGraph status
+        → IsWhy status g path
+        → IsRefusedBy (IsUnplannedBy IsProgramGraph IsWhy) status s d
+    refused (status.Unit refusal) of h = unplanned_over (status.Unit refusal) h
+    refused (LinesFull node) of h = unplanned_over (LinesFull node) h
+    refused (Period node) of h = unplanned_over (Period node) h
+    refused (FileFull u port node) of h = unplanned_over (FileFull u port node) h
+    refused other of h = absurd of
 
--- why the graph has no plan is why the inputs have none
-pub no_input_plan : (source datapath : Input) (program : Program) (g : Graph)
-    → IsSourceIn source program g
-    → (path : Datapath)
-    → IsPathIn datapath path
-    → (status : Status)
-    → IsWithoutPlan g path status
-    → IsNoInputPlan source datapath status
-no_input_plan source datapath program g has path is_path status h =
-    ⊎_elim (λ memory. inl memory)
-    (λ is.
-    inr (
-      refusal g path status is,
-      λ s d hs hd. refused s d program (has s hs).read g (has s hs).graph path (is_path d hd) status is,
-    ))
-    h
+-- why inputs have no plan; `IsWhy` says which statuses tell that a graph has none
+module _ (IsWhy : Status → Graph → Datapath → Type 0) where
+  abbrev pub IsNoInputPlanBy : Input → Input → Status → Type 0
+  IsNoInputPlanBy = IsNoInputPlanOf IsRefusal (IsRefusedBy (IsUnplannedBy IsProgramGraph IsWhy))
+
+  -- why the file describes no datapath is why the inputs have no plan
+  pub no_path : (source datapath : Input) (program : Program) (g : Graph)
+      → IsSourceIn source program g
+      → (status : Status)
+      → IsNoPath datapath status
+      → IsNoInputPlanBy source datapath status
+  no_path source datapath program g has Memory h = inl refl
+  no_path source datapath program g has (Path fault) h =
+      inr (h.0, λ s d hs hd. ((program, (has s hs).read), h.1 d hd))
+  no_path source datapath program g has other h = absurd h
+
+  -- why the graph has no plan is why the inputs have none
+  pub no_input_plan : (source datapath : Input) (program : Program) (g : Graph)
+      → IsSourceIn source program g
+      → (path : Datapath)
+      → IsPathIn datapath path
+      → ((status : Status) → IsWhy status g path → IsOfGraph status)
+      → (status : Status)
+      → IsWithoutPlanBy IsWhy g path status
+      → IsNoInputPlanBy source datapath status
+  no_input_plan source datapath program g has path is_path of status h =
+      ⊎_elim (λ memory. inl memory)
+      (λ is.
+      inr (
+        refusal status (of status is),
+        λ s d hs hd.
+            refused s d program (has s hs).read g (has s hs).graph path (is_path d hd) IsWhy status (of status is) is,
+      ))
+      h
 
 -- the plan of the graph is that of the inputs
+pub input_plan_by :
+    {P : Type 0} (IsPlanOf : Graph → Datapath → P → Type 0) (source datapath : Input) (program : Program) (g : Graph)
+    → IsSourceIn source program g
+    → IsGraphFor program g
+    → (d : Datapath)
+    → IsPathIn datapath d
+    → IsDatapath d
+    → (path : Datapath) (plan : P)
+    → path ≡ d
+    → IsPlanOf g d plan
+    → IsInputPlanBy IsPlanOf source datapath path plan
+input_plan_by IsPlanOf source datapath program g has keeps d is_path allowed path plan same is = record {
+  program = program;
+  graph = g;
+  source_is = has;
+  keeps = keeps;
+  path_is = subst (IsPathIn datapath) (sym same) is_path;
+  allowed = subst IsDatapath (sym same) allowed;
+  plan = subst (λ (z : Datapath). IsPlanOf g z plan) (sym same) is;
+}
+
 pub input_plan : (source datapath : Input) (program : Program) (g : Graph)
     → IsSourceIn source program g
     → IsGraphFor program g
@@ -169,13 +196,6 @@ pub input_plan : (source datapath : Input) (program : Program) (g : Graph)
     → IfOk r (λ (planned : Planned). planned.path ≡ d)
     → IfOk r (λ (planned : Planned). IsPlan g d planned.plan)
     → IfOk r (IsInputPlan source datapath)
-input_plan source datapath program g has keeps d is_path allowed (Ok planned) same plan = record {
-  program = program;
-  graph = g;
-  source_is = has;
-  keeps = keeps;
-  path_is = subst (IsPathIn datapath) (sym same) is_path;
-  allowed = subst IsDatapath (sym same) allowed;
-  plan = subst (λ (z : Datapath). IsPlan g z planned.plan) (sym same) plan;
-}
+input_plan source datapath program g has keeps d is_path allowed (Ok planned) same plan =
+    input_plan_by IsPlan source datapath program g has keeps d is_path allowed planned.path planned.plan same plan
 input_plan source datapath program g has keeps d is_path allowed (Err e) same plan = tt

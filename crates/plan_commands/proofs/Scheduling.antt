@@ -1,30 +1,28 @@
--- How the parts of `schedule` make up its answer.
+-- How the parts of `schedule` make up its answer, and those of any command that prints a text of its files.
 use Rattle.std.proofs.Common.{sym, ap, ◌∙◌, inl, inr, ⊎_elim, Bool}
-use Rattle.desk_core.specs.View.{Name, Content, View}
+use Rattle.desk_core.specs.View.{Name, Content, Files, View}
 use Rattle.desk_core.specs.Desk.{FaultsNeverFall, IfSpecified, IsUnchanged, PrintFaultsRose}
 use Rattle.desk_core.specs.Whole.{IsReadThrough}
 use Rattle.desk_core.proofs.DeskLemmas.{rose_later, rose_earlier}
 use Rattle.desk_core.proofs.WholeLemmas.{through_stays}
 use Rattle.silc_files.specs.Limits.{text_limit}
-use Rattle.plan_commands.specs.Refusals.{IsPlanError}
-use Rattle.plan_commands.specs.Schedule.{IsPrintCutShort, IsScheduleAnswer}
-use Rattle.silc_files.specs.Printing.{IsPrintedMore, IsPrintedInPart, PrintsOnly, ChangesNoFile}
-use Rattle.plan_commands.specs.Private.Scheduling.{IsMadeSchedule}
+use Rattle.plan_commands.specs.Refusals.{IsRefusal, IsRefused, IsPlanError}
+use Rattle.plan_commands.specs.Schedule.{IsTextOf, IsPrintCutShortOf, IsPrintAnswerOf, IsScheduleAnswer}
+use Rattle.silc_files.specs.Printing.{IsPrintedMore, IsPrintedInPart, PrintsOnly}
+use Rattle.plan_commands.specs.Private.Scheduling.{IsMadeText}
 use Rattle.silc_files.specs.Reading.{OnlyReads}
 use Rattle.statuses.specs.declared.status.Status.{Status}
-use Rattle.statuses.specs.declared.status.Status.TheVariants.{Done, Memory, Words, Desk, FrontEnd, Path, LinesFull}
-use Rattle.statuses.specs.declared.status.Status.TheVariants.{Period, FileFull, Image, Samples, Conflict}
-use Rattle.statuses.specs.declared.status.Status.TheVariants as status
-use Rattle.silc_files.proofs.Endings.{through_still}
+use Rattle.statuses.specs.declared.status.Status.TheVariants.{Done, Desk}
+use Rattle.silc_files.proofs.Endings.{through_still, printed_still}
 use Rattle.plan_commands.proofs.Errors.{error_still}
 
 -- the text was made, and then printed
-module _ (src datapath : Name) (old mid new : View) (text : Content) (reads : OnlyReads src datapath old mid)
-    (prints : PrintsOnly mid new) where
-  through : IsMadeSchedule src datapath old mid text → IsReadThrough datapath text_limit old new
+module _ (IsOf : Content → Files → Type 0) (last : Name) (IsInput : Name → Type 0) (old mid new : View)
+    (text : Content) (reads : OnlyReads IsInput old mid) (prints : PrintsOnly mid new) where
+  through : IsMadeText IsOf last old mid text → IsReadThrough last text_limit old new
   through made =
-      through_stays datapath text_limit old mid new made.read prints.input prints.place
-      (ap (λ (f : Name → Bool). f datapath) prints.reads)
+      through_stays last text_limit old mid new made.read prints.input prints.place
+      (ap (λ (f : Name → Bool). f last) prints.reads)
 
   since_old : (R : Content → Content → Type 0)
       → IfSpecified R mid.printed new.printed
@@ -32,10 +30,10 @@ module _ (src datapath : Name) (old mid new : View) (text : Content) (reads : On
   since_old R h = λ after is.
       let (before, there, has) = h after is in (before, sym reads.unchanged.printed ∙ there, has)
 
-  pub print_cut_short : IsMadeSchedule src datapath old mid text
+  pub print_cut_short : IsMadeText IsOf last old mid text
       → PrintFaultsRose mid new
       → IfSpecified (IsPrintedInPart text) mid.printed new.printed
-      → IsPrintCutShort src datapath old new
+      → IsPrintCutShortOf IsOf last old new
   print_cut_short made rose printed = record {
     rose = rose_later _ _ _ reads.never_fall.printing rose;
     read = through made;
@@ -45,52 +43,38 @@ module _ (src datapath : Name) (old mid new : View) (text : Content) (reads : On
   }
 
 -- a report of the error leaves the answer as it is
-module _ (src datapath : Name) (old mid new : View) (same : IsUnchanged mid new) (later : FaultsNeverFall mid new)
-    (before : FaultsNeverFall old mid) where
-  pub printed_still : (R : Content → Content → Type 0)
-      → IfSpecified R old.printed mid.printed
-      → IfSpecified R old.printed new.printed
-  printed_still R h = λ after is. h after (sym same.printed ∙ is)
+module _ (IsOf : Content → Files → Type 0) (IsError : View → View → Status → Type 0) (last : Name)
+    (old mid new : View) (same : IsUnchanged mid new) (later : FaultsNeverFall mid new)
+    (before : FaultsNeverFall old mid) (still : (status : Status) → IsError old mid status → IsError old new status)
+  where
+    print_cut_short_still : IsPrintCutShortOf IsOf last old mid → IsPrintCutShortOf IsOf last old new
+    print_cut_short_still h = record {
+      rose = rose_earlier _ _ _ before.printing h.rose later.printing;
+      read = through_still old mid new same last text_limit h.read;
+      text = h.text;
+      is_text = h.is_text;
+      printed = printed_still old mid new same (IsPrintedInPart h.text) h.printed;
+    }
 
-  print_cut_short_still : IsPrintCutShort src datapath old mid → IsPrintCutShort src datapath old new
-  print_cut_short_still h = record {
-    rose = rose_earlier _ _ _ before.printing h.rose later.printing;
-    read = through_still old mid new same datapath text_limit h.read;
-    text = h.text;
-    is_text = h.is_text;
-    printed = printed_still (IsPrintedInPart h.text) h.printed;
-  }
+    pub print_reported : (status : Status)
+        → IsPrintAnswerOf IsOf IsError last old mid status
+        → IsPrintAnswerOf IsOf IsError last old new status
+    print_reported Done h = record {
+      read = through_still old mid new same last text_limit h.read;
+      text = h.text;
+      is_text = h.is_text;
+      printed = printed_still old mid new same (IsPrintedMore h.text) h.printed;
+    }
+    print_reported Desk h = ⊎_elim (λ early. inl (still Desk early)) (λ late. inr (print_cut_short_still late)) h
+    print_reported error h = still error h
 
-  still : (status : Status) → IsPlanError src datapath old mid status → IsPlanError src datapath old new status
-  still = error_still src datapath old mid new same later before
-
-  pub changes_still : ChangesNoFile src datapath old mid → ChangesNoFile src datapath old new
-  changes_still h = record {
-    files = same.files ∙ h.files;
-    output = same.output ∙ h.output;
-    reads = λ s not_first not_second is.
-        h.reads s not_first not_second (ap (λ (f : Name → Bool). f s) (sym same.reads) ∙ is);
-    writes = same.writes ∙ h.writes;
-  }
-
-  pub schedule_reported : (status : Status)
-      → IsScheduleAnswer src datapath old mid status
-      → IsScheduleAnswer src datapath old new status
-  schedule_reported Done h = record {
-    read = through_still old mid new same datapath text_limit h.read;
-    text = h.text;
-    is_text = h.is_text;
-    printed = printed_still (IsPrintedMore h.text) h.printed;
-  }
-  schedule_reported Desk h = ⊎_elim (λ early. inl (still Desk early)) (λ late. inr (print_cut_short_still late)) h
-  schedule_reported Memory h = still Memory h
-  schedule_reported Words h = still Words h
-  schedule_reported (FrontEnd fault) h = still (FrontEnd fault) h
-  schedule_reported (Path fault) h = still (Path fault) h
-  schedule_reported (status.Unit refusal) h = still (status.Unit refusal) h
-  schedule_reported (LinesFull node) h = still (LinesFull node) h
-  schedule_reported (Period node) h = still (Period node) h
-  schedule_reported (FileFull unit port node) h = still (FileFull unit port node) h
-  schedule_reported (Image fault) h = still (Image fault) h
-  schedule_reported (Samples fault) h = still (Samples fault) h
-  schedule_reported (Conflict conflict) h = still (Conflict conflict) h
+pub schedule_reported : (src datapath : Name) (old mid new : View)
+    → IsUnchanged mid new
+    → FaultsNeverFall mid new
+    → FaultsNeverFall old mid
+    → (status : Status)
+    → IsScheduleAnswer src datapath old mid status
+    → IsScheduleAnswer src datapath old new status
+schedule_reported src datapath old mid new same later before =
+    print_reported (IsTextOf src datapath) (IsPlanError src datapath) datapath old mid new same later before
+    (error_still IsRefusal IsRefused src datapath old mid new same later before)

@@ -19,18 +19,29 @@ use Rattle.statuses.specs.declared.status.UnitRefusal.{UnitRefusal}
 use Rattle.statuses.specs.declared.status.UnitRefusal.TheVariants.{NoUnit, NoRoute, TooWide, NoRam, NoAcu}
 
 -- The source has this program, the file describes this datapath, and the plan is that of the program's graph over the
--- datapath.
-pub record IsPlanOver (source datapath : List ℕ) (program : Program) (d : Datapath) (plan : Plan) : Type 0 where
+-- datapath. `IsGraphOf` says which graph a program has, `IsPlanOf` which plan a graph has over a datapath.
+pub record IsPlanOverBy (IsGraphOf : Program → Graph → Type 0) {P : Type 0}
+    (IsPlanOf : Graph → Datapath → P → Type 0) (source datapath : List ℕ) (program : Program) (d : Datapath) (plan : P)
+    : Type 0 where
   pub read : HasProgram source program
   pub described : IsPathOf datapath d
   pub graph : Graph
-  pub graph_of : IsProgramGraph program graph
-  pub planned : IsPlan graph d plan
+  pub graph_of : IsGraphOf program graph
+  pub planned : IsPlanOf graph d plan
 
 -- so it is, and the source has no other program
-pub record IsPlannedOver (source datapath : List ℕ) (program : Program) (d : Datapath) (plan : Plan) : Type 0 where
-  pub has : IsPlanOver source datapath program d plan
+pub record IsPlannedOverBy (IsGraphOf : Program → Graph → Type 0) {P : Type 0}
+    (IsPlanOf : Graph → Datapath → P → Type 0) (source datapath : List ℕ) (program : Program) (d : Datapath) (plan : P)
+    : Type 0 where
+  pub has : IsPlanOverBy IsGraphOf IsPlanOf source datapath program d plan
   pub unique : (other : Program) → HasProgram source other → other ≡ program
+
+-- so they are where the graph is the program's own, and the plan is that of `compile`
+abbrev pub IsPlanOver : (source datapath : List ℕ) → Program → Datapath → Plan → Type 0
+IsPlanOver = IsPlanOverBy IsProgramGraph IsPlan
+
+abbrev pub IsPlannedOver : (source datapath : List ℕ) → Program → Datapath → Plan → Type 0
+IsPlannedOver = IsPlannedOverBy IsProgramGraph IsPlan
 
 -- the program of the source has the plan over the datapath of the file
 abbrev pub HasPlan : (source datapath : List ℕ) → Datapath → Plan → Type 0
@@ -60,12 +71,18 @@ IsUnplanned (Period node) g d = IsPlanFault g d (plan.Period node)
 IsUnplanned (FileFull u port node) g d = IsPlanFault g d (plan.FileFull u port node)
 IsUnplanned _ g d = ⊥
 
--- the source has a program, the file describes a datapath, and this is why the graph has no plan over it
-pub record IsUnplannedOver (status : Status) (source datapath : List ℕ) : Type 0 where
+-- The source has a program, the file describes a datapath, and this is why the program's graph has no plan over it.
+-- `IsGraphOf` says which graph a program has, `IsWhy` which status tells why a graph has no plan.
+pub record IsUnplannedBy (IsGraphOf : Program → Graph → Type 0) (IsWhy : Status → Graph → Datapath → Type 0)
+    (status : Status) (source datapath : List ℕ) : Type 0 where
   pub program : Program
   pub read : HasProgram source program
   pub graph : Graph
-  pub graph_of : IsProgramGraph program graph
+  pub graph_of : IsGraphOf program graph
   pub path : Datapath
   pub described : IsPathOf datapath path
-  pub unplanned : IsUnplanned status graph path
+  pub unplanned : IsWhy status graph path
+
+-- so it is where the graph is the program's own, and its plan is that of `compile`
+abbrev pub IsUnplannedOver : Status → (source datapath : List ℕ) → Type 0
+IsUnplannedOver = IsUnplannedBy IsProgramGraph IsUnplanned

@@ -23,24 +23,42 @@ pub record IsPlanText (source datapath text : List ℕ) : Type 0 where
 abbrev pub IsTextOf : Name → Name → Content → Files → Type 0
 IsTextOf src datapath text files = IsPlanText (content_of (files src)) (content_of (files datapath)) text
 
--- the text of the plan was printed, after both inputs were read through
-pub record IsScheduled (src datapath : Name) (old new : View) : Type 0 where
-  pub read : IsReadThrough datapath text_limit old new
+-- A text of the files was printed, after the inputs up to this last one were read through. `IsOf` says which text the
+-- files have.
+pub record IsPrintedOf (IsOf : Content → Files → Type 0) (last : Name) (old new : View) : Type 0 where
+  pub read : IsReadThrough last text_limit old new
   pub text : Content
-  pub is_text : WhereSpecified old (IsTextOf src datapath text)
+  pub is_text : WhereSpecified old (IsOf text)
   pub printed : IfSpecified (IsPrintedMore text) old.printed new.printed
 
 -- printing the text failed, after a prefix of it
-pub record IsPrintCutShort (src datapath : Name) (old new : View) : Type 0 where
+pub record IsPrintCutShortOf (IsOf : Content → Files → Type 0) (last : Name) (old new : View) : Type 0 where
   pub rose : PrintFaultsRose old new
-  pub read : IsReadThrough datapath text_limit old new
+  pub read : IsReadThrough last text_limit old new
   pub text : Content
-  pub is_text : WhereSpecified old (IsTextOf src datapath text)
+  pub is_text : WhereSpecified old (IsOf text)
   pub printed : IfSpecified (IsPrintedInPart text) old.printed new.printed
+
+-- when each status comes where a text is printed; `IsError` says why a status comes before
+abbrev pub IsPrintAnswerOf : (IsOf : Content → Files → Type 0)
+    → (IsError : View → View → Status → Type 0)
+    → (last : Name)
+    → View
+    → View
+    → Status
+    → Type 0
+IsPrintAnswerOf IsOf IsError last old new Done = IsPrintedOf IsOf last old new
+IsPrintAnswerOf IsOf IsError last old new Desk = IsError old new Desk ⊎ IsPrintCutShortOf IsOf last old new
+IsPrintAnswerOf IsOf IsError last old new error = IsError old new error
+
+-- the text of the plan was printed, after both inputs were read through
+abbrev pub IsScheduled : Name → Name → View → View → Type 0
+IsScheduled src datapath = IsPrintedOf (IsTextOf src datapath) datapath
+
+-- printing the text failed, after a prefix of it
+abbrev pub IsPrintCutShort : Name → Name → View → View → Type 0
+IsPrintCutShort src datapath = IsPrintCutShortOf (IsTextOf src datapath) datapath
 
 -- when each status comes
 abbrev pub IsScheduleAnswer : Name → Name → View → View → Status → Type 0
-IsScheduleAnswer src datapath old new Done = IsScheduled src datapath old new
-IsScheduleAnswer src datapath old new Desk =
-    IsPlanError src datapath old new Desk ⊎ IsPrintCutShort src datapath old new
-IsScheduleAnswer src datapath old new error = IsPlanError src datapath old new error
+IsScheduleAnswer src datapath = IsPrintAnswerOf (IsTextOf src datapath) (IsPlanError src datapath) datapath

@@ -1,4 +1,4 @@
-mod Keeping
+pub mod Keeping
 mod Examples
 pub mod Opening
 pub mod EarlyEnds

@@ -1,10 +1,10 @@
 -- How the parts of `eval` make up its answer.
-use Rattle.std.proofs.Common.{◌≡◌, refl, sym, ap, subst, ◌∙◌, inl, inr, ⊎_elim, ◌+◌, [], map, Bool, length}
+use Rattle.std.proofs.Common.{◌≡◌, refl, sym, ap, subst, ◌∙◌, inl, inr, ⊎_elim, ◌+◌, ℕ, [], ◌∷◌, map, length}
 use Rattle.lists.specs.Rows.{Rows}
 use Rattle.desk_core.specs.View.{Name, Content, View}
 use Rattle.desk_core.specs.Desk.{WhereSpecified, IsPut, FaultsNeverFall, IsUnchanged, content_of}
 use Rattle.desk_core.specs.Whole.{IsReadThrough}
-use Rattle.desk_core.proofs.DeskLemmas.{rose_earlier, never_fall_trans, specified_from}
+use Rattle.desk_core.proofs.DeskLemmas.{rose_earlier, never_fall_trans}
 use Rattle.equation_eval.specs.Evaluation.{Evaluation}
 use Rattle.source_faults.specs.Faults.{HasProgram}
 use Rattle.source_faults.specs.declared.fault.FrontFault.TheVariants as front
@@ -23,29 +23,30 @@ use Rattle.signal_graph.specs.GraphSolves.{GraphSolves, graph_out}
 use Rattle.signal_graph.specs.Keeps.{IsStreamOf}
 use Rattle.signal_graph.specs.Values as graph
 use Rattle.silage_syntax.specs.Tree.{Program}
+use Rattle.silage_meaning.specs.Value.{Words}
 use Rattle.silage_meaning.specs.Solves as program
 use Rattle.silc_files.specs.declared.files.Input.{Input}
 use Rattle.silc_files.specs.declared.files.Input.TheVariants.{Whole, TooLong}
-use Rattle.silc_files.specs.Endings.{ChangesOnly, UsesOnly}
+use Rattle.silc_files.specs.Endings.{IsAmong}
 use Rattle.silc_files.specs.Limits.{text_limit, samples_limit}
 use Rattle.silc_files.specs.Reading.{OnlyReads, IsInput}
 use Rattle.silc_files.proofs.Endings.{unchanged_still, specified_still, rejected_still, finished_still}
 use Rattle.loop_expand.specs.GraphFor.{IsGraphFor}
 use Rattle.silc_files.specs.Sources.{HasSomeProgram}
 use Rattle.sample_commands.specs.Eval.{program_channels, IsSolutionRows, IsEvalUnread, IsEvalStopped, IsEvalDone}
+use Rattle.sample_commands.specs.Eval.{IsEvalDoneBy}
 use Rattle.sample_commands.specs.Eval.{IsEvalAnswer}
 use Rattle.sample_commands.specs.Samples.{AreSamples, IsEndedEarly}
 use Rattle.sample_commands.specs.StreamEnds.{status_of}
 use Rattle.sample_commands.specs.Private.Evaluating.{IsSourceRead, IsSourceError, IsEvaluatorOf, EvaluatesFiles}
 use Rattle.sample_commands.specs.Private.Evaluating.{IsEvalOver}
-use Rattle.sample_commands.specs.Streaming.{IsOpened, IsNotOpened, StreamsOnly}
+use Rattle.sample_commands.specs.Streaming.{IsOpened, IsNotOpened}
 use Rattle.sample_commands.proofs.EarlyEnds.{ended_early, run_finished, run_samples_are, run_stream_is, run_put}
 use Rattle.sample_commands.proofs.EarlyEnds.{opened_from, unopened_from, not_created_from, unopened_still, ended_still}
 use Rattle.statuses.specs.declared.status.SampleFault.TheVariants as sample_fault
 use Rattle.statuses.specs.declared.status.Status.{Status}
-use Rattle.statuses.specs.declared.status.Status.TheVariants as status
-use Rattle.statuses.specs.declared.status.Status.TheVariants.{Done, Memory, Words, Desk, FrontEnd, Path, LinesFull}
-use Rattle.statuses.specs.declared.status.Status.TheVariants.{Period, FileFull, Image, Samples, Conflict}
+use Rattle.statuses.specs.declared.status.Status.TheVariants.{Done, Memory, Desk, FrontEnd}
+use Rattle.statuses.specs.declared.status.Status.TheVariants.{Samples}
 
 -- SRC was accepted
 pub source_read : (src : Name) (old new : View) (input : Input) (bytes : Content) (p : Program) (g : Graph)
@@ -112,16 +113,8 @@ fresh_solves e fresh rows puts h =
     subst (λ (ran : Rows). SolvesRows (record { graph = e.graph; ran = ran }) rows puts) fresh h
 
 -- the evaluator was made, and then it was run over the files
-module _ (src samples out : Name) (old mid new : View) (evaluator : Evaluation) (first : OnlyReads src src old mid)
-    (is : IsEvaluatorOf src old mid evaluator) where
-  pub eval_uses : StreamsOnly samples out mid new → UsesOnly src samples out old new
-  eval_uses only = record {
-    files = specified_from (ChangesOnly out) old.files mid.files new.files first.unchanged.files only.files;
-    printed = only.printed ∙ first.unchanged.printed;
-    reads = λ s not_src not_samples t. first.begins s not_src not_src (only.reads s not_samples t);
-    writes = λ s ne t. ap (λ (f : Name → Bool). f s) (sym first.unchanged.writes) ∙ only.writes s ne t;
-  }
-
+module _ (src samples out : Name) (old mid new : View) (evaluator : Evaluation)
+    (first : OnlyReads (IsAmong (src ∷ [])) old mid) (is : IsEvaluatorOf src old mid evaluator) where
   its_channels : graph_channels evaluator.graph ≡ program_channels is.program
   its_channels = ap (map type_channel) is.source.graph.keeps.inputs
 
@@ -228,7 +221,7 @@ module _ (src samples out : Name) (old mid new : View) (evaluator : Evaluation) 
 
 -- why SRC has no program is why `eval` ends
 pub source_error : (src samples out : Name) (old new : View)
-    → OnlyReads src src old new
+    → OnlyReads (IsAmong (src ∷ [])) old new
     → (status : Status)
     → IsSourceError src old new status
     → IsEvalAnswer src samples out old new status
@@ -236,16 +229,7 @@ source_error src samples out old new reads Memory h = reads.unchanged
 source_error src samples out old new reads Desk h = inl (record { unchanged = reads.unchanged; rose = inl h })
 source_error src samples out old new reads (FrontEnd fault) h =
     (h.0, record { unchanged = reads.unchanged; read = h.1; why = h.2 })
-source_error src samples out old new reads Done h = absurd h
-source_error src samples out old new reads Words h = absurd h
-source_error src samples out old new reads (Path fault) h = absurd h
-source_error src samples out old new reads (status.Unit refusal) h = absurd h
-source_error src samples out old new reads (LinesFull node) h = absurd h
-source_error src samples out old new reads (Period node) h = absurd h
-source_error src samples out old new reads (FileFull unit port node) h = absurd h
-source_error src samples out old new reads (Image fault) h = absurd h
-source_error src samples out old new reads (Samples fault) h = absurd h
-source_error src samples out old new reads (Conflict conflict) h = absurd h
+source_error src samples out old new reads other h = absurd h
 
 -- a report of the error leaves the answer of `eval` as it is
 module _ (src samples out : Name) (old mid new : View) (same : IsUnchanged mid new) (later : FaultsNeverFall mid new)
@@ -269,8 +253,10 @@ module _ (src samples out : Name) (old mid new : View) (same : IsUnchanged mid n
         (λ rows conflict. ⊥) fault h.ended;
   }
 
-  abbrev pub eval_done_still : IsEvalDone src samples out old mid → IsEvalDone src samples out old new
-  eval_done_still h = record {
+  abbrev pub eval_done_still : (rows_of : Program → Words → (count : ℕ) → Rows)
+      → IsEvalDoneBy rows_of src samples out old mid
+      → IsEvalDoneBy rows_of src samples out old new
+  eval_done_still rows_of h = record {
     finished = finished_still old mid new same samples samples_limit h.finished;
     program = h.program;
     stream = h.stream;
@@ -283,7 +269,7 @@ module _ (src samples out : Name) (old mid new : View) (same : IsUnchanged mid n
   pub eval_reported : (status : Status)
       → IsEvalAnswer src samples out old mid status
       → IsEvalAnswer src samples out old new status
-  eval_reported Done h = eval_done_still h
+  eval_reported Done h = eval_done_still program.out h
   eval_reported Memory h = unchanged_still old mid new same h
   eval_reported Desk h =
       ⊎_elim (λ early. inl (eval_unread_still early)) (λ late. inr (eval_stopped_still stream.Desk late)) h
@@ -291,11 +277,4 @@ module _ (src samples out : Name) (old mid new : View) (same : IsUnchanged mid n
   eval_reported (Samples (sample_fault.Row line at)) h =
       eval_stopped_still (stream.Row (record { line = line; at = at })) h
   eval_reported (Samples sample_fault.TooLong) h = eval_stopped_still stream.TooLong h
-  eval_reported Words h = h
-  eval_reported (Path fault) h = h
-  eval_reported (status.Unit refusal) h = h
-  eval_reported (LinesFull node) h = h
-  eval_reported (Period node) h = h
-  eval_reported (FileFull unit port node) h = h
-  eval_reported (Image fault) h = h
-  eval_reported (Conflict conflict) h = h
+  eval_reported other h = h

@@ -1,5 +1,5 @@
 -- What `eval SRC SAMPLES OUT` reads and evaluates, when each of its statuses comes, and what it leaves.
-use Rattle.std.specs.Prelude.{◌≡◌, ◌⊎◌, List, length, map}
+use Rattle.std.specs.Prelude.{◌≡◌, ◌⊎◌, ℕ, List, length, map}
 use Rattle.lists.specs.Rows.{Rows}
 use Rattle.desk_core.specs.View.{Name, Content, Files, View}
 use Rattle.desk_core.specs.Desk.{IfSpecified, WhereSpecified, ReadFaultsRose, IsPut, content_of}
@@ -25,17 +25,27 @@ use Rattle.statuses.specs.declared.status.Status.TheVariants.{Done, Memory, Desk
 abbrev pub program_channels : Program → List Channel
 program_channels program = map type_channel (input_types program)
 
--- the program has exactly one solution over the stream, and these are the rows of its output words
-pub record IsSolutionRows (program : Program) (stream puts : Rows) : Type 0 where
+-- The program has exactly one solution over the stream, and these are its rows. `rows_of` says which rows a
+-- solution has over so many samples.
+pub record IsSolutionRowsBy (rows_of : Program → Words → (count : ℕ) → Rows) (program : Program) (stream puts : Rows)
+    : Type 0 where
   pub words : Words
   pub one : IsOneSolution program stream words
-  pub puts_are : puts ≡ out program words (length stream)
+  pub puts_are : puts ≡ rows_of program words (length stream)
 
--- the program has exactly one solution over the stream, and the text is the rows of its output words
-pub record IsSolutionText (program : Program) (stream : Rows) (text : Content) : Type 0 where
+-- and the text is that of its rows
+pub record IsSolutionTextBy (rows_of : Program → Words → (count : ℕ) → Rows) (program : Program) (stream : Rows)
+    (text : Content) : Type 0 where
   pub words : Words
   pub one : IsOneSolution program stream words
-  pub text_is : text ≡ printed (out program words (length stream))
+  pub text_is : text ≡ printed (rows_of program words (length stream))
+
+-- so they are where the rows are those of its output words
+abbrev pub IsSolutionRows : Program → (stream puts : Rows) → Type 0
+IsSolutionRows = IsSolutionRowsBy out
+
+abbrev pub IsSolutionText : Program → Rows → Content → Type 0
+IsSolutionText = IsSolutionTextBy out
 
 -- SRC has the program, and SAMPLES the stream for it
 pub record HasSamples (src samples : Name) (program : Program) (stream : Rows) (files : Files) : Type 0 where
@@ -55,16 +65,21 @@ pub record IsEvalStopped (src samples out : Name) (old new : View) (fault : Stre
   pub ended :
       IsEndedEarly samples out (program_channels program) (IsSolutionRows program) (λ rows conflict. ⊥) old new fault
 
--- OUT has the output rows of the one solution of SRC's program over the stream of SAMPLES, as the files were at the
--- start, and every other file is as it was
-pub record IsEvalDone (src samples out : Name) (old new : View) : Type 0 where
+-- OUT has the rows of the one solution of SRC's program over the stream of SAMPLES, as the files were at the start, and
+-- every other file is as it was. `rows_of` says which rows a solution has over so many samples.
+pub record IsEvalDoneBy (rows_of : Program → Words → (count : ℕ) → Rows) (src samples out : Name) (old new : View)
+    : Type 0 where
   pub finished : IsFinished samples samples_limit old new
   pub program : Program
   pub stream : Rows
   pub text : Content
-  pub solution : IsSolutionText program stream text
+  pub solution : IsSolutionTextBy rows_of program stream text
   pub specified : WhereSpecified old (HasSamples src samples program stream)
   pub put : IfSpecified (IsPut out text) old.files new.files
+
+-- so it has where the rows are the output rows
+abbrev pub IsEvalDone : Name → Name → Name → View → View → Type 0
+IsEvalDone = IsEvalDoneBy out
 
 -- When each status comes. SRC is read through and judged before SAMPLES is opened and OUT created, and all memory is
 -- taken before.

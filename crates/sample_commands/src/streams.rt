@@ -16,10 +16,10 @@ use sample_loops::{StreamFault, run_stream};
 use statuses::{SampleFault, Status};
 
 /// The least number of bytes that are too many for samples.
-pub(crate) const SAMPLES_END: u64 = 1 << 32;
+pub const SAMPLES_END: u64 = 1 << 32;
 
 /// The status of a fault of a stream.
-pub(crate) fn stream_status(fault: StreamFault) -> Status
+pub fn stream_status(fault: StreamFault) -> Status
     ensures { result ≡ status_of fault }
 {
     match fault {
@@ -33,8 +33,8 @@ pub(crate) fn stream_status(fault: StreamFault) -> Status
     }
 }
 
-/// Opens SAMPLES, and creates OUT.
-pub(crate) fn open_files<D: Desk>(desk: &mut D, samples: &str, output: &str) -> Result<(), Failed>
+/// Opens SAMPLES, and creates OUT. `Failed` where the one could not be opened, or the other not created.
+pub fn open_files<D: Desk>(desk: &mut D, samples: &str, output: &str) -> Result<(), Failed>
     requires { output.now ≢ samples.now }
     ensures never_fall { FaultsNeverFall (D.view desk.old) (D.view desk.new) }
     ensures only { StreamsOnly samples.now output.now (D.view desk.old) (D.view desk.new) }

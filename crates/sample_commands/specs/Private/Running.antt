@@ -10,7 +10,6 @@ use Rattle.silc_files.specs.Limits.{microcode_limit}
 use Rattle.sample_commands.specs.Loaded.{IsFresh}
 use Rattle.sample_commands.specs.Sim.{IsOfMicrocode, HasImage, HasImageFault}
 use Rattle.statuses.specs.declared.status.ImageFault.{ImageFault}
-use Rattle.statuses.specs.declared.status.ImageFault.TheVariants as image_fault
 use Rattle.statuses.specs.declared.status.Status.{Status}
 use Rattle.statuses.specs.declared.status.Status.TheVariants as status
 

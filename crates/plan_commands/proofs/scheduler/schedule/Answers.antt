@@ -1,7 +1,8 @@
-use Rattle.std.proofs.Common.{refl, sym, ap, subst, inr}
+use Rattle.std.proofs.Common.{refl, sym, ap, subst, inr, [], ◌∷◌}
 use Rattle.desk_core.specs.View.{Content}
 use Rattle.desk_core.specs.Desk.{IfSpecified}
-use Rattle.plan_commands.specs.Schedule.{IsScheduleAnswer}
+use Rattle.plan_commands.specs.Schedule.{IsTextOf, IsScheduleAnswer}
+use Rattle.silc_files.specs.Endings.{IsAmong}
 use Rattle.silc_files.specs.Printing.{IsPrintedInPart}
 use Rattle.statuses.specs.declared.status.Ending.{Ending}
 use Rattle.statuses.specs.declared.status.Status.{Status}
@@ -14,7 +15,8 @@ returns-in-Ok-clause-answer g c =
     IsScheduleAnswer c.args.source.now c.args.datapath.now (g.D.Desk.view c.args.desk.now)
     (g.D.Desk.view c.print_whole.new.desk) s)
     (sym (ap (λ (e : Ending). e.status) c.from-in-Err-print_whole.ensures))
-    (inr (print_cut_short c.args.source.now c.args.datapath.now (g.D.Desk.view c.args.desk.now)
+    (inr (print_cut_short (IsTextOf c.args.source.now c.args.datapath.now) c.args.datapath.now
+    (IsAmong (c.args.source.now ∷ c.args.datapath.now ∷ [])) (g.D.Desk.view c.args.desk.now)
     (g.D.Desk.view c.make.new.desk) (g.D.Desk.view c.print_whole.new.desk) c.in-Ok.text
     c.in-Ok.ensures.reads c.in-Err-print_whole.ensures.only c.in-Ok.ensures.ok (c.in-Err-print_whole.ensures.cause refl)
     (subst (λ (text : Content).
