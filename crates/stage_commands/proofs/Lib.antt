@@ -1,0 +1,5 @@
+pub mod Late
+pub mod Staging
+pub mod Piping
+pub mod Complete
+mod Examples
