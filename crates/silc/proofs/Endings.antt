@@ -2,23 +2,30 @@
 use Rattle.std.proofs.Common.{◌≡◌, subst, ⊎_elim, ℕ}
 use Rattle.std.specs.Prelude.{String, List}
 use Rattle.std.specs.declared.alloc.Global.{Global}
-use Rattle.command_words.specs.Command.{Command, compile, schedule, list, sim, eval, run, demo}
+use Rattle.command_words.specs.Command.{Command, compile, schedule, list, sim, eval, run, demo, stages, pipe}
 use Rattle.command_words.specs.Command.{IsCommand, IsCommandIn}
 use Rattle.desk_core.specs.View.{Name, View}
 use Rattle.desk_core.specs.Desk.{IfSpecified}
 use Rattle.plan_commands.specs.Compile.{IsDone}
 use Rattle.plan_commands.specs.Refusals.{IsPlanError}
 use Rattle.plan_commands.proofs.Making.{headline_at}
-use Rattle.sample_commands.specs.declared.simulator.Kept.{Kept}
+use Rattle.silc.specs.declared.kept.Kept.{Kept}
 use Rattle.silc.specs.Demo.{IsDemoAnswer}
 use Rattle.silc.specs.Endings.{IsEnding}
 use Rattle.silc.specs.Listing.{IsListAnswer}
+use Rattle.stage_commands.specs.StagePlans.{IsStageError}
 use Rattle.statuses.specs.declared.status.Status.{Status}
 use Rattle.statuses.specs.declared.status.Status.TheVariants.{Done, Words}
 
 -- no error is the status of words that are no command
 plan_not_words : (src datapath : Name) (old new : View) → IsPlanError src datapath old new Words → ⊥
 plan_not_words src datapath old new h =
+    ⊎_elim (λ memory. absurd (cc)) (λ rest. ⊎_elim (λ desk. absurd (cc)) (λ refused. refused.0) rest) h
+
+stages_not_words : (count : ℕ) (src datapath : Name) (old new : View)
+    → IsStageError count src datapath old new Words
+    → ⊥
+stages_not_words count src datapath old new h =
     ⊎_elim (λ memory. absurd (cc)) (λ rest. ⊎_elim (λ desk. absurd (cc)) (λ refused. refused.0) rest) h
 
 list_not_words : (mic : Name) (old new : View) → IsListAnswer mic old new Words → ⊥
@@ -46,6 +53,8 @@ never_words (sim mic samples out) old new kept h = h.0
 never_words (eval src samples out) old new kept h = h.0
 never_words (run src datapath samples out) old new kept h = plan_not_words src datapath old new h.0
 never_words (demo sections samples) old new kept h = demo_not_words sections samples old new kept h.0
+never_words (stages src datapath count) old new kept h = stages_not_words count src datapath old new h.0
+never_words (pipe src datapath count samples out) old new kept h = stages_not_words count src datapath old new h.0
 
 -- so words that are a command are not told as bad
 pub not_words : (words : List (String Global)) (old new : View) (kept : Kept) (status : Status)

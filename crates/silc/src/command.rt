@@ -6,16 +6,18 @@ ghost use Rattle.command_words.specs.Named.{named};
 ghost use Rattle.desk_core.specs.View.{Name};
 ghost use Rattle.desk_core.specs.Desk.{FaultsNeverFall, IsUnchanged, IfSpecified};
 ghost use Rattle.plan_commands.specs.Compile.{IsDone};
-ghost use Rattle.sample_commands.specs.declared.simulator.Kept.TheVariants.{Nothing};
+ghost use Rattle.silc.specs.declared.kept.Kept.TheVariants.{Nothing};
 ghost use Rattle.silc.specs.Endings.{IsEnding};
 
 use crate::demo::demo;
+use crate::kept::{Kept, keep, keep_staged};
 use crate::list::list;
 use command_words::{Command, command_in};
 use desk_core::Desk;
 use plan_commands::{compile, schedule};
 use run_command::run;
-use sample_commands::{Kept, eval, sim};
+use sample_commands::{eval, sim};
+use stage_commands::{pipe, stages};
 use statuses::{Ending, Status, report};
 use std::alloc::Global;
 
@@ -38,7 +40,7 @@ fn carry_out<D: Desk>(alloc: Global, command: &Command, desk: &mut D, kept: &mut
             microcode,
             samples,
             output,
-        } => { Ending::from(sim(alloc, desk, microcode, samples, output, kept)) }
+        } => keep(sim(alloc, desk, microcode, samples, output), kept),
         Command::Eval {
             source,
             samples,
@@ -49,8 +51,23 @@ fn carry_out<D: Desk>(alloc: Global, command: &Command, desk: &mut D, kept: &mut
             datapath,
             samples,
             output,
-        } => { run(alloc, desk, source, datapath, samples, output, kept) }
+        } => keep(run(alloc, desk, source, datapath, samples, output), kept),
         Command::Demo { sections, samples } => demo(alloc, desk, *sections, *samples, kept),
+        Command::Stages {
+            source,
+            datapath,
+            stages: count,
+        } => stages(alloc, desk, source, datapath, *count),
+        Command::Pipe {
+            source,
+            datapath,
+            stages: count,
+            samples,
+            output,
+        } => keep_staged(
+            pipe(alloc, desk, source, datapath, *count, samples, output),
+            kept,
+        ),
     }
 }
 
@@ -87,6 +104,10 @@ fn carry_out_words<D: Desk>(
 /// `eval SRC SAMPLES OUT` reads a source and samples, and writes the output rows of the source's equations to OUT.
 /// `run SRC DP SAMPLES OUT` compiles a source for a datapath, runs the microcode on samples, and writes its rows, which
 /// are those of `eval`, to OUT. Where it is done, it keeps the machine that ran them.
+/// `stages SRC DP S` reads a source and a datapath, and prints the source's plan over S stages, of which as many samples
+/// are in flight at once.
+/// `pipe SRC DP S SAMPLES OUT` plans a source over S stages for a datapath, runs the plan's microcode on samples, and
+/// writes its rows to OUT: those of `eval`, S - 1 rows late. Where it is done, it keeps the machine that ran them.
 pub fn silc<D: Desk>(alloc: Global, words: &[String], desk: &mut D, kept: &mut Kept) -> Status
     requires { kept.old ≡ Nothing }
     ensures faults { FaultsNeverFall (D.view desk.old) (D.view desk.new) }

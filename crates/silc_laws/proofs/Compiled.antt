@@ -14,7 +14,7 @@ use Rattle.plan_soundness.specs.ImageOf.{IsImageOf}
 use Rattle.sample_commands.specs.Sim.{IsMicrocodeOf}
 use Rattle.silc_laws.specs.Complete.{HavePlan, HasImageOf}
 use Rattle.planner.proofs.OnePlan.{one_plan}
-use Rattle.silc_laws.proofs.OneRefusal.{path_allowed}
+use Rattle.plan_commands.proofs.Complete.{path_allowed}
 
 module _ (s d : Content) (path : Datapath) (plan : Plan) (has : HasPlan s d path plan) where
   compiled_image : (microcode : Content) (is : IsCompiled s d microcode) → IsImageOf path plan is.image

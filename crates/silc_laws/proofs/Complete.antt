@@ -1,11 +1,11 @@
 -- Where the files are as a command asks and no fault of its own rose, it is done or memory ran out. Where its samples
--- stop
--- it, it answers why, or memory ran out.
-use Rattle.std.proofs.Common.{◌≡◌, ◌∙◌, ap, subst, inl, inr, ⊎_elim, ℕ, List, [], Option, Some, None, arith}
+-- stop it, it answers why, or memory ran out.
+use Rattle.std.proofs.Common.{◌≡◌, ◌∙◌, refl, ap, subst, inl, inr, ⊎_elim, ℕ, List, [], Option, Some, None, arith}
 use Rattle.std.specs.Prelude.{String}
 use Rattle.std.specs.declared.alloc.Global.{Global}
-use Rattle.command_words.specs.Command.{Command, compile, schedule, list, sim, eval, run, demo, IsCommandIn, IsCompile}
-use Rattle.command_words.specs.Command.{IsSchedule, IsList, IsSim, IsEval, IsRun, IsDemo}
+use Rattle.command_words.specs.Command.{Command, compile, schedule, list, sim, eval, run, demo, stages, pipe}
+use Rattle.command_words.specs.Command.{IsCommandIn}
+use Rattle.command_words.specs.Command.{IsCompile, IsSchedule, IsList, IsSim, IsEval, IsRun, IsDemo, IsStages, IsPipe}
 use Rattle.datapath.specs.declared.types.Datapath.{Datapath}
 use Rattle.desk_core.specs.View.{Name, Content, Files, View}
 use Rattle.desk_core.specs.Desk.{WhereSpecified, content_of}
@@ -19,9 +19,10 @@ use Rattle.plan_commands.specs.Plans.{IsPlanOver}
 use Rattle.plan_commands.proofs.Complete.{compile_complete, schedule_complete}
 use Rattle.plan_core.specs.declared.plan.Plan.{Plan}
 use Rattle.sample_commands.specs.Eval.{program_channels}
+use Rattle.sample_commands.specs.Samples.{AreSamples}
 use Rattle.sample_commands.specs.Sim.{HasImage, HasSomeImage}
 use Rattle.sample_commands.specs.StreamEnds.{status_of}
-use Rattle.sample_commands.specs.declared.simulator.Kept.{Kept}
+use Rattle.silc.specs.declared.kept.Kept.{Kept}
 use Rattle.sample_io.specs.declared.channel.Channel.{Channel}
 use Rattle.sample_loops.specs.Machines.{channels_of}
 use Rattle.sample_loops.specs.declared.stream.StreamFault.{StreamFault}
@@ -33,13 +34,19 @@ use Rattle.silc.proofs.Complete.{list_complete, demo_complete}
 use Rattle.silc_laws.specs.Complete.{Specifies, ArePlannable, HavePlan, HasImageOf, HasClearStream, HasProgramStream}
 use Rattle.silc_laws.specs.Complete.{HasPlannedStream, StopsSim, StopsEval, StopsPlanned, IsAccepted, IsThisOrMemory}
 use Rattle.silc_laws.specs.Complete.{IsDoneOrMemory, IsEndedBySamples, IsEndedByRun}
+use Rattle.silc_laws.specs.Complete.{AreStageable, HasStagedStream, StopsStaged}
 use Rattle.silc_laws.specs.Faults.{HasNoFaultRisen}
 use Rattle.silc_laws.proofs.Channels.{image_channels, channels_of_program}
 use Rattle.silc_laws.proofs.Compiled.{compiled_plan}
 use Rattle.silc_laws.proofs.Conflicts.{clear_apart, meets_once}
 use Rattle.silc_laws.proofs.Laws.{answer_law, schedule_law, list_law, demo_law, sim_law, eval_law, run_law}
+use Rattle.silc_laws.proofs.Laws.{stages_law, pipe_law}
 use Rattle.silc_laws.proofs.SampleEnds.{EndsBy, RunsImage, RunsProgram, samples_end, sim_ends, eval_ends, run_ends}
+use Rattle.silc_laws.proofs.SampleEnds.{pipe_ends}
 use Rattle.silc_laws.proofs.StreamEnds.{IsEnd, one_end, status_at}
+use Rattle.overlap_plan.specs.declared.plan.StagePlan.{StagePlan}
+use Rattle.stage_commands.specs.StagePlans.{IsStagedOver}
+use Rattle.stage_commands.proofs.Complete.{stages_complete}
 use Rattle.statuses.specs.declared.status.SampleFault.TheVariants as sample_fault
 use Rattle.statuses.specs.declared.status.Status.{Status}
 use Rattle.statuses.specs.declared.status.Status.TheVariants.{Done}
@@ -92,9 +99,10 @@ module _ (words : List (String Global)) (old new : View) (kept : Kept) (status :
       → Specifies (ArePlannable src datapath) old
       → IsDoneOrMemory status
   compile_law src datapath out form none files =
-      compile_complete src datapath old new files.files files.specified files.so (λ r. none (inl r))
-      (λ r. none (inr (inl r)))
-      out (λ r. none (inr (inr r))) status (answer_law words old new kept status ending src datapath out form)
+      compile_complete src datapath old new files.files files.specified files.so (λ r. none (inl (src, inl refl, r)))
+      (λ r. none (inl (datapath, inr (inl refl), r)))
+      out (λ r. none (inr (inl (out, refl, r)))) status
+      (answer_law words old new kept status ending src datapath out form)
 
   pub compile_plan_law : status ≡ Done
       → (src datapath out : Name)
@@ -114,9 +122,9 @@ module _ (words : List (String Global)) (old new : View) (kept : Kept) (status :
       → Specifies (ArePlannable src datapath) old
       → IsDoneOrMemory status
   plan_text_law src datapath form none files =
-      schedule_complete src datapath old new files.files files.specified files.so (λ r. none (inl r))
-      (λ r. none (inr (inl r)))
-      (λ r. none (inr (inr r))) status (schedule_law words old new kept status ending src datapath form)
+      schedule_complete src datapath old new files.files files.specified files.so (λ r. none (inl (src, inl refl, r)))
+      (λ r. none (inl (datapath, inr (inl refl), r)))
+      (λ r. none (inr (inr (refl, r)))) status (schedule_law words old new kept status ending src datapath form)
 
   pub listing_law : (mic : Name)
       → IsList words mic
@@ -124,8 +132,8 @@ module _ (words : List (String Global)) (old new : View) (kept : Kept) (status :
       → Specifies (HasSomeImage mic) old
       → IsDoneOrMemory status
   listing_law mic form none files =
-      list_complete mic old new files.files files.specified files.so.0 files.so.1 (λ r. none (inl r))
-      (λ r. none (inr r)) status
+      list_complete mic old new files.files files.specified files.so.0 files.so.1 (λ r. none (inl (mic, inl refl, r)))
+      (λ r. none (inr (inr (refl, r)))) status
       (list_law words old new kept status ending mic form)
 
   pub demonstration_law : (sections samples : ℕ)
@@ -134,7 +142,7 @@ module _ (words : List (String Global)) (old new : View) (kept : Kept) (status :
       → IsCascadePlannable sections
       → IsDoneOrMemory status
   demonstration_law sections samples form none plannable =
-      demo_complete sections samples old new kept plannable none status
+      demo_complete sections samples old new kept plannable (λ r. none (inr (inr (refl, r)))) status
       (demo_law words old new kept status ending sections samples form)
 
   -- a run of MIC's image over SAMPLES comes to the end that their bytes have
@@ -241,27 +249,34 @@ module _ (words : List (String Global)) (old new : View) (kept : Kept) (status :
       eval_so src samples out form none given.files given.specified program has (Some fault) stops
 
   -- a run of the plan of SRC's program comes to the end that the bytes of SAMPLES have
+  module _ (src samples : Name) (files : Files) (program : Program)
+      (has : HasProgram (content_of (files src)) program)
+      (ends : EndsBy (RunsProgram (content_of (files samples)) program) status) where
+    planned_so : (end : Option StreamFault)
+        → RunsProgram (content_of (files samples)) program end
+        → IsThisOrMemory (status_at end) status
+    planned_so end its =
+        ends_so (RunsProgram (content_of (files samples)) program)
+        (one_end samples_end (program_channels program) (channels_of_program (content_of (files src)) program has)
+        (content_of (files samples)) _ _ (λ some more conflict runs met. met)
+        (λ some more conflict other met meet. absurd met)) end its status ends
+
+    planned_through : (stream : Rows)
+        → AreSamples (program_channels program) (content_of (files samples)) stream
+        → IsDoneOrMemory status
+    planned_through stream are =
+        let few = are.within in
+        planned_so None
+        (record { within = omega (arith, few); stream = stream; rows_of = are.rows; runs = tt })
+
   module _ (src datapath samples out : Name) (form : IsRun words src datapath samples out)
       (none : HasNoFaultRisen (run src datapath samples out) old new) (files : Files)
       (specified : old.files ≡ Some files) (program : Program) (path : Datapath) (plan : Plan)
       (has : IsPlanOver (content_of (files src)) (content_of (files datapath)) program path plan) where
-    run_so : (end : Option StreamFault)
-        → RunsProgram (content_of (files samples)) program end
-        → IsThisOrMemory (status_at end) status
-    run_so end its =
-        ends_so (RunsProgram (content_of (files samples)) program)
-        (one_end samples_end (program_channels program) (channels_of_program (content_of (files src)) program has.read)
-        (content_of (files samples)) _ _ (λ some more conflict runs met. met)
-        (λ some more conflict other met meet. absurd met))
-        end its status
-        (run_ends src datapath samples out old new kept files specified none program path plan has status
-        (run_law words old new kept status ending src datapath samples out form))
-
-    run_ended : IsEndedBySamples status
-    run_ended =
-        by_samples (content_of (files samples)) program status
-        (run_ends src datapath samples out old new kept files specified none program path plan has status
-        (run_law words old new kept status ending src datapath samples out form))
+    run_end : EndsBy (RunsProgram (content_of (files samples)) program) status
+    run_end =
+        run_ends src datapath samples out old new kept files specified none program path plan has status
+        (run_law words old new kept status ending src datapath samples out form)
 
   pub run_end_law : (src datapath samples out : Name)
       → IsRun words src datapath samples out
@@ -270,7 +285,8 @@ module _ (words : List (String Global)) (old new : View) (kept : Kept) (status :
       → IsEndedBySamples status
   run_end_law src datapath samples out form none given =
       let (path, plan, (program, has)) = given.so in
-      run_ended src datapath samples out form none given.files given.specified program path plan has
+      by_samples (content_of (given.files samples)) program status
+      (run_end src datapath samples out form none given.files given.specified program path plan has)
 
   pub planned_run_law : (src datapath samples out : Name)
       → IsRun words src datapath samples out
@@ -279,9 +295,9 @@ module _ (words : List (String Global)) (old new : View) (kept : Kept) (status :
       → IsDoneOrMemory status
   planned_run_law src datapath samples out form none given =
       let so = given.so in
-      let few = so.samples_are.within in
-      run_so src datapath samples out form none given.files given.specified so.program so.path so.plan so.planned None
-      (record { within = omega (arith, few); stream = so.stream; rows_of = so.samples_are.rows; runs = tt })
+      planned_through src samples given.files so.program so.planned.read
+      (run_end src datapath samples out form none given.files given.specified so.program so.path so.plan so.planned)
+      so.stream so.samples_are
 
   pub run_stop_law : (src datapath samples out : Name)
       → IsRun words src datapath samples out
@@ -291,4 +307,59 @@ module _ (words : List (String Global)) (old new : View) (kept : Kept) (status :
       → IsThisOrMemory (status_of fault) status
   run_stop_law src datapath samples out form none fault given =
       let (program, path, plan, has, stops) = given.so in
-      run_so src datapath samples out form none given.files given.specified program path plan has (Some fault) stops
+      planned_so src samples given.files program has.read
+      (run_end src datapath samples out form none given.files given.specified program path plan has) (Some fault) stops
+
+  -- so it does over so many stages
+  pub stages_text_law : (src datapath : Name) (count : ℕ)
+      → IsStages words src datapath count
+      → HasNoFaultRisen (stages src datapath count) old new
+      → Specifies (AreStageable count src datapath) old
+      → IsDoneOrMemory status
+  stages_text_law src datapath count form none files =
+      stages_complete count src datapath old new files.files files.specified files.so
+      (λ r. none (inl (src, inl refl, r)))
+      (λ r. none (inl (datapath, inr (inl refl), r)))
+      (λ r. none (inr (inr (refl, r)))) status (stages_law words old new kept status ending src datapath count form)
+
+  module _ (src datapath : Name) (count : ℕ) (samples out : Name) (form : IsPipe words src datapath count samples out)
+      (none : HasNoFaultRisen (pipe src datapath count samples out) old new) (files : Files)
+      (specified : old.files ≡ Some files) (program : Program) (path : Datapath) (plan : StagePlan)
+      (has : IsStagedOver count (content_of (files src)) (content_of (files datapath)) program path plan) where
+    pipe_end : EndsBy (RunsProgram (content_of (files samples)) program) status
+    pipe_end =
+        pipe_ends count src datapath samples out old new kept files specified none program path plan has status
+        (pipe_law words old new kept status ending src datapath count samples out form)
+
+  pub pipe_end_law : (src datapath : Name) (count : ℕ) (samples out : Name)
+      → IsPipe words src datapath count samples out
+      → HasNoFaultRisen (pipe src datapath count samples out) old new
+      → Specifies (AreStageable count src datapath) old
+      → IsEndedBySamples status
+  pipe_end_law src datapath count samples out form none given =
+      let (program, path, plan, has) = given.so in
+      by_samples (content_of (given.files samples)) program status
+      (pipe_end src datapath count samples out form none given.files given.specified program path plan has)
+
+  pub staged_run_law : (src datapath : Name) (count : ℕ) (samples out : Name)
+      → IsPipe words src datapath count samples out
+      → HasNoFaultRisen (pipe src datapath count samples out) old new
+      → Specifies (HasStagedStream count src datapath samples) old
+      → IsDoneOrMemory status
+  staged_run_law src datapath count samples out form none given =
+      let so = given.so in
+      planned_through src samples given.files so.program so.planned.has.read
+      (pipe_end src datapath count samples out form none given.files given.specified so.program so.path so.plan
+      so.planned) so.stream so.samples_are
+
+  pub pipe_stop_law : (src datapath : Name) (count : ℕ) (samples out : Name)
+      → IsPipe words src datapath count samples out
+      → HasNoFaultRisen (pipe src datapath count samples out) old new
+      → (fault : StreamFault)
+      → Specifies (StopsStaged count src datapath samples fault) old
+      → IsThisOrMemory (status_of fault) status
+  pipe_stop_law src datapath count samples out form none fault given =
+      let (program, path, plan, has, stops) = given.so in
+      planned_so src samples given.files program has.has.read
+      (pipe_end src datapath count samples out form none given.files given.specified program path plan has) (Some fault)
+      stops

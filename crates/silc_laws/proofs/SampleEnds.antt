@@ -1,9 +1,10 @@
--- How `sim`, `eval` and `run` end is how a run over SAMPLES does, memory aside, where no fault of the command's own
+-- How `sim`, `eval`, `run` and `pipe` end is how a run over SAMPLES does, memory aside, where no fault of the command's
+-- own
 -- rose.
 use Rattle.std.proofs.Common.{◌≡◌, ◌∙◌, refl, sym, subst, arith, inl, inr, ⊎_elim, ◌⊎◌, ℕ, ◌+◌, List, [], ◌∷◌, ◌++◌}
 use Rattle.std.proofs.Common.{Option, Some, None}
 use Rattle.lists.specs.Rows.{Rows}
-use Rattle.command_words.specs.Command.{sim, eval, run}
+use Rattle.command_words.specs.Command.{sim, eval, run, pipe}
 use Rattle.datapath.specs.declared.types.Datapath.{Datapath}
 use Rattle.desk_core.specs.View.{Name, Content, Files, View}
 use Rattle.desk_core.specs.Desk.{content_of}
@@ -17,33 +18,40 @@ use Rattle.micro_image.specs.Fields.{microprogram_of}
 use Rattle.micro_image.specs.Run.{IsRunOut, spread}
 use Rattle.micro_image.proofs.Streams.{length-spread}
 use Rattle.plan_commands.specs.Plans.{IsPlanOver}
-use Rattle.plan_commands.specs.Refusals.{IsPlanError}
+use Rattle.plan_commands.specs.Refusals.{IsRefusal, IsRefused, IsErrorOf}
+use Rattle.run_command.specs.Run.{IsRunErrorBy}
+use Rattle.plan_commands.specs.Plans.{IsPlannedOver}
 use Rattle.plan_commands.proofs.Complete.{plan_memory}
 use Rattle.plan_core.specs.declared.plan.Plan.{Plan}
-use Rattle.sample_commands.specs.Eval.{program_channels, IsSolutionRows, IsEvalDone, IsEvalAnswer}
-use Rattle.run_command.specs.Run.{IsRunAnswer}
+use Rattle.sample_commands.specs.Eval.{program_channels, IsSolutionRowsBy, IsEvalDoneBy, IsEvalAnswer}
 use Rattle.sample_commands.specs.Samples.{IsEndedEarly}
-use Rattle.sample_commands.specs.Sim.{HasImage, IsSimAnswer}
-use Rattle.sample_commands.specs.declared.simulator.Kept.{Kept}
-use Rattle.sample_commands.specs.declared.simulator.Kept.TheVariants.{Nothing}
+use Rattle.sample_commands.specs.Sim.{HasImage}
+use Rattle.silc.specs.Runs.{IsSimAnswer, IsRunAnswer, IsPipeAnswer}
+use Rattle.silc.specs.declared.kept.Kept.{Kept}
+use Rattle.silc.specs.declared.kept.Kept.TheVariants.{Nothing}
 use Rattle.sample_io.specs.declared.RowFault.{RowFault}
 use Rattle.sample_io.specs.declared.channel.Channel.{Channel}
 use Rattle.sample_loops.specs.Machines.{channels_of, IsClearOver, IsConflictInLast}
 use Rattle.sample_loops.specs.declared.stream.StreamFault.{StreamFault}
 use Rattle.sample_loops.specs.declared.stream.StreamFault.TheVariants as stream
+use Rattle.silage_meaning.specs.Value.{Words}
+use Rattle.silage_meaning.specs.Solves.{out as output_rows}
 use Rattle.silage_syntax.specs.Tree.{Program}
 use Rattle.silc.proofs.Complete.{image_or_not}
 use Rattle.silc_files.specs.Limits.{samples_limit}
 use Rattle.silc_laws.specs.Faults.{HasNoFaultRisen}
 use Rattle.silc_laws.specs.Samples.{StopsRun, IsAlwaysClear, MeetsNone}
-use Rattle.silc_laws.proofs.Faults.{simulating, evaluating, running}
+use Rattle.silc_laws.proofs.Faults.{simulating, evaluating, running, piping}
 use Rattle.silc_laws.proofs.Reading.{bad_place_read, lines_read, all_rows_read, many_read}
 use Rattle.silc_laws.proofs.StreamEnds.{IsEnd, status_at}
+use Rattle.stage_commands.specs.Pipe.{staged_out}
+use Rattle.stage_commands.specs.StagePlans.{IsStagedOver, IsStageRefused}
+use Rattle.stage_commands.proofs.Complete.{stage_memory}
+use Rattle.overlap_plan.specs.declared.plan.StagePlan.{StagePlan}
 use Rattle.statuses.specs.declared.status.SampleFault.TheVariants as sample_fault
 use Rattle.statuses.specs.declared.status.Status.{Status}
-use Rattle.statuses.specs.declared.status.Status.TheVariants as status
-use Rattle.statuses.specs.declared.status.Status.TheVariants.{Done, Memory, Words, Desk, FrontEnd, Path, LinesFull}
-use Rattle.statuses.specs.declared.status.Status.TheVariants.{Period, FileFull, Image, Samples, Conflict}
+use Rattle.statuses.specs.declared.status.Status.TheVariants.{Done, Memory, Desk, FrontEnd}
+use Rattle.statuses.specs.declared.status.Status.TheVariants.{Image, Samples, Conflict}
 
 -- memory ran out, or the status is that of one of these ends
 abbrev pub EndsBy : (Option StreamFault → Type 0) → Status → Type 0
@@ -167,17 +175,12 @@ module _ (mic samples out : Name) (old new : View) (kept : Kept) (files : Files)
       (conflict_stops samples out (channels_of h.image.inputs) old new files specified _
       (IsConflictInLast (microprogram_of h.image) [])
       (IsClearOver (microprogram_of h.image) []) (run_clear h.image) conflict h.ended)
-  sim_ends Words h = absurd h
-  sim_ends (FrontEnd fault) h = absurd h
-  sim_ends (Path fault) h = absurd h
-  sim_ends (status.Unit refusal) h = absurd h
-  sim_ends (LinesFull node) h = absurd h
-  sim_ends (Period node) h = absurd h
-  sim_ends (FileFull unit port node) h = absurd h
+  sim_ends other h = absurd h
 
--- SRC has this program
-module _ (src samples out : Name) (old new : View) (files : Files) (specified : old.files ≡ Some files)
-    (program : Program) (has : HasProgram (content_of (files src)) program) where
+-- SRC has this program, and OUT has rows of its solution. `rows_of` says which rows a solution has over so many
+-- samples.
+module _ (rows_of : Program → Words → (count : ℕ) → Rows) (src samples out : Name) (old new : View) (files : Files)
+    (specified : old.files ≡ Some files) (program : Program) (has : HasProgram (content_of (files src)) program) where
   abbrev EvalEnds : Program → Option StreamFault → Type 0
   EvalEnds = RunsProgram (content_of (files samples))
 
@@ -189,7 +192,7 @@ module _ (src samples out : Name) (old new : View) (files : Files) (specified : 
   of_program other its end ends =
       inr (end, refl, subst (λ p. EvalEnds p end) (one_program (content_of (files src)) program other has its) ends)
 
-  done : IsEvalDone src samples out old new → EndsBy (EvalEnds program) Done
+  done : IsEvalDoneBy rows_of src samples out old new → EndsBy (EvalEnds program) Done
   done h =
       let its = h.specified files specified in
       let few = its.samples_are.within in
@@ -198,7 +201,7 @@ module _ (src samples out : Name) (old new : View) (files : Files) (specified : 
 
   abbrev EndsEarly : Program → StreamFault → Type 0
   EndsEarly other =
-      IsEndedEarly samples out (program_channels other) (IsSolutionRows other) (λ rows conflict. ⊥) old new
+      IsEndedEarly samples out (program_channels other) (IsSolutionRowsBy rows_of other) (λ rows conflict. ⊥) old new
 
   bad_row : (line at : ℕ) (other : Program)
       → HasProgram (content_of (files src)) other
@@ -207,7 +210,7 @@ module _ (src samples out : Name) (old new : View) (files : Files) (specified : 
   bad_row line at other its ended =
       let fault : RowFault = record { line = line; at = at } in
       of_program other its (Some (stream.Row fault))
-      (row_stops samples out (program_channels other) old new files specified (IsSolutionRows other)
+      (row_stops samples out (program_channels other) old new files specified (IsSolutionRowsBy rows_of other)
       MeetsNone IsAlwaysClear (λ rows puts run. tt) fault ended)
 
   too_long : (other : Program)
@@ -216,59 +219,85 @@ module _ (src samples out : Name) (old new : View) (files : Files) (specified : 
       → EndsBy (EvalEnds program) (Samples sample_fault.TooLong)
   too_long other its ended =
       of_program other its (Some stream.TooLong)
-      (long_stops samples out (program_channels other) old new files specified (IsSolutionRows other)
+      (long_stops samples out (program_channels other) old new files specified (IsSolutionRowsBy rows_of other)
       MeetsNone IsAlwaysClear (λ rows puts run. tt) ended)
 
+-- SRC has this program
+module _ (src samples out : Name) (old new : View) (files : Files) (specified : old.files ≡ Some files)
+    (program : Program) (has : HasProgram (content_of (files src)) program) where
   pub eval_ends : HasNoFaultRisen (eval src samples out) old new
       → (status : Status)
       → IsEvalAnswer src samples out old new status
-      → EndsBy (EvalEnds program) status
-  eval_ends none Done h = done h
+      → EndsBy (RunsProgram (content_of (files samples)) program) status
+  eval_ends none Done h = done output_rows src samples out old new files specified program has h
   eval_ends none Memory h = inl refl
   eval_ends none Desk h = absurd (none (evaluating old new Nothing src samples out h))
   eval_ends none (FrontEnd fault) h =
       absurd (no_fault (content_of (files src)) program has fault (h.1.why files specified))
   eval_ends none (Samples (sample_fault.Row line at)) h =
-      bad_row line at h.program (h.specified files specified).read h.ended
-  eval_ends none (Samples sample_fault.TooLong) h = too_long h.program (h.specified files specified).read h.ended
-  eval_ends none Words h = absurd h
-  eval_ends none (Path fault) h = absurd h
-  eval_ends none (status.Unit refusal) h = absurd h
-  eval_ends none (LinesFull node) h = absurd h
-  eval_ends none (Period node) h = absurd h
-  eval_ends none (FileFull unit port node) h = absurd h
-  eval_ends none (Image fault) h = absurd h
-  eval_ends none (Conflict conflict) h = absurd h
+      bad_row output_rows src samples out old new files specified program has line at h.program
+      (h.specified files specified).read h.ended
+  eval_ends none (Samples sample_fault.TooLong) h =
+      too_long output_rows src samples out old new files specified program has h.program
+      (h.specified files specified).read h.ended
+  eval_ends none other h = absurd h
+
+-- A run of a source that is planned over a datapath, by any planning, where the source is not refused.
+module _ {P : Type 0} (IsPlanned : (source datapath : List ℕ) → Program → Datapath → P → Type 0)
+    (Tells : Status → (source datapath : List ℕ) → Type 0) (rows_of : Program → Words → (count : ℕ) → Rows)
+    (src datapath samples out : Name) (old new : View) (files : Files) (specified : old.files ≡ Some files)
+    (program : Program) (has : HasProgram (content_of (files src)) program)
+    (read : (other : Program) (path : Datapath) (plan : P)
+    → IsPlanned (content_of (files src)) (content_of (files datapath)) other path plan
+    → HasProgram (content_of (files src)) other)
+    (memory : (error : Status) → IsErrorOf IsRefusal Tells src datapath old new error → error ≡ Memory) where
+  abbrev RunError : Status → Type 0
+  RunError = IsRunErrorBy IsPlanned src datapath Tells (IsSolutionRowsBy rows_of) samples out old new
+
+  error_ends : (RunError Desk → ⊥)
+      → (status : Status)
+      → RunError status
+      → EndsBy (RunsProgram (content_of (files samples)) program) status
+  error_ends no_desk Done h = absurd h
+  error_ends no_desk Desk h = absurd (no_desk h)
+  error_ends no_desk (Samples (sample_fault.Row line at)) h =
+      bad_row rows_of src samples out old new files specified program has line at h.program
+      (read h.program h.path h.plan (h.planned files specified)) h.ended
+  error_ends no_desk (Samples sample_fault.TooLong) h =
+      too_long rows_of src samples out old new files specified program has h.program
+      (read h.program h.path h.plan (h.planned files specified)) h.ended
+  error_ends no_desk (Image fault) h = absurd h
+  error_ends no_desk (Conflict conflict) h = absurd h
+  error_ends no_desk error h = inl (memory error h)
 
 -- SRC's program has this plan over DP's datapath
 module _ (src datapath samples out : Name) (old new : View) (kept : Kept) (files : Files)
     (specified : old.files ≡ Some files) (none : HasNoFaultRisen (run src datapath samples out) old new)
     (program : Program) (path : Datapath) (plan : Plan)
     (has : IsPlanOver (content_of (files src)) (content_of (files datapath)) program path plan) where
-  abbrev PlannedEnds : Status → Type 0
-  PlannedEnds = EndsBy (RunsProgram (content_of (files samples)) program)
+  pub run_ends : (status : Status)
+      → IsRunAnswer src datapath samples out old new kept status
+      → EndsBy (RunsProgram (content_of (files samples)) program) status
+  run_ends Done h = done output_rows src samples out old new files specified program has.read h.2.solved
+  run_ends error h =
+      error_ends IsPlannedOver IsRefused output_rows src datapath samples out old new files specified program has.read
+      (λ other at its planned. planned.has.read)
+      (plan_memory src datapath old new files specified (path, plan, (program, has))
+      (λ r. none (inl (src, inl refl, r))) (λ r. none (inl (datapath, inr (inl refl), r))))
+      (λ desk. none (running old new kept src datapath samples out desk)) error h
 
-  memory : (error : Status) → IsPlanError src datapath old new error → PlannedEnds error
-  memory error h =
-      inl (plan_memory src datapath old new files specified (path, plan, (program, has)) (λ r. none (inl r))
-      (λ r. none (inr (inl r))) error h)
-
-  pub run_ends : (status : Status) → IsRunAnswer src datapath samples out old new kept status → PlannedEnds status
-  run_ends Done h = done src samples out old new files specified program has.read h.solved
-  run_ends Desk h = absurd (none (running old new kept src datapath samples out h))
-  run_ends (Samples (sample_fault.Row line at)) h =
-      bad_row src samples out old new files specified program has.read line at h.program
-      (h.planned files specified).has.read h.ended
-  run_ends (Samples sample_fault.TooLong) h =
-      too_long src samples out old new files specified program has.read h.program (h.planned files specified).has.read
-      h.ended
-  run_ends (Image fault) h = absurd h
-  run_ends (Conflict conflict) h = absurd h
-  run_ends Memory h = memory Memory h
-  run_ends Words h = memory Words h
-  run_ends (FrontEnd fault) h = memory (FrontEnd fault) h
-  run_ends (Path fault) h = memory (Path fault) h
-  run_ends (status.Unit refusal) h = memory (status.Unit refusal) h
-  run_ends (LinesFull node) h = memory (LinesFull node) h
-  run_ends (Period node) h = memory (Period node) h
-  run_ends (FileFull unit port node) h = memory (FileFull unit port node) h
+-- SRC's program has this plan over so many stages on DP's datapath
+module _ (stages : ℕ) (src datapath samples out : Name) (old new : View) (kept : Kept) (files : Files)
+    (specified : old.files ≡ Some files) (none : HasNoFaultRisen (pipe src datapath stages samples out) old new)
+    (program : Program) (path : Datapath) (plan : StagePlan)
+    (has : IsStagedOver stages (content_of (files src)) (content_of (files datapath)) program path plan) where
+  pub pipe_ends : (status : Status)
+      → IsPipeAnswer src datapath stages samples out old new kept status
+      → EndsBy (RunsProgram (content_of (files samples)) program) status
+  pipe_ends Done h = done (staged_out stages) src samples out old new files specified program has.has.read h.2.solved
+  pipe_ends error h =
+      error_ends (IsStagedOver stages) (IsStageRefused stages) (staged_out stages) src datapath samples out old new
+      files specified program has.has.read (λ other at its planned. planned.has.read)
+      (stage_memory stages src datapath old new files specified (program, path, plan, has)
+      (λ r. none (inl (src, inl refl, r))) (λ r. none (inl (datapath, inr (inl refl), r))))
+      (λ desk. none (piping old new kept src datapath stages samples out desk)) error h

@@ -1,6 +1,6 @@
 -- What is asked of the files, so that a command is done or memory runs out; what they have where it stops at its
 -- samples; and how it ends then.
-use Rattle.std.specs.Prelude.{◌≡◌, ◌⊎◌, ◌+◌, ℕ, [], Some}
+use Rattle.std.specs.Prelude.{◌≡◌, ◌⊎◌, ◌+◌, ℕ, List, [], Some}
 use Rattle.lists.specs.Rows.{Rows}
 use Rattle.demo_cascade.specs.Cascade.{cascade_source, cascade_datapath}
 use Rattle.datapath.specs.declared.types.Datapath.{Datapath}
@@ -11,7 +11,7 @@ use Rattle.micro_image.specs.declared.conflict.Conflict.{Conflict as ConflictVal
 use Rattle.micro_image.specs.declared.image.Image.{Image}
 use Rattle.micro_image.specs.Fields.{microprogram_of}
 use Rattle.plan_commands.specs.Plans.{IsPlanOver, HasPlan, IsPlannable}
-use Rattle.plan_commands.specs.Refusals.{IsRefused}
+use Rattle.plan_commands.specs.Refusals.{IsRefused, AreTold}
 use Rattle.silc_files.specs.Sources.{IsAcceptedSource}
 use Rattle.plan_core.specs.declared.plan.Plan.{Plan}
 use Rattle.plan_soundness.specs.ImageOf.{IsImageOf}
@@ -23,6 +23,7 @@ use Rattle.sample_loops.specs.declared.stream.StreamFault.{StreamFault}
 use Rattle.silage_syntax.specs.Tree.{Program}
 use Rattle.silc_files.specs.Limits.{samples_limit}
 use Rattle.silc_laws.specs.Samples.{StopsRun, IsAlwaysClear, MeetsNone}
+use Rattle.stage_commands.specs.StagePlans.{IsStagedOver, IsStageable, IsStageRefused}
 use Rattle.statuses.specs.declared.status.SampleFault.{SampleFault}
 use Rattle.statuses.specs.declared.status.Status.{Status}
 use Rattle.statuses.specs.declared.status.Status.TheVariants.{Done, Memory, Samples, Conflict}
@@ -36,6 +37,14 @@ pub record Specifies (P : Files → Type 0) (desk : View) : Type 0 where
 -- SRC's program has a plan over DP's datapath
 abbrev pub ArePlannable : Name → Name → Files → Type 0
 ArePlannable src datapath files = IsPlannable (content_of (files src)) (content_of (files datapath))
+
+-- SRC's program has a plan over so many stages on DP's datapath
+abbrev pub AreStageable : (stages : ℕ) → Name → Name → Files → Type 0
+AreStageable stages src datapath files = IsStageable stages (content_of (files src)) (content_of (files datapath))
+
+-- the source and the datapath in the files are refused over so many stages
+abbrev pub AreStageRefused : (stages : ℕ) → Name → Name → Status → Files → Type 0
+AreStageRefused stages = AreTold (IsStageRefused stages)
 
 -- SRC's program has this plan over DP's datapath
 abbrev pub HavePlan : Name → Name → Datapath → Plan → Files → Type 0
@@ -67,14 +76,25 @@ pub record HasProgramStream (src samples : Name) (files : Files) : Type 0 where
   pub stream : Rows
   pub samples_are : AreSamples (program_channels program) (content_of (files samples)) stream
 
--- SRC's program has a plan over DP's datapath, and SAMPLES a stream for it
-pub record HasPlannedStream (src datapath samples : Name) (files : Files) : Type 0 where
+-- SRC's program has a plan over DP's datapath, and SAMPLES a stream for it. `IsPlanned` says which plan the program of
+-- a
+-- source has over a datapath.
+pub record HasPlannedStreamBy {P : Type 0}
+    (IsPlanned : (source datapath : List ℕ) → Program → Datapath → P → Type 0) (src datapath samples : Name)
+    (files : Files) : Type 0 where
   pub program : Program
   pub path : Datapath
-  pub plan : Plan
-  pub planned : IsPlanOver (content_of (files src)) (content_of (files datapath)) program path plan
+  pub plan : P
+  pub planned : IsPlanned (content_of (files src)) (content_of (files datapath)) program path plan
   pub stream : Rows
   pub samples_are : AreSamples (program_channels program) (content_of (files samples)) stream
+
+-- so they have where the plan is that of `compile`, and where it is one over so many stages
+abbrev pub HasPlannedStream : Name → Name → Name → Files → Type 0
+HasPlannedStream = HasPlannedStreamBy IsPlanOver
+
+abbrev pub HasStagedStream : (stages : ℕ) → Name → Name → Name → Files → Type 0
+HasStagedStream stages = HasPlannedStreamBy (IsStagedOver stages)
 
 -- MIC has an image, whose run over SAMPLES stops so
 abbrev pub StopsSim : Name → Name → StreamFault → Files → Type 0
@@ -95,11 +115,25 @@ StopsEval src samples fault files =
     × StopsProgram program (content_of (files samples)) fault
 
 -- SRC's program has a plan over DP's datapath, and its run over SAMPLES stops so
-abbrev pub StopsPlanned : Name → Name → Name → StreamFault → Files → Type 0
-StopsPlanned src datapath samples fault files =
-    (program : Program) × (path : Datapath) × (plan : Plan)
-    × IsPlanOver (content_of (files src)) (content_of (files datapath)) program path plan
+abbrev pub StopsPlannedBy : {P : Type 0}
+    → (IsPlanned : (source datapath : List ℕ) → Program → Datapath → P → Type 0)
+    → Name
+    → Name
+    → Name
+    → StreamFault
+    → Files
+    → Type 0
+StopsPlannedBy {P} IsPlanned src datapath samples fault files =
+    (program : Program) × (path : Datapath) × (plan : P)
+    × IsPlanned (content_of (files src)) (content_of (files datapath)) program path plan
     × StopsProgram program (content_of (files samples)) fault
+
+-- so it is where the plan is that of `compile`, and where it is one over so many stages
+abbrev pub StopsPlanned : Name → Name → Name → StreamFault → Files → Type 0
+StopsPlanned = StopsPlannedBy IsPlanOver
+
+abbrev pub StopsStaged : (stages : ℕ) → Name → Name → Name → StreamFault → Files → Type 0
+StopsStaged stages = StopsPlannedBy (IsStagedOver stages)
 
 -- the command answers this status, or memory ran out
 abbrev pub IsThisOrMemory : Status → Status → Type 0

@@ -1,7 +1,6 @@
 -- What a run over the bytes of samples comes to where no call of the desk fails: to the end of its stream, or it stops.
 -- `end` is the least number of bytes that are too many, `clear` says of rows that no conflict comes with any of them,
--- and
--- `meets` which conflict comes with the last of them.
+-- and `meets` which conflict comes with the last of them.
 use Rattle.std.specs.Prelude.{◌≡◌, ℕ, ◌<◌, ◌≤◌, List, length, take, Some}
 use Rattle.lists.specs.Rows.{Rows}
 use Rattle.desk_core.specs.View.{Content, View}

@@ -12,13 +12,15 @@ use std::process::ExitCode;
 
 const HELP: &str = "silc compiles equations between sampled signals to microcode, and simulates it.
 
-usage: silc compile SRC DP OUT      compiles SRC for the datapath DP, and writes the microcode to OUT
-       silc schedule SRC DP         plans SRC for the datapath DP, and prints the plan
-       silc sim MIC SAMPLES OUT     runs the microcode MIC over SAMPLES, and writes its rows to OUT
-       silc eval SRC SAMPLES OUT    solves the equations of SRC over SAMPLES, and writes their rows to OUT
-       silc run SRC DP SAMPLES OUT  compiles SRC for DP, runs it over SAMPLES, and writes its rows to OUT
-       silc list MIC                prints the microcode MIC as text
-       silc demo K N                compiles K biquads in a row, runs N samples, and prints their sum
+usage: silc compile SRC DP OUT         compiles SRC for the datapath DP, and writes the microcode to OUT
+       silc schedule SRC DP            plans SRC for the datapath DP, and prints the plan
+       silc sim MIC SAMPLES OUT        runs the microcode MIC over SAMPLES, and writes its rows to OUT
+       silc eval SRC SAMPLES OUT       solves the equations of SRC over SAMPLES, and writes their rows to OUT
+       silc run SRC DP SAMPLES OUT     compiles SRC for DP, runs it over SAMPLES, and writes its rows to OUT
+       silc list MIC                   prints the microcode MIC as text
+       silc demo K N                   compiles K biquads in a row, runs N samples, and prints their sum
+       silc stages SRC DP S            plans SRC for DP with S samples in flight at once, and prints the plan
+       silc pipe SRC DP S SAMPLES OUT  runs such a plan over SAMPLES, and writes its rows to OUT
        silc --help | --version
 
 example: silc compile increment.sil plain.toml increment.mic
@@ -28,6 +30,8 @@ example: silc compile increment.sil plain.toml increment.mic
          silc run increment.sil plain.toml samples.txt rows.txt
          silc list increment.mic
          silc demo 1 3
+         silc stages increment.sil plain.toml 2
+         silc pipe increment.sil plain.toml 2 samples.txt rows.txt
 
 The exit code is 0 where all was done, 1 without memory, 2 at words that are no command, 3 at a file
 that can't be read or written, 4 at a source that is no program, 5 at a file that describes no datapath,

@@ -380,16 +380,26 @@ fn a_missing_datapath_comes_before_a_fault_of_the_source(rt: HostRuntime) -> Res
     Ok(())
 }
 
-/// The commands that keep a machine.
+/// The commands that run a machine of an image.
 const RUNS: [&[&str]; 2] = [
     &["sim", "OUT", "SAMPLES", "ROWS"],
     &["run", "SRC", "DP", "SAMPLES", "ROWS"],
 ];
 
+/// The commands that keep a machine, and the rows that each writes.
+const KEEPING: [(&[&str], &[u8]); 3] = [
+    (&["sim", "OUT", "SAMPLES", "ROWS"], b"1\n-128\n-127\n"),
+    (&["run", "SRC", "DP", "SAMPLES", "ROWS"], b"1\n-128\n-127\n"),
+    (
+        &["pipe", "SRC", "DP", "2", "SAMPLES", "ROWS"],
+        b"0\n1\n-128\n",
+    ),
+];
+
 #[test]
-fn sim_and_run_keep_the_machine_after_the_last_sample(rt: HostRuntime) -> Result<(), Fail> {
+fn a_run_keeps_the_machine_after_the_last_sample(rt: HostRuntime) -> Result<(), Fail> {
     let alloc = rt.alloc();
-    for words in RUNS {
+    for (words, rows) in KEEPING {
         let mut desk = desk_with(alloc, 100, SOURCE)?;
         desk.put("SAMPLES", b"0\n127\n-128\n")?;
         assert_eq!(rt; carry_out(alloc, &COMPILE, &mut desk)?, Status::Done);
@@ -397,9 +407,10 @@ fn sim_and_run_keep_the_machine_after_the_last_sample(rt: HostRuntime) -> Result
         let mut kept = Kept::Nothing;
         let status = silc(alloc, &words, &mut desk, &mut kept);
         assert_eq!(rt; status, Status::Done);
-        assert_eq!(rt; desk.get("ROWS"), Some(b"1\n-128\n-127\n".as_slice()));
+        assert_eq!(rt; desk.get("ROWS"), Some(rows));
         let samples = match &kept {
             Kept::One(machine) => Some(machine.samples()),
+            Kept::Staged(machine) => Some(machine.samples()),
             Kept::Nothing => None,
         };
         assert_eq!(rt; samples, Some(3));

@@ -1,4 +1,5 @@
 use Rattle.silc_laws.proofs.Laws.{answer_law, schedule_law, list_law, demo_law, sim_law, eval_law, run_law}
+use Rattle.silc_laws.proofs.Laws.{stages_law, pipe_law}
 use Rattle.silc_laws.proofs.silc_answers.Goals as goal
 
 pub returns-clause-answer : goal.returns-clause-answer
@@ -34,4 +35,17 @@ returns-clause-eval_answer g c =
 pub returns-clause-run_answer : goal.returns-clause-run_answer
 returns-clause-run_answer g c =
     run_law c.args.words.now (g.D.Desk.view c.args.desk.now) (g.D.Desk.view c.silc.new.desk) c.silc.new.kept
+    c.silc.result c.silc.ensures.ending
+
+pub returns-clause-words : goal.returns-clause-words
+returns-clause-words g c = (c.silc.ensures.words, c.silc.ensures.command)
+
+pub returns-clause-stages_answer : goal.returns-clause-stages_answer
+returns-clause-stages_answer g c =
+    stages_law c.args.words.now (g.D.Desk.view c.args.desk.now) (g.D.Desk.view c.silc.new.desk) c.silc.new.kept
+    c.silc.result c.silc.ensures.ending
+
+pub returns-clause-pipe_answer : goal.returns-clause-pipe_answer
+returns-clause-pipe_answer g c =
+    pipe_law c.args.words.now (g.D.Desk.view c.args.desk.now) (g.D.Desk.view c.silc.new.desk) c.silc.new.kept
     c.silc.result c.silc.ensures.ending

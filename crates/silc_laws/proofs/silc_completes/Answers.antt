@@ -1,5 +1,6 @@
 use Rattle.silc_laws.proofs.Complete.{compile_law, compile_plan_law, plan_text_law, listing_law, demonstration_law}
 use Rattle.silc_laws.proofs.Complete.{simulation_law, evaluation_law, planned_run_law}
+use Rattle.silc_laws.proofs.Complete.{stages_text_law, staged_run_law}
 use Rattle.silc_laws.proofs.silc_completes.Goals as goal
 
 pub returns-clause-compiles : goal.returns-clause-compiles
@@ -40,4 +41,17 @@ returns-clause-evaluates g c =
 pub returns-clause-runs : goal.returns-clause-runs
 returns-clause-runs g c =
     planned_run_law c.args.words.now (g.D.Desk.view c.args.desk.now) (g.D.Desk.view c.silc.new.desk) c.silc.new.kept
+    c.silc.result c.silc.ensures.ending
+
+pub returns-clause-words : goal.returns-clause-words
+returns-clause-words g c = (c.silc.ensures.words, c.silc.ensures.command)
+
+pub returns-clause-stages : goal.returns-clause-stages
+returns-clause-stages g c =
+    stages_text_law c.args.words.now (g.D.Desk.view c.args.desk.now) (g.D.Desk.view c.silc.new.desk) c.silc.new.kept
+    c.silc.result c.silc.ensures.ending
+
+pub returns-clause-pipes : goal.returns-clause-pipes
+returns-clause-pipes g c =
+    staged_run_law c.args.words.now (g.D.Desk.view c.args.desk.now) (g.D.Desk.view c.silc.new.desk) c.silc.new.kept
     c.silc.result c.silc.ensures.ending

@@ -1,5 +1,5 @@
 use Rattle.silc_laws.proofs.Laws.{printed_law, listed_law, demonstrated_law, simulated_law, one_solution_law}
-use Rattle.silc_laws.proofs.Laws.{equals_eval_law, closed_law}
+use Rattle.silc_laws.proofs.Laws.{equals_eval_law, staged_law, piped_law, closed_law}
 use Rattle.silc_laws.proofs.silc_done.Goals as goal
 
 pub returns-clause-printed : goal.returns-clause-printed
@@ -35,4 +35,17 @@ returns-clause-equals_eval g c =
 pub returns-clause-closed : goal.returns-clause-closed
 returns-clause-closed g c =
     closed_law c.args.words.now (g.D.Desk.view c.args.desk.now) (g.D.Desk.view c.silc.new.desk) c.silc.new.kept
+    c.silc.result c.silc.ensures.ending
+
+pub returns-clause-words : goal.returns-clause-words
+returns-clause-words g c = (c.silc.ensures.words, c.silc.ensures.command)
+
+pub returns-clause-staged : goal.returns-clause-staged
+returns-clause-staged g c =
+    staged_law c.args.words.now (g.D.Desk.view c.args.desk.now) (g.D.Desk.view c.silc.new.desk) c.silc.new.kept
+    c.silc.result c.silc.ensures.ending
+
+pub returns-clause-piped : goal.returns-clause-piped
+returns-clause-piped g c =
+    piped_law c.args.words.now (g.D.Desk.view c.args.desk.now) (g.D.Desk.view c.silc.new.desk) c.silc.new.kept
     c.silc.result c.silc.ensures.ending

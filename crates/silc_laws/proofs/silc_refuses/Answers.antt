@@ -1,5 +1,6 @@
 use Rattle.silc_laws.proofs.Refused.{compile_refusal_law, schedule_refusal_law, list_refusal_law, sim_refusal_law}
 use Rattle.silc_laws.proofs.Refused.{eval_refusal_law, run_refusal_law, demo_refusal_law}
+use Rattle.silc_laws.proofs.Refused.{stages_refusal_law, pipe_refusal_law}
 use Rattle.silc_laws.proofs.silc_refuses.Goals as goal
 
 pub returns-clause-compile_refuses : goal.returns-clause-compile_refuses
@@ -35,4 +36,17 @@ returns-clause-eval_refuses g c =
 pub returns-clause-run_refuses : goal.returns-clause-run_refuses
 returns-clause-run_refuses g c =
     run_refusal_law c.args.words.now (g.D.Desk.view c.args.desk.now) (g.D.Desk.view c.silc.new.desk) c.silc.new.kept
+    c.silc.result c.silc.ensures.ending
+
+pub returns-clause-words : goal.returns-clause-words
+returns-clause-words g c = (c.silc.ensures.words, c.silc.ensures.command)
+
+pub returns-clause-stages_refuses : goal.returns-clause-stages_refuses
+returns-clause-stages_refuses g c =
+    stages_refusal_law c.args.words.now (g.D.Desk.view c.args.desk.now) (g.D.Desk.view c.silc.new.desk) c.silc.new.kept
+    c.silc.result c.silc.ensures.ending
+
+pub returns-clause-pipe_refuses : goal.returns-clause-pipe_refuses
+returns-clause-pipe_refuses g c =
+    pipe_refusal_law c.args.words.now (g.D.Desk.view c.args.desk.now) (g.D.Desk.view c.silc.new.desk) c.silc.new.kept
     c.silc.result c.silc.ensures.ending

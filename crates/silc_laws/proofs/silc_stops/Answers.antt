@@ -1,4 +1,5 @@
 use Rattle.silc_laws.proofs.Complete.{sim_end_law, eval_end_law, run_end_law, sim_stop_law, eval_stop_law, run_stop_law}
+use Rattle.silc_laws.proofs.Complete.{pipe_end_law, pipe_stop_law}
 use Rattle.silc_laws.proofs.silc_stops.Goals as goal
 
 pub returns-clause-sim_ends : goal.returns-clause-sim_ends
@@ -29,4 +30,17 @@ returns-clause-eval_stops g c =
 pub returns-clause-run_stops : goal.returns-clause-run_stops
 returns-clause-run_stops g c =
     run_stop_law c.args.words.now (g.D.Desk.view c.args.desk.now) (g.D.Desk.view c.silc.new.desk) c.silc.new.kept
+    c.silc.result c.silc.ensures.ending
+
+pub returns-clause-words : goal.returns-clause-words
+returns-clause-words g c = (c.silc.ensures.words, c.silc.ensures.command)
+
+pub returns-clause-pipe_ends : goal.returns-clause-pipe_ends
+returns-clause-pipe_ends g c =
+    pipe_end_law c.args.words.now (g.D.Desk.view c.args.desk.now) (g.D.Desk.view c.silc.new.desk) c.silc.new.kept
+    c.silc.result c.silc.ensures.ending
+
+pub returns-clause-pipe_stops : goal.returns-clause-pipe_stops
+returns-clause-pipe_stops g c =
+    pipe_stop_law c.args.words.now (g.D.Desk.view c.args.desk.now) (g.D.Desk.view c.silc.new.desk) c.silc.new.kept
     c.silc.result c.silc.ensures.ending
