@@ -6,7 +6,7 @@ from silc.explaining.outputs import COMMANDS, named, same_input
 from silc.explaining.refusals import COMMANDS_PAGE
 from silc.explaining.report import Report, counted, listed
 
-SECTIONS, SAMPLES = 32, 100_000
+SECTIONS, SAMPLES, STAGES = 32, 100_000, 4
 HELP = ("-h", "-?", "/?", "help", "usage", "--usage")
 
 
@@ -33,6 +33,9 @@ def report_of(case):
                       f"write `{usage(command)}`.", COMMANDS_PAGE, about="silc")
     if command == "demo":
         return bad_number(files)
+    if "S" in files and files["S"] not in map(str, range(1, STAGES + 1)):
+        return Report(f"S is one digit from 1 to {STAGES}, and here {files['S']}", f"write a number of stages from 1 to {STAGES}.",
+                      COMMANDS_PAGE, about="silc")
     other = next((what for what in files if what != "OUT" and files[what] == files.get("OUT")), None)
     if other:
         return Report(f"OUT is {files['OUT']}, which is {other} too, and would be written over", "give OUT another name.",

@@ -4,7 +4,8 @@ import sys
 from contextlib import suppress
 
 COMMANDS = {"compile": ("SRC", "DP", "OUT"), "schedule": ("SRC", "DP"), "sim": ("MIC", "SAMPLES", "OUT"),
-            "eval": ("SRC", "SAMPLES", "OUT"), "run": ("SRC", "DP", "SAMPLES", "OUT"), "list": ("MIC",), "demo": ("K", "N")}
+            "eval": ("SRC", "SAMPLES", "OUT"), "run": ("SRC", "DP", "SAMPLES", "OUT"), "list": ("MIC",), "demo": ("K", "N"),
+            "stages": ("SRC", "DP", "S"), "pipe": ("SRC", "DP", "S", "SAMPLES", "OUT")}
 BAD_WORDS = 2
 
 

@@ -36,14 +36,14 @@ class Issue:
     argument: int
     registers: tuple
 
-    def operands(self):
+    def operands(self) -> list[tuple[int, int]]:
         """The port and the register of each operand that is read."""
         return list(enumerate(self.registers))[: reads(self.operation)]
 
-    def gives(self):
+    def gives(self) -> bool:
         return self.operation not in WITHOUT_RESULT
 
-    def text(self):
+    def text(self) -> str:
         """The operation with its argument, where it has one."""
         return f"{self.operation} {self.argument}" if self.operation in WITH_ARGUMENT else self.operation
 
@@ -55,17 +55,17 @@ class Word:
     enables: list = field(default_factory=list)
     takes: list = field(default_factory=list)
 
-    def drivers(self, bus):
+    def drivers(self, bus: int) -> list[int]:
         return [unit for unit, driven in self.enables if driven == bus]
 
-    def listed(self):
+    def listed(self) -> list[str]:
         """Its lines of the listing that docs/MICROCODE.md describes."""
         return [*(issue_line(issue) for _, issue in sorted(self.issues.items())),
                 *(f"drive {unit} {bus}" for unit, bus in self.enables),
                 *(f"take {unit}.{port} bus {bus} reg {register}" for unit, port, bus, register in self.takes)]
 
 
-def issue_line(issue):
+def issue_line(issue: Issue) -> str:
     line = f"issue {issue.unit} {issue.text()}"
     if issue.format:
         line += f" fmt {issue.format.shift} {issue.format.mode} {issue.format.width}"
@@ -93,10 +93,10 @@ class Image:
     buses: int
     words: list
 
-    def circle(self):
+    def circle(self) -> int:
         return self.period * self.unroll
 
-    def issue_for_result(self, cycle, unit):
+    def issue_for_result(self, cycle: int, unit: int) -> Issue:
         """The issue whose result the unit has in this cycle of a circle that has gone on for ever, or nothing."""
         return self.words[(cycle - self.units[unit].latency + 1) % self.circle()].issues.get(unit)
 
@@ -110,7 +110,7 @@ class Image:
         return "\n".join(lines) + "\n"
 
 
-def argument_range(operation, image):
+def argument_range(operation: str, image: Image) -> tuple[int, int]:
     """The least and the greatest argument that an operation may have."""
     return {"input": (0, len(image.inputs) - 1), "output": (0, image.outputs - 1), "const": RAW,
             "addr": (0, MOST_OFFSET)}.get(operation, (0, 0))

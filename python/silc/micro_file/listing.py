@@ -2,7 +2,9 @@
 it starts with, and behind it what `silc list` prints. `listing_of` and `image_of_listing` are the two directions. BadListing
 tells the first fault of a text with its place."""
 import re
+from collections.abc import Callable, Iterator
 from dataclasses import dataclass, field
+from typing import Any, NoReturn
 
 from .image import (MODES, MOST_BUSES, MOST_CELLS, MOST_LATENCY, MOST_MOVES, MOST_PERIOD, MOST_REGISTERS, MOST_UNITS,
                     MOST_WIDTH, MOST_WORDS, RAW, SHIFTS, UNROLLS, Format, Image, Issue, Take, Unit, Word, argument_range)
@@ -32,7 +34,7 @@ def listing_of(image: Image) -> str:
     return "".join(f"{line}\n" for line in heading_of(image)) + image.listing()
 
 
-def heading_of(image: Image):
+def heading_of(image: Image) -> Iterator[str]:
     for number, width in enumerate(image.inputs):
         yield f"input {number} width {width}"
     for number, unit in enumerate(image.units):
@@ -49,7 +51,7 @@ def unit_line(number: int, unit: Unit) -> str:
     return line + (f" ram {unit.ram}" if unit.kind == "acu" else "")
 
 
-def first_lines(where: str, words: list):
+def first_lines(where: str, words: list) -> Iterator[str]:
     """Rows of what registers or cells start with, but for those that are zeros alone."""
     for start in range(0, len(words), A_ROW):
         row = words[start:start + A_ROW]
@@ -67,7 +69,7 @@ class Token:
     column: int
     text: str
 
-    def refuse(self, what: str):
+    def refuse(self, what: str) -> NoReturn:
         raise BadListing(self.line, self.column, what)
 
     def __str__(self) -> str:
@@ -92,7 +94,7 @@ class Line:
         self.at += 1
         return self.tokens[self.at - 1]
 
-    def key(self, *keys: str):
+    def key(self, *keys: str) -> None:
         """Words that stand there as they are."""
         for key in keys:
             token = self.take(f"`{key}`")
@@ -114,7 +116,7 @@ class Line:
             token.refuse(f"`{token}` is no {what}; there {'are' if names[1:] else 'is'} {', '.join(names)}")
         return token.text
 
-    def close(self):
+    def close(self) -> None:
         """Nothing more stands in the line."""
         if self.at < len(self.tokens):
             token = self.tokens[self.at]
@@ -154,7 +156,7 @@ class Reading:
     number: int | None = None
     seen: set = field(default_factory=set)
 
-    def line(self, line: Line):
+    def line(self, line: Line) -> None:
         """Reads a line. Its first word says what it is."""
         token = line.take("a line")
         allowed = WORDS if self.image else HEADING
@@ -167,7 +169,7 @@ class Reading:
 
     # The heading
 
-    def next_number(self, line: Line, what: str, count: int, most: int):
+    def next_number(self, line: Line, what: str, count: int, most: int) -> None:
         """The number of an input word or a unit, which are numbered in order."""
         token = line.take(f"the number of the {what}")
         if token.text != str(count):
@@ -175,12 +177,12 @@ class Reading:
         if count == most:
             token.refuse(f"there are {most} {what}s at most")
 
-    def input_line(self, token: Token, line: Line):
+    def input_line(self, token: Token, line: Line) -> None:
         self.next_number(line, "input word", len(self.inputs), MOST_WORDS)
         line.key("width")
         self.inputs.append(line.number("the width", 0, MOST_WIDTH))
 
-    def unit_line(self, token: Token, line: Line):
+    def unit_line(self, token: Token, line: Line) -> None:
         self.next_number(line, "unit", len(self.units), MOST_UNITS)
         kind = line.chosen("kind of unit", KINDS)
         line.key("latency")
@@ -200,7 +202,7 @@ class Reading:
             self.rams.append((line.tokens[line.at - 1], unit.ram))
         self.units.append(unit)
 
-    def first_line(self, token: Token, line: Line):
+    def first_line(self, token: Token, line: Line) -> None:
         where = line.take("a file or a unit")
         unit, port = self.file_at(where) if "." in where.text else (self.unit_at(where), None)
         if port is None and self.units[unit].kind != "ram":
@@ -212,7 +214,7 @@ class Reading:
         for place in range(at, at + max(1, len(line.tokens) - line.at)):
             self.put_first(line, (unit, port), words, place, what)
 
-    def put_first(self, line: Line, place: tuple, words: list, at: int, what: str):
+    def put_first(self, line: Line, place: tuple, words: list, at: int, what: str) -> None:
         """Reads what one register or cell starts with."""
         word = line.number("a first word", *RAW)
         token = line.tokens[line.at - 1]
@@ -223,7 +225,7 @@ class Reading:
         self.given.add((*place, at))
         words[at] = word
 
-    def period_line(self, token: Token, line: Line):
+    def period_line(self, token: Token, line: Line) -> None:
         if not self.inputs or not self.units:
             token.refuse(NO_HEADING)
         for place, ram in self.rams:
@@ -242,7 +244,7 @@ class Reading:
         self.image.words = [Word() for _ in range(self.image.circle())]
 
     @staticmethod
-    def counted(line: Line, what: str, count: int):
+    def counted(line: Line, what: str, count: int) -> None:
         """A number that the heading has given already."""
         line.key(what)
         token = line.take(f"the number of {what}")
@@ -273,7 +275,7 @@ class Reading:
 
     # Microwords
 
-    def word_line(self, token: Token, line: Line):
+    def word_line(self, token: Token, line: Line) -> None:
         number = line.member("the number of a microword", "microword", self.image.circle())
         place = line.tokens[line.at - 1]
         if self.number is not None and number <= self.number:
@@ -291,7 +293,7 @@ class Reading:
             token.refuse(f"`{token}` comes before the first line `word ..`")
         return self.image.words[self.number]
 
-    def issue_line(self, token: Token, line: Line):
+    def issue_line(self, token: Token, line: Line) -> None:
         word = self.word_of(token)
         place = line.take("a unit")
         number = self.unit_at(place)
@@ -316,13 +318,13 @@ class Reading:
                 line.tokens[line.at - 1].refuse(f"{operation} reads no register at port {port}, which is written as 0")
         return tuple(registers)
 
-    def drive_line(self, token: Token, line: Line):
+    def drive_line(self, token: Token, line: Line) -> None:
         word, unit = self.word_of(token), self.unit_at(line.take("a unit"))
         enable = unit, self.bus_in(line)
         self.add(token, line, "drive", *enable)
         word.enables.append(enable)
 
-    def take_line(self, token: Token, line: Line):
+    def take_line(self, token: Token, line: Line) -> None:
         word = self.word_of(token)
         unit, port = self.file_at(line.take("a file"))
         line.key("bus")
@@ -360,7 +362,7 @@ def text_of(data: bytes) -> str:
         raise BadListing(before.count("\n") + 1, len(before) - before.rfind("\n"), "this byte is no text in UTF-8") from fault
 
 
-def image_of_listing(text: str, told=lambda number: None) -> Image:
+def image_of_listing(text: str, told: Callable[..., Any] = lambda number: None) -> Image:
     """The image that a completed listing says, or BadListing. Comments, from `#` on, and blank lines say nothing, and the
     lines of a microword may come in any order. `told` is told now and then up to which line the text is read."""
     reading, number = Reading(), 0

@@ -22,7 +22,7 @@ class Kind(NamedTuple):
     ports: int
     operations: tuple
 
-    def names(self):
+    def names(self) -> tuple[str, ...]:
         return tuple(operation.name for operation in self.operations)
 
 
@@ -56,7 +56,7 @@ WITH_ARGUMENT = tuple(name for name, operation in CALLED.items() if operation.ha
 WITHOUT_RESULT = tuple(name for name, operation in CALLED.items() if not operation.gives)
 
 
-def reads(operation):
+def reads(operation: str) -> int:
     """How many operands an operation reads: those of the first ports of its unit."""
     return CALLED[operation].reads
 
@@ -66,6 +66,6 @@ def number_of(operation):
     return OF_KIND[KIND_OF[operation]].index(operation)
 
 
-def number_bits(kind):
+def number_bits(kind: str) -> int:
     """How many bits number the operations of a kind. One that is alone needs none."""
     return (len(OF_KIND[kind]) - 1).bit_length()

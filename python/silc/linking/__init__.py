@@ -1,0 +1,1 @@
+"""The linker: one plain source of a source that uses blocks, and the library of blocks (docs/LIBRARY.md)."""
