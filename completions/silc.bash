@@ -1,7 +1,7 @@
 # Completion of `silc` for bash: source this file, or put it into a folder of bash-completion under the name `silc`.
 
 # made by tools/completions
-_silc_words='run eval compile sim schedule list demo explain check draw design ranges values noise explore rows assemble rom vcd verilog cosimulate synthesize fuzz show build help'
+_silc_words='run eval compile sim schedule list demo stages pipe explain check draw design ranges values noise explore link rows assemble rom vcd verilog cosimulate synthesize fuzz show build help'
 _silc_forms='run *.sil *.toml * *
 eval *.sil * *
 compile *.sil *.toml *
@@ -9,7 +9,9 @@ sim *.mic * *
 schedule *.sil *.toml
 list *.mic
 demo - -
-explain run|eval|compile|sim|schedule|list|demo
+stages *.sil *.toml -
+pipe *.sil *.toml - * *
+explain run|eval|compile|sim|schedule|list|demo|stages|pipe
 check *.sil
 draw datapath *.toml
 draw schedule * *.toml *.sil
@@ -30,6 +32,10 @@ values *.sil * - ...
 noise *.sil *
 noise *.sil
 explore *.sil *
+link *.sil - *
+link - *
+link *
+link - ...
 rows from-wav *.wav -
 rows to-wav * - - *.wav
 assemble *.listing *
@@ -57,6 +63,7 @@ ranges --all --element=- --force --json --picture=* --seconds=- --worst --worst-
 values --json
 noise --against=* --force --impulse=- --picture=* --zero-input=-
 explore --against=* --area=ice40|xilinx|ecp5 --best=- --dsp --force --jobs=- --json --out=- --pool --samples=* --sshlogin=-
+link --check=*.sil --force --library=/ --pages --template=*.sil --test --where=-
 rows --bits=16|24|32 --columns=- --force
 assemble --force --listing=*.mic --version=1|2
 rom --c --force --intel --map --name=- --out=* --readmemh
