@@ -318,7 +318,8 @@ def bounds_passed(name, source, bounds, rows):
     """Which elements of an example pass a bound on rows of samples, where nothing wraps."""
     for element, words in words_of(source, rows).items():
         bound = bounds.get(element)
-        if bound and not MAY_WRAP.search(bound.said) and not (bound.least <= min(words) and max(words) <= bound.greatest):
+        is_claimed = bound and bound.is_bound and not MAY_WRAP.search(bound.said)
+        if is_claimed and not (bound.least <= min(words) and max(words) <= bound.greatest):
             yield f"{name}: {element} goes from {min(words)} to {max(words)}, and its bound is {bound}"
 
 

@@ -21,6 +21,7 @@ from check_tutorial import BLOCK, CONSOLE, carry_out, commands_in, faults_of  # 
 
 NOT_BUILT, SKIPPED = 70, 77
 PICTURE = "smooth.svg"
+RECORD = Path(".local/state/silc/made")
 
 
 def released(room):
@@ -60,6 +61,12 @@ def trace_faults(top):
             yield f"{path.relative_to(top)} names {ROOT}"
 
 
+def left_faults(home):
+    """The files that the commands leave in HOME, but for the record of what tools made."""
+    left = {path.relative_to(home) for path in home.rglob("*") if not path.is_dir()}
+    return [f"the session leaves {path} in HOME" for path in sorted(left - {RECORD})]
+
+
 def main():
     with tempfile.TemporaryDirectory(prefix="silc-session-") as folder:
         room = Path(folder).resolve()
@@ -71,7 +78,7 @@ def main():
             tar.extractall(room, filter="data")
         top = next(room.glob("silc-*"))
         faults = [*session_faults(top, room), *trace_faults(top)]
-        faults += [f"the session leaves {path.name} in HOME" for path in (room / "home").iterdir()]
+        faults += left_faults(room / "home")
     for fault in faults:
         print(fault)
     print(f"session: {len(tutorial()[2])} commands of the tutorial, {len(faults)} faults")
