@@ -21,3 +21,4 @@ pub mod OneKept
 pub mod OneFault
 pub mod OneUnfolded
 mod Examples
+pub mod OneUnfolded
