@@ -4,5 +4,6 @@ pub mod Compiled
 pub mod Errors
 pub mod Making
 pub mod Scheduling
+pub mod OneFault
 pub mod Complete
 mod Examples

@@ -1,6 +1,6 @@
 -- The microcode that `compile` makes of a plan.
 use Rattle.std.specs.Prelude.{◌≤◌, length}
-use Rattle.desk_core.specs.View.{Name, Content, View}
+use Rattle.desk_core.specs.View.{Name, Content, Files, View}
 use Rattle.desk_core.specs.Desk.{WhereSpecified}
 use Rattle.desk_core.specs.Whole.{IsReadThrough}
 use Rattle.datapath.specs.declared.types.Datapath.{Datapath}
@@ -23,7 +23,12 @@ pub record IsMicrocodeOf (d : Datapath) (plan : Plan) (microcode : Content) : Ty
   pub short : length microcode ≤ microcode_limit
   pub runs : (g : Graph) → IsGraph g → IsPlan g d plan → RunsSolution g image
 
--- the microcode is compiled from the files, which were read through
-pub record IsMade (src datapath : Name) (old new : View) (microcode : Content) : Type 0 where
-  pub read : IsReadThrough datapath text_limit old new
-  pub compiled : WhereSpecified old (AreCompiled src datapath microcode)
+-- the microcode is that of the files, of which the last was read through; `IsOf` says which microcode they have
+pub record IsMadeOf (IsOf : Content → Files → Type 0) (last : Name) (old new : View) (microcode : Content)
+    : Type 0 where
+  pub read : IsReadThrough last text_limit old new
+  pub compiled : WhereSpecified old (IsOf microcode)
+
+-- the microcode is compiled from the files
+abbrev pub IsMade : (src datapath : Name) → (old new : View) → Content → Type 0
+IsMade src datapath = IsMadeOf (AreCompiled src datapath) datapath

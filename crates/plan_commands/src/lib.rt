@@ -10,6 +10,7 @@ mod scheduler;
 
 pub use compiler::{compile, microcode_of};
 pub use planning::{
-    Inputs, Planned, datapath_in, plan_of, plan_over, planned_of, read_inputs, read_plan, source_in,
+    Inputs, Planned, datapath_in, plan_of, plan_over, planned_of, planned_over, read_inputs,
+    read_plan, source_in,
 };
 pub use scheduler::schedule;

@@ -81,7 +81,7 @@ pub fn plan_over(alloc: Global, graph: Graph, path: &Datapath) -> Result<Plan, S
 }
 
 /// The plan of a graph, with its datapath. An error keeps the datapath, whose units it may name.
-fn planned_over(alloc: Global, graph: Graph, path: Datapath) -> Result<Planned, Ending>
+pub fn planned_over(alloc: Global, graph: Graph, path: Datapath) -> Result<Planned, Ending>
     requires sound { IsGraph graph }
     requires loopless { IsGraphLoopless graph }
     requires path { IsDatapath path }

@@ -3,12 +3,15 @@ use Rattle.desk_core.specs.Whole.{IsWrittenInPart}
 use Rattle.silc_files.specs.Limits.{text_limit}
 use Rattle.statuses.specs.declared.status.Ending.{Ending}
 use Rattle.silc_files.proofs.Endings.{not_written}
+use Rattle.plan_commands.specs.Compile.{AreCompiled}
+use Rattle.plan_commands.specs.Refusals.{IsPlanError}
 use Rattle.plan_commands.proofs.Making.{cut_short}
 use Rattle.plan_commands.proofs.compiler.compile.Goals as goal
 
 pub returns-in-Ok-clause-answer : goal.returns-in-Ok-clause-answer
 returns-in-Ok-clause-answer g c =
-    cut_short c.args.source.now c.args.datapath.now c.args.output.now c.in-Ok.microcode
+    cut_short (AreCompiled c.args.source.now c.args.datapath.now) c.args.datapath.now c.args.output.now
+    (IsPlanError c.args.source.now c.args.datapath.now) c.in-Ok.microcode
     (g.D.Desk.view c.args.desk.now) (g.D.Desk.view c.make.new.desk) (g.D.Desk.view c.write_whole.new.desk)
     c.from-in-Err-write_whole.result.status (ap (λ (e : Ending). e.status) c.from-in-Err-write_whole.ensures)
     c.in-Ok.ensures.ok
