@@ -1,0 +1,4 @@
+pub mod FrameGraphs
+pub mod FramePlans
+pub mod Frame
+pub mod Planning
