@@ -21,4 +21,3 @@ pub mod OneKept
 pub mod OneFault
 pub mod OneUnfolded
 mod Examples
-pub mod OneUnfolded
