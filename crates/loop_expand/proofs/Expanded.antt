@@ -1,7 +1,5 @@
 -- The flat program of a checked program, by its expansion.
-use Rattle.std.proofs.Common.{◌≡◌, sym, subst, ◌∙◌, arith, ℕ, ◌<◌, [], length, Some, Ok, ℤ}
-use Rattle.std.specs.Prelude.{pos, negsuc}
-use Rattle.std.proofs.lemmas.Int.{ints}
+use Rattle.std.proofs.Common.{◌≡◌, subst, [], Some, Ok}
 use Rattle.lists.specs.Rows.{Rows}
 use Rattle.recurrences.proofs.Kept.{equal_to_one}
 use Rattle.fault_order.specs.Private.FirstMet.{first}
@@ -9,7 +7,7 @@ use Rattle.fault_order.proofs.TableFaults.{then_parts}
 use Rattle.silage_syntax.specs.Tree.{Func, Program}
 use Rattle.silage_syntax.specs.Names.{main_of}
 use Rattle.silage_meaning.specs.Value.{Words}
-use Rattle.silage_meaning.specs.Solves.{Solves, IsSample, AreSame, IsStream, IsOneSolution}
+use Rattle.silage_meaning.specs.Solves.{IsStream, IsOneSolution}
 use Rattle.element_rules.specs.declared.elements.Elements.{Elements}
 use Rattle.element_rules.specs.Tables.{at_entry, table_rules}
 use Rattle.element_rules.specs.Expansion.{IsExpansion}
@@ -20,14 +18,12 @@ use Rattle.element_rules.proofs.PlacedFaults.{elements_pass}
 use Rattle.element_rules.proofs.NumberedElements.{is_numbering}
 use Rattle.signal_graph.specs.Flat as flat
 use Rattle.signal_graph.specs.FlatRules.{IsFlat}
-use Rattle.signal_graph.specs.Values as flat_words
 use Rattle.signal_graph.specs.FlatSolves.{flat_system, IsFlatLoopless}
 use Rattle.signal_graph.proofs.OneSolution.{flat_solution}
 use Rattle.loop_expand.specs.Checked.{IsChecked}
 use Rattle.loop_expand.specs.FlatOf.{IsFlatOf}
 use Rattle.loop_expand.specs.Kept.{program_system, HaveSameWords, KeepsSolutions}
 use Rattle.loop_expand.proofs.ProgramSystem.{one_system}
-use Rattle.loop_expand.proofs.Numbers.{number_of, is_number_of, below}
 use Rattle.element_rules.proofs.LoadedElements.{main_there as names_main}
 use Rattle.element_rules.proofs.OnceTables.{distinct_numbers}
 use Rattle.loop_expand.proofs.Kept.{keeps_solutions}

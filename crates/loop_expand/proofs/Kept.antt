@@ -3,14 +3,13 @@ use Rattle.std.proofs.Common.{◌≡◌, refl, sym, subst, ◌∙◌, ap, ap₂,
 use Rattle.std.proofs.Common.{map, length, slice_get, Some, ℤ}
 use Rattle.std.specs.Prelude.{pos, negsuc}
 use Rattle.std.specs.List.{AllZip, range_with_len}
-use Rattle.std.proofs.lemmas.Int.{ints}
 use Rattle.std.proofs.lemmas.Option.{slice_get-get_or}
 use Rattle.lists.proofs.Ranges.{map_same}
 use Rattle.lists.specs.Rows.{Rows}
 use Rattle.silage_syntax.specs.Tree.{Program}
 use Rattle.silage_meaning.specs.Instances.{Element, IsElement, outputs}
 use Rattle.silage_meaning.specs.Value.{Words}
-use Rattle.silage_meaning.specs.Solves.{Source, IsDefined, Gives, IsInitial, Solves, IsSample, IsStream, out}
+use Rattle.silage_meaning.specs.Solves.{Source, IsDefined, Gives, IsInitial, Solves, IsStream, out}
 use Rattle.silage_meaning.specs.Rules.{IsDefinedOnce, HasSingleDefinitions}
 use Rattle.silage_meaning.proofs.Sources.{gives_once}
 use Rattle.silage_meaning.proofs.Unique.{initial_once}

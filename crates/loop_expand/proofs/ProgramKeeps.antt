@@ -1,11 +1,8 @@
 -- The pruned graph of a checked program without a delay-free loop keeps its solutions.
 use Rattle.std.proofs.Common.{◌≡◌, sym, subst, ◌∙◌, arith, ◌↔◌, List, [], ◌∷◌, length, ℤ}
-use Rattle.std.specs.Prelude.{pos, negsuc}
 use Rattle.std.specs.List.{AllZip}
-use Rattle.std.proofs.lemmas.Int.{ints}
 use Rattle.std.proofs.lemmas.List.Elements.{All-weaker}
 use Rattle.lists.specs.Rows.{Rows}
-use Rattle.recurrences.specs.Systems as systems
 use Rattle.recurrences.specs.Systems.{Signals, System}
 use Rattle.recurrences.specs.Kept.{KeepsSolutions}
 use Rattle.recurrences.proofs.Kept.{AreEqualThrough, keeps_through, keeps_the_one}

@@ -5,7 +5,6 @@ use Rattle.std.proofs.lemmas.Int.{ints}
 use Rattle.lists.specs.Rows.{Rows}
 use Rattle.recurrences.specs.Systems as systems
 use Rattle.silage_syntax.specs.Tree.{Program}
-use Rattle.silage_meaning.specs.Instances.{Element, IsElement}
 use Rattle.silage_meaning.specs.Value.{Words}
 use Rattle.silage_meaning.specs.Solves.{Solves, IsSample, AreSame, IsOneSolution}
 use Rattle.loop_expand.specs.Kept.{program_system}

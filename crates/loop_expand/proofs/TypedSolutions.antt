@@ -1,30 +1,26 @@
--- The words of the solutions of a checked program without a delay-free loop are in their types, element by element
--- along its flat program.
-use Rattle.std.proofs.Common.{◌≡◌, refl, sym, subst, ◌∙◌, ap, arith, ℕ, zero, suc, ◌+◌, ◌<◌, ◌≤◌, List, [], ◌∷◌, ◌++◌}
+-- The words of the solutions of a checked program without a delay-free loop are in their types, element by element along
+-- its flat program.
+use Rattle.std.proofs.Common.{◌≡◌, refl, sym, subst, ◌∙◌, ap, ap₂, arith, ℕ, zero, suc, ◌+◌, ◌<◌, List, [], ◌∷◌, ◌++◌}
 use Rattle.std.proofs.Common.{map, length, slice_get, get_or, Option, Some, None, ℤ}
-use Rattle.std.specs.Prelude.{pos, negsuc, ◌-ℤ◌, ◌==◌, All, find, replicate}
+use Rattle.std.specs.Prelude.{pos, negsuc, ◌-ℤ◌, ◌==◌, find, replicate}
 use Rattle.std.specs.List.{AllZip, range_with_len}
 use Rattle.std.proofs.lemmas.Int.{ints}
 use Rattle.std.proofs.lemmas.List.{map-append}
 use Rattle.std.proofs.lemmas.List.Elements.{All-contains, All-map}
 use Rattle.std.proofs.lemmas.List.FromFn.{get_or-range_with_len, length-range_with_len}
 use Rattle.lists.specs.Rows.{Rows}
-use Rattle.lists.proofs.Places.{some_once}
 use Rattle.recurrences.proofs.Along.{along}
 use Rattle.fix_word.specs.declared.types.SigType.{SigType}
 use Rattle.fix_word.specs.declared.types.SigType.TheVariants as sig
 use Rattle.silage_syntax.specs.declared.tree.Decl.{Decl}
 use Rattle.silage_syntax.specs.Tree.{Func, Program}
 use Rattle.silage_syntax.specs.Names.{decls, element_count, main_of}
-use Rattle.silage_meaning.specs.Instances.{Instance, main, Element, element, IsInstance, main_is, IsElement}
-use Rattle.silage_meaning.specs.Instances.{elements_from}
-use Rattle.silage_meaning.specs.Instances.{results_of, inputs, outputs, made, result_of}
+use Rattle.silage_meaning.specs.Instances.{Instance, main, Element, element, IsInstance, main_is, IsElement, elements_from}
+use Rattle.silage_meaning.specs.Instances.{results_of, outputs, made, result_of}
 use Rattle.silage_meaning.specs.Types.{IsInType, word_types}
 use Rattle.silage_meaning.specs.Value.{Words}
-use Rattle.silage_meaning.specs.Solves.{Source, same, IsDefined, input, equated, argument, array, table as by_table}
-use Rattle.silage_meaning.specs.Solves.{result}
-use Rattle.silage_meaning.specs.Solves.{array_result, Gives, Solves, IsSample, IsRow, IsStream, input_types, types_of}
-use Rattle.silage_meaning.specs.Solves.{out}
+use Rattle.silage_meaning.specs.Solves.{Source, same, IsDefined, input, equated, argument, array, table as by_table, result}
+use Rattle.silage_meaning.specs.Solves.{array_result, Gives, Solves, IsSample, IsRow, IsStream, input_types, output_types, types_of}
 use Rattle.silage_meaning.specs.Rules.{SourceReads}
 use Rattle.silage_meaning.proofs.Elements.{declared_at, made_is, source_there}
 use Rattle.silage_meaning.proofs.Outputs.{in_second, in_first}
@@ -42,8 +38,8 @@ use Rattle.signal_graph.proofs.Fits.{zero_word}
 use Rattle.signal_graph.proofs.Members.{found_member, zip_at}
 use Rattle.signal_graph.proofs.OneSolution.{flat_determined, flat_heights}
 use Rattle.loop_expand.specs.Checked.{IsChecked}
-use Rattle.loop_expand.specs.FlatOf.{IsFlatOf}
-use Rattle.loop_expand.specs.InTypes.{IsOutputRow, HasTypedSolutions}
+use Rattle.loop_expand.specs.FlatOf.{IsFlatElement, IsFlatOf}
+use Rattle.loop_expand.specs.InTypes.{flat_output_types, IsOutputRow, HasTypedSolutions}
 use Rattle.loop_expand.proofs.Bodies.{index_is}
 use Rattle.loop_expand.proofs.Expanded.{main_there, numbering}
 use Rattle.loop_expand.proofs.FlatInits.{inits_allowed}
@@ -211,44 +207,49 @@ module _ (p : Program) (checked : IsChecked p) (es : Elements) (made_of : IsExpa
       by (pos n) sample k its less = present k n less (omega (arith, ints, sample.last)) e its
       by (negsuc j) sample k its less = past k j less (omega (arith, ints, sample.first)) e its
 
--- the words of declarations, in their types
-module _ (g : Element → ℤ) where
-  typed_array : (i : Instance) (d : ℕ) (ty : SigType) (from count : ℕ)
-      → ((k : ℕ) → k < from + count → IsInType ty (g (element i d k)))
-      → (rest : List SigType) (others : List ℤ)
-      → AllZip IsInType rest others
-      → AllZip IsInType (replicate count ty ++ rest) (map g (map (element i d) (range_with_len from count)) ++ others)
-  typed_array i d ty from zero all rest others zips = zips
-  typed_array i d ty from (suc count) all rest others zips = (
+-- what stands for the elements of declarations, by their types
+module _ {A : Type 0} (R : SigType → A → Type 0) (g : Element → A) where
+  zip_array : (i : Instance) (d : ℕ) (ty : SigType) (from count : ℕ)
+      → ((k : ℕ) → k < from + count → R ty (g (element i d k)))
+      → (rest : List SigType) (others : List A)
+      → AllZip R rest others
+      → AllZip R (replicate count ty ++ rest) (map g (map (element i d) (range_with_len from count)) ++ others)
+  zip_array i d ty from zero all rest others zips = zips
+  zip_array i d ty from (suc count) all rest others zips = (
     all from (omega arith),
-    typed_array i d ty (from + 1) count (λ k less. all k (omega (arith, less))) rest others zips,
+    zip_array i d ty (from + 1) count (λ k less. all k (omega (arith, less))) rest others zips,
   )
 
-  typed_declarations : (i : Instance) (ds : List Decl) (d : ℕ)
+  zip_declarations : (i : Instance) (ds : List Decl) (d : ℕ)
       → ((a : ℕ) (x : Decl) (k : ℕ)
       → slice_get ds a ≡ Some x
       → k < element_count x.dims
-      → IsInType x.ty (g (element i (d + a) k)))
-      → AllZip IsInType (word_types ds) (map g (elements_from i d ds))
-  typed_declarations i [] d all = tt
-  typed_declarations i (x ∷ ds) d all =
-      subst (λ vs. AllZip IsInType (word_types (x ∷ ds)) vs)
+      → R x.ty (g (element i (d + a) k)))
+      → AllZip R (word_types ds) (map g (elements_from i d ds))
+  zip_declarations i [] d all = tt
+  zip_declarations i (x ∷ ds) d all =
+      subst (λ vs. AllZip R (word_types (x ∷ ds)) vs)
       (sym (map-append g (map (element i d) (range_with_len 0 (element_count x.dims))) (elements_from i (d + 1) ds)))
-      (typed_array i d x.ty 0 (element_count x.dims)
+      (zip_array i d x.ty 0 (element_count x.dims)
       (λ k less.
-      subst (λ (n : ℕ). IsInType x.ty (g (element i n k))) (omega arith) (all 0 x k refl (omega (arith, less))))
+      subst (λ (n : ℕ). R x.ty (g (element i n k))) (nothing_more d) (all 0 x k refl (omega (arith, less))))
       (word_types ds) (map g (elements_from i (d + 1) ds))
-      (typed_declarations i ds (d + 1)
-      (λ a y k at less.
-      subst (λ (n : ℕ). IsInType y.ty (g (element i n k))) (omega arith) (all (suc a) y k at less))))
+      (zip_declarations i ds (d + 1)
+      (λ a y k at less. subst (λ (n : ℕ). R y.ty (g (element i n k))) (one_on d a) (all (suc a) y k at less))))
+    where
+      nothing_more : (d : ℕ) → d + 0 ≡ d
+      nothing_more d = omega arith
 
-module _ (p : Program) (f : Func) (is_main : main_of p ≡ Some f) where
-  output_row : (g : Element → ℤ)
-      → ((e : Element) (is : IsElement p e) → IsInType is.decl.ty (g e))
-      → IsOutputRow p (map g (outputs p))
-  output_row g all =
-      subst (λ (o : Option Func). AllZip IsInType (types_of (λ h. h.results) o) (map g (results_of o))) (sym is_main)
-      (typed_declarations g main f.results (length f.params)
+      one_on : (d a : ℕ) → d + suc a ≡ d + 1 + a
+      one_on d a = omega arith
+
+  zip_outputs : (p : Program) (f : Func)
+      → main_of p ≡ Some f
+      → ((e : Element) (is : IsElement p e) → R is.decl.ty (g e))
+      → AllZip R (output_types p) (map g (outputs p))
+  zip_outputs p f is_main all =
+      subst (λ (o : Option Func). AllZip R (types_of (λ h. h.results) o) (map g (results_of o))) (sym is_main)
+      (zip_declarations main f.results (length f.params)
       (λ a x k at less.
       all (element main (length f.params + a) k)
       (record {
@@ -258,6 +259,48 @@ module _ (p : Program) (f : Func) (is_main : main_of p ≡ Some f) where
         declared = in_second f.params (f.results ++ f.locals) a ∙ in_first f.results f.locals a x at;
         offset = less;
       })))
+
+same_types : (xs ys : List SigType) → AllZip (λ x y. y ≡ x) xs ys → ys ≡ xs
+same_types [] [] all = refl
+same_types [] (y ∷ ys) all = absurd all
+same_types (x ∷ xs) [] all = absurd all
+same_types (x ∷ xs) (y ∷ ys) all = ap₂ (λ (z : SigType) (zs : List SigType). z ∷ zs) all.0 (same_types xs ys all.1)
+
+-- the output words of a flat program have the types of the program's
+module _ (p : Program) (checked : IsChecked p) (es : Elements) (made_of : IsExpansion p es) (f : flat.Program)
+    (flat_of : IsFlatOf p es f) where
+  abbrev type_of : Element → SigType
+  type_of e = (element_of f (number_of p es (numbering p checked es made_of) e)).ty
+
+  element_at : (k : ℕ) (e : Element) → IsNumberOf es k e → IsFlatElement p es e (element_of f k)
+  element_at k e its =
+      at_number p checked es (numbering p checked es made_of)
+      (distinct_numbers p checked.names checked.positions es made_of) f flat_of k e its
+
+  numbered_types : (ks : List ℕ) (xs : List Element)
+      → AllZip (IsNumberOf es) ks xs
+      → map (λ (k : ℕ). (element_of f k).ty) ks ≡ map type_of xs
+  numbered_types [] [] all = refl
+  numbered_types [] (x ∷ xs) all = absurd all
+  numbered_types (k ∷ ks) [] all = absurd all
+  numbered_types (k ∷ ks) (x ∷ xs) all =
+      let numbers = numbering p checked es made_of in
+      let same : k ≡ number_of p es numbers x =
+      distinct_numbers p checked.names checked.positions es made_of x k (number_of p es numbers x) all.0
+      (is_number_of p es numbers x (element_at k x all.0).is) in
+      ap₂ (λ (z : SigType) (zs : List SigType). z ∷ zs) (ap (λ (n : ℕ). (element_of f n).ty) same)
+      (numbered_types ks xs all.1)
+
+  pub output_types_same : flat_output_types f ≡ output_types p
+  output_types_same =
+      let there = main_there p checked in
+      numbered_types f.outs (outputs p) flat_of.outs
+      ∙ same_types (output_types p) (map type_of (outputs p))
+      (zip_outputs (λ x y. y ≡ x) type_of p there.0 there.1
+      (λ e is.
+      let numbers = numbering p checked es made_of in
+      let at = element_at (number_of p es numbers e) e (is_number_of p es numbers e is) in
+      at.ty ∙ ap (λ (d : Decl). d.ty) (decl_once p checked e at.is is.function is.decl is.instance is.declared)))
 
 -- so is each output row
 pub typed_solutions :
@@ -276,7 +319,7 @@ typed_solutions p checked es made_of f flat_of sound loopless = record {
       let long = length-range_with_len 0 (length stream) in
       let n = get_or (range_with_len 0 (length stream)) i d in
       let at : n ≡ 0 + i = get_or-range_with_len 0 (length stream) i d (omega (arith, inside, long)) in
-      output_row p there.0 there.1 (λ e. words e (pos n))
+      zip_outputs IsInType (λ e. words e (pos n)) p there.0 there.1
       (λ e is.
       words_typed p checked es made_of f flat_of sound loopless stream rows words solves e (pos n) is
       (record { first = omega (arith, ints); last = omega (arith, ints, at, inside, long) })));

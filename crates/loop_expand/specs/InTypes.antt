@@ -1,12 +1,19 @@
 -- The words of a program's solutions are in the types that its signals are declared with.
-use Rattle.std.specs.Prelude.{List, length, All, ℤ}
+use Rattle.std.specs.Prelude.{ℕ, List, map, length, All, ℤ}
 use Rattle.std.specs.List.{AllZip}
 use Rattle.lists.specs.Rows.{Rows}
+use Rattle.fix_word.specs.declared.types.SigType.{SigType}
+use Rattle.signal_graph.specs.Flat as flat
+use Rattle.signal_graph.specs.FlatSolves.{element_of}
 use Rattle.silage_syntax.specs.Tree.{Program}
 use Rattle.silage_meaning.specs.Instances.{Element, IsElement}
 use Rattle.silage_meaning.specs.Types.{IsInType}
 use Rattle.silage_meaning.specs.Value.{Words}
 use Rattle.silage_meaning.specs.Solves.{Solves, IsSample, IsStream, output_types, out}
+
+-- the type of each output word of a flat program: that of its element
+abbrev pub flat_output_types : flat.Program → List SigType
+flat_output_types f = map (λ (k : ℕ). (element_of f k).ty) f.outs
 
 -- an output row has a word for each output, in the range of its type
 abbrev pub IsOutputRow : Program → List ℤ → Type 0
