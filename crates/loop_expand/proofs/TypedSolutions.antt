@@ -1,5 +1,5 @@
--- The words of the solutions of a checked program without a delay-free loop are in their types, element by element along
--- its flat program.
+-- The words of the solutions of a checked program without a delay-free loop are in their types, element by element
+-- along its flat program.
 use Rattle.std.proofs.Common.{◌≡◌, refl, sym, subst, ◌∙◌, ap, ap₂, arith, ℕ, zero, suc, ◌+◌, ◌<◌, List, [], ◌∷◌, ◌++◌}
 use Rattle.std.proofs.Common.{map, length, slice_get, get_or, Option, Some, None, ℤ}
 use Rattle.std.specs.Prelude.{pos, negsuc, ◌-ℤ◌, ◌==◌, find, replicate}
@@ -15,12 +15,14 @@ use Rattle.fix_word.specs.declared.types.SigType.TheVariants as sig
 use Rattle.silage_syntax.specs.declared.tree.Decl.{Decl}
 use Rattle.silage_syntax.specs.Tree.{Func, Program}
 use Rattle.silage_syntax.specs.Names.{decls, element_count, main_of}
-use Rattle.silage_meaning.specs.Instances.{Instance, main, Element, element, IsInstance, main_is, IsElement, elements_from}
+use Rattle.silage_meaning.specs.Instances.{Instance, main, Element, element, IsInstance, main_is, IsElement}
+use Rattle.silage_meaning.specs.Instances.{elements_from}
 use Rattle.silage_meaning.specs.Instances.{results_of, outputs, made, result_of}
 use Rattle.silage_meaning.specs.Types.{IsInType, word_types}
 use Rattle.silage_meaning.specs.Value.{Words}
-use Rattle.silage_meaning.specs.Solves.{Source, same, IsDefined, input, equated, argument, array, table as by_table, result}
-use Rattle.silage_meaning.specs.Solves.{array_result, Gives, Solves, IsSample, IsRow, IsStream, input_types, output_types, types_of}
+use Rattle.silage_meaning.specs.Solves.{Source, same, IsDefined, input, equated, argument, array, table as by_table}
+use Rattle.silage_meaning.specs.Solves.{result, array_result, Gives, Solves, IsSample, IsRow, IsStream, input_types}
+use Rattle.silage_meaning.specs.Solves.{output_types, types_of}
 use Rattle.silage_meaning.specs.Rules.{SourceReads}
 use Rattle.silage_meaning.proofs.Elements.{declared_at, made_is, source_there}
 use Rattle.silage_meaning.proofs.Outputs.{in_second, in_first}
