@@ -29,7 +29,7 @@ use name_rules::{Names, Tops};
 use silage_syntax::Program;
 use std::alloc::Global;
 use tops::typed_tops;
-use type_rules::{TypeFault, Typed};
+pub use type_rules::{TypeFault, Typed, TypedConst, TypedExpr, TypedFunc, TypedItem};
 
 /// The typed program, or the first fault of types in source order: an expression's own before those of its parts, and
 /// at a call the arguments before the places. `docs/LANGUAGE.md`, "Equations", has the typing table.

@@ -18,7 +18,7 @@ use Rattle.type_rules.specs.declared.fault.TypeFault.TheVariants as kind
 use Rattle.source_faults.specs.Faults.{IsRead}
 use Rattle.front_end.specs.Places.{byte_of, byte_of_lex, IsLineOf, IsNumbered, IsAbout}
 use Rattle.front_end.specs.Rejections.{HasLine, HasElement}
-use Rattle.front_end.specs.Private.Checks.{IsCheckError, IsGraphError}
+use Rattle.front_end.specs.Private.Checks.{IsCheckError, IsLoopError}
 use Rattle.source_faults.specs.Private.Errors.{of_lex, of_parse, of_names, of_defs, of_types}
 use Rattle.front_end.specs.Private.Findings.{place_pair, element_of, placed_element, byte_of_finding}
 use Rattle.front_end.specs.declared.checks.Finding.{Finding}
@@ -77,7 +77,7 @@ module _ (p : Program) where
   numbered_pair k (Some e) h = h
 
   pub graph_about : (error : FrontError) (element : Option ElementPlace)
-      → IsGraphError p error
+      → IsLoopError p error
       → ((k : ℕ) → error ≡ Fault (Loop k) → IfSome element (λ e. IsNumbered p k e.at e.place))
       → (error ≡ Memory → element ≡ None)
       → IsAbout p error (option_map place_pair element)

@@ -14,7 +14,7 @@ use Rattle.type_rules.specs.declared.fault.TypeFault.{TypeFault}
 use Rattle.type_rules.specs.declared.fault.TypeFault.TheVariants as kind
 use Rattle.front_end.specs.Answers.{IsFrontError}
 use Rattle.source_faults.specs.Faults.{IsRead}
-use Rattle.front_end.specs.Private.Checks.{HasNoFault, IsCheckError, IsGraphError}
+use Rattle.front_end.specs.Private.Checks.{HasNoFault, IsCheckError, IsLoopError}
 use Rattle.source_faults.specs.Private.Errors.{of_names, of_defs, of_types}
 use Rattle.source_faults.specs.declared.fault.FrontError.{FrontError}
 use Rattle.source_faults.specs.declared.fault.FrontError.TheVariants.{Fault, Memory}
@@ -59,7 +59,7 @@ module _ (program : Program) where
   type_error names elements (kind.NotBool at) first = (tt, (names, elements, first (λ e. cc)))
   type_error names elements kind.Memory first = tt
 
-  pub graph_error : HasNoFault program → (error : FrontError) → IsGraphError program error → IsCheckError program error
+  pub graph_error : HasNoFault program → (error : FrontError) → IsLoopError program error → IsCheckError program error
   graph_error none (Fault (Loop elem)) h = (tt, (none.names, none.elements, none.types, h))
   graph_error none (Fault TooLong) h = absurd h
   graph_error none (Fault (Lex f)) h = absurd h

@@ -3,6 +3,7 @@ pub mod FirstFaults
 pub mod OneAnswer
 pub mod FirstLoops
 pub mod OneGraph
+pub mod Flats
 pub mod Graphs
 pub mod TokenLines
 pub mod FaultPlaces

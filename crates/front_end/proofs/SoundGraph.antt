@@ -20,20 +20,23 @@ module _ (source : List ℕ) (p : Program) (has : HasProgram source p) (g : Grap
   is_checked : IsChecked p
   is_checked = checked source p has.read (record { names = has.names; elements = has.elements; types = has.types })
 
-  flat : IsFlat graph_of.expanded
-  flat = flat_is_sound p is_checked graph_of.elements graph_of.expansion graph_of.expanded graph_of.flat_of
+  is_flat : IsFlat graph_of.expanded
+  is_flat =
+      let its = graph_of.flat_program in
+      flat_is_sound p is_checked its.elements its.expansion graph_of.expanded its.flat_of
 
   flat_free : IsFlatLoopless graph_of.expanded
   flat_free =
-      (flat_loopless p is_checked graph_of.elements graph_of.expansion graph_of.expanded graph_of.flat_of).0 has.loops
+      let its = graph_of.flat_program in
+      (flat_loopless p is_checked its.elements its.expansion graph_of.expanded its.flat_of).0 has.loops
 
-  whole_sound : IsGraph graph_of.whole
-  whole_sound = graph_is_sound graph_of.expanded graph_of.whole graph_of.graph_of flat
+  whole_sound : IsGraph graph_of.graph.whole
+  whole_sound = graph_is_sound graph_of.expanded graph_of.graph.whole graph_of.graph.graph_of is_flat
 
   pub program_graph_sound : IsGraph g
-  program_graph_sound = pruned_is_sound graph_of.whole g whole_sound graph_of.pruned
+  program_graph_sound = pruned_is_sound graph_of.graph.whole g whole_sound graph_of.graph.pruned
 
   pub program_graph_loopless : IsGraphLoopless g
   program_graph_loopless =
-      pruned_is_loopless graph_of.whole g whole_sound graph_of.pruned
-      (graph_is_loopless graph_of.expanded flat flat_free graph_of.whole graph_of.graph_of)
+      pruned_is_loopless graph_of.graph.whole g whole_sound graph_of.graph.pruned
+      (graph_is_loopless graph_of.expanded is_flat flat_free graph_of.graph.whole graph_of.graph.graph_of)

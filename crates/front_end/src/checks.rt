@@ -1,24 +1,25 @@
-//! The checks of a program that was read, and its graph.
+//! The checks of a program that was read, and its flat program.
 
 ghost use Rattle.std.specs.Prelude.{◌≡◌, ℕ, None, IfSome, IfOk, IfErr, OnOk};
 ghost use Rattle.silage_syntax.specs.Tree.{view};
+ghost use Rattle.signal_graph.specs.Flat as flat_program;
 ghost use Rattle.element_rules.specs.Expansion.{IsExpansion};
 ghost use Rattle.type_rules.specs.Translation.{typed_program};
 ghost use Rattle.type_rules.specs.TypedTree.{view_typed};
 ghost use Rattle.front_end.specs.Places.{IsNumbered, IsAbout};
 ghost use Rattle.source_faults.specs.declared.fault.FrontError.TheVariants.{Fault, Memory};
 ghost use Rattle.source_faults.specs.declared.fault.FrontFault.TheVariants.{Loop};
-ghost use Rattle.front_end.specs.Private.Checks.{HasSource, HasNoFault, IsCheckError, IsGraphFor};
+ghost use Rattle.front_end.specs.Private.Checks.{HasSource, HasNoFault, IsCheckError, IsFlatFor};
 ghost use Rattle.source_faults.specs.Private.Errors.{of_names, of_types};
 ghost use Rattle.front_end.specs.Private.Findings.{element_of, without_element, of_placed};
 
-use crate::graph::graph_of;
+use crate::flat::loopless_flat;
 use crate::names::{ElementPlace, numbered_element};
 use element_rules::{DefFault, Elements, PlacedFault};
 use fix_types::check_types;
 use name_check::check_names;
 use name_rules::NameFault;
-use signal_graph::Graph;
+use signal_graph::FlatProgram;
 use silage_syntax::Program;
 use single_def::check_elements;
 use source_faults::{FrontError, FrontFault};
@@ -105,17 +106,17 @@ fn looped(program: &Program, elements: &Elements, error: FrontError) -> Option<E
     }
 }
 
-/// Checks a program, then makes its graph.
-pub(crate) fn checked_graph(alloc: Global, program: &Program) -> Result<Graph, Finding>
+/// Checks a program, then makes its flat program.
+pub(crate) fn checked_flat(alloc: Global, program: &Program) -> Result<FlatProgram, Finding>
     requires { HasSource (view program.now) }
     ensures ok { OnOk result (HasNoFault (view program.now)) }
-    ensures graph { IfOk result (IsGraphFor (view program.now)) }
+    ensures flat { IfOk result (λ f. IsFlatFor (view program.now) (flat_program.view f)) }
     ensures err { IfErr result (λ finding. IsCheckError (view program.now) finding.error) }
     ensures about { IfErr result (λ finding. IsAbout (view program.now) finding.error (element_of finding)) }
 {
     let checked = check(alloc, program)?;
-    match graph_of(alloc, &checked.typed, &checked.elements) {
-        Ok(graph) => Ok(graph),
+    match loopless_flat(alloc, &checked.typed, &checked.elements) {
+        Ok(flat) => Ok(flat),
         Err(error) => Err(Finding {
             error,
             element: looped(program, &checked.elements, error),

@@ -4,6 +4,7 @@ ghost use Rattle.std.specs.Prelude.{◌≡◌, ◌≤◌, ◌^◌, length, optio
 ghost use Rattle.silage_lex.specs.Tokens.{HasTokens, line_at};
 ghost use Rattle.front_end.specs.Places.{byte_of_lex, byte_of_name, byte_of_def, byte_of_kind, IsLineOf};
 ghost use Rattle.source_faults.specs.Private.Errors.{of_lex, of_parse};
+ghost use Rattle.source_faults.specs.declared.fault.FrontError.TheVariants.{Memory};
 ghost use Rattle.front_end.specs.Private.Findings.{byte_of_finding};
 
 use crate::checks::Finding;
@@ -112,6 +113,17 @@ fn named(program: Program, element: Option<ElementPlace>) -> Option<NamedElement
 {
     let ElementPlace { at, place } = element?;
     Some(NamedElement { program, at, place })
+}
+
+/// That memory ran out.
+pub(crate) fn no_memory() -> Rejection
+    ensures { result ≡ record { error = Memory; line = None; element = None } }
+{
+    Rejection {
+        error: FrontError::Memory,
+        line: None,
+        element: None,
+    }
 }
 
 /// The rejection of a program.

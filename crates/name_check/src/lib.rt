@@ -20,7 +20,8 @@ ghost use Rattle.name_rules.specs.TopNames.{top_names};
 ghost use Rattle.name_rules.specs.NameFaults.{name_faults, IsMain};
 ghost use Rattle.name_rules.specs.declared.fault.NameFault.{NameFault as FaultType};
 
-use name_rules::{NameFault, NameMap, Names, Tops};
+use name_rules::Tops;
+pub use name_rules::{Env, ManifestFault, NameFault, NameMap, Names, manifest};
 use recursion::check_recursion;
 use silage_syntax::Program;
 use std::alloc::Global;

@@ -25,7 +25,7 @@ ghost use Rattle.element_rules.specs.declared.fault.PlacedFault.{PlacedFault as 
 
 use elaboration_compile::bodies;
 use elaboration_run::walk;
-use element_rules::{DefFault, Elements, PlacedFault};
+pub use element_rules::{DefFault, Element, Elements, Instance, PlacedFault};
 use name_rules::{Names, Tops};
 use silage_syntax::Program;
 use std::alloc::Global;

@@ -1,17 +1,18 @@
--- What the checks and the graph say of a program that was read.
-use Rattle.std.specs.Prelude.{ℕ, List}
+-- What the checks and the flat program say of a program that was read.
+use Rattle.std.specs.Prelude.{◌≡◌, ℕ, List}
 use Rattle.fault_order.specs.Ranked.{IsClear, IsFirst}
 use Rattle.silage_syntax.specs.Tree.{Program}
 use Rattle.silage_meaning.specs.Rules.{HasNoDelaylessLoop}
+use Rattle.silage_meaning.specs.Solves.{output_types}
 use Rattle.name_rules.specs.NameFaults.{name_faults}
 use Rattle.element_rules.specs.ElementFaults.{element_faults}
 use Rattle.type_rules.specs.TypeFaults.{type_faults}
-use Rattle.signal_graph.specs.GraphRules.{IsGraph}
-use Rattle.signal_graph.specs.GraphSolves.{IsGraphLoopless}
-use Rattle.signal_graph.specs.declared.graph.Graph.{Graph}
-use Rattle.loop_expand.specs.KeepsProgram.{KeepsProgramSolutions}
+use Rattle.signal_graph.specs.Flat as flat
+use Rattle.signal_graph.specs.FlatRules.{IsFlat}
+use Rattle.signal_graph.specs.FlatSolves.{IsFlatLoopless}
+use Rattle.loop_expand.specs.InTypes.{flat_output_types, HasTypedSolutions}
 use Rattle.source_faults.specs.Faults.{IsRead, IsOfSource}
-use Rattle.front_end.specs.GraphOf.{IsProgramGraph}
+use Rattle.front_end.specs.ProgramFlat.{IsProgramFlat, KeepsFlatProgram}
 use Rattle.source_faults.specs.Loops.{IsFirstLoop}
 use Rattle.source_faults.specs.declared.fault.FrontError.{FrontError}
 use Rattle.source_faults.specs.declared.fault.FrontError.TheVariants.{Fault, Memory}
@@ -44,16 +45,18 @@ abbrev pub IsCheckError : Program → FrontError → Type 0
 IsCheckError program (Fault fault) = IsOfSource fault × IsFirstFault program fault
 IsCheckError program Memory = Unit {0}
 
--- the program has no delay-free loop, and this is its graph
-pub record IsGraphFor (program : Program) (graph : Graph) : Type 0 where
+-- the program has no delay-free loop, and this is its flat program
+pub record IsFlatFor (program : Program) (f : flat.Program) : Type 0 where
   pub loops : HasNoDelaylessLoop program
-  pub made : IsProgramGraph program graph
-  pub sound : IsGraph graph
-  pub loopless : IsGraphLoopless graph
-  pub keeps : KeepsProgramSolutions program graph
+  pub made : IsProgramFlat program f
+  pub sound : IsFlat f
+  pub loopless : IsFlatLoopless f
+  pub keeps : KeepsFlatProgram program f
+  pub types : HasTypedSolutions program
+  pub outputs : flat_output_types f ≡ output_types program
 
 -- the program has this first delay-free loop, or there was no memory
-abbrev pub IsGraphError : Program → FrontError → Type 0
-IsGraphError program (Fault (Loop elem)) = IsFirstLoop program elem
-IsGraphError program (Fault _) = ⊥
-IsGraphError program Memory = Unit {0}
+abbrev pub IsLoopError : Program → FrontError → Type 0
+IsLoopError program (Fault (Loop elem)) = IsFirstLoop program elem
+IsLoopError program (Fault _) = ⊥
+IsLoopError program Memory = Unit {0}

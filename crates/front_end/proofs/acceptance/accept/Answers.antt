@@ -1,103 +1,59 @@
-use Rattle.std.proofs.Common.{List, ℕ}
+use Rattle.std.proofs.Common.{refl, inr}
 use Rattle.std.proofs.lemmas.Result.{err_from_is_err_and}
-use Rattle.silage_syntax.specs.Tree.{Program, view}
-use Rattle.signal_graph.specs.declared.graph.Graph.{Graph}
-use Rattle.source_faults.specs.Faults.{IsRead, HasProgram}
-use Rattle.front_end.specs.Private.Checks.{HasNoFault, IsGraphFor}
-use Rattle.front_end.proofs.FirstFaults.{source_error}
-use Rattle.front_end.proofs.FaultPlaces.{early_line, early_element, late_line, late_element}
-use Rattle.front_end.proofs.OneAnswer.{one_program, program_error, fault_error, no_fault}
+use Rattle.silage_syntax.specs.Tree.{view}
+use Rattle.signal_graph.specs.Flat as flat
+use Rattle.front_end.proofs.Graphs.{graph_keeps_program}
 use Rattle.front_end.proofs.acceptance.accept.Goals as goal
 
-has_program : (source : List ℕ) (program : Program) (graph : Graph)
-    → IsRead source program
-    → HasNoFault program
-    → IsGraphFor program graph
-    → HasProgram source program
-has_program source program graph read none is =
-    record { read = read; names = none.names; elements = none.elements; types = none.types; loops = is.loops }
-
-pub returns-in_err-program-clause-each_program : goal.returns-in_err-program-clause-each_program
-returns-in_err-program-clause-each_program c =
+pub returns-in_err-accepted-clause-err : goal.returns-in_err-accepted-clause-err
+returns-in_err-accepted-clause-err c =
     let p = err_from_is_err_and c.from_residual.result c.from_residual.ensures.1 in
-    rw (p.1, p.2)
-    (λ program has.
-    program_error c.args.source.now c.in_err-program.field-0.0.error c.in_err-program.ensures.err program has)
+    rw (p.1, p.2) c.in_err-accepted.ensures.err
 
-pub returns-in_err-program-clause-each_fault : goal.returns-in_err-program-clause-each_fault
-returns-in_err-program-clause-each_fault c =
+pub returns-in_err-accepted-clause-line : goal.returns-in_err-accepted-clause-line
+returns-in_err-accepted-clause-line c =
     let p = err_from_is_err_and c.from_residual.result c.from_residual.ensures.1 in
-    rw (p.1, p.2)
-    (λ fault has. fault_error c.args.source.now c.in_err-program.field-0.0.error c.in_err-program.ensures.err fault has)
+    rw (p.1, p.2) c.in_err-accepted.ensures.line
 
-pub checked_graph-requires : goal.checked_graph-requires
-checked_graph-requires c = (c.args.source.now, c.in_ok-program.ensures.ok)
+pub returns-in_err-accepted-clause-element : goal.returns-in_err-accepted-clause-element
+returns-in_err-accepted-clause-element c =
+    let p = err_from_is_err_and c.from_residual.result c.from_residual.ensures.1 in
+    rw (p.1, p.2) c.in_err-accepted.ensures.element
 
-pub returns-in-Ok-clause-ok : goal.returns-in-Ok-clause-ok
-returns-in-Ok-clause-ok c =
-    has_program c.args.source.now (view c.in_ok-program.program) c.in-Ok.graph c.in_ok-program.ensures.ok
-    c.in-Ok.ensures.ok
-    c.in-Ok.ensures.graph
+pub returns-in_err-accepted-clause-each_program : goal.returns-in_err-accepted-clause-each_program
+returns-in_err-accepted-clause-each_program c =
+    let p = err_from_is_err_and c.from_residual.result c.from_residual.ensures.1 in
+    rw (p.1, p.2) c.in_err-accepted.ensures.each_program
 
-pub returns-in-Ok-clause-each_program : goal.returns-in-Ok-clause-each_program
-returns-in-Ok-clause-each_program c = λ program has.
-    one_program c.args.source.now program (view c.in_ok-program.program) has
-    (has_program c.args.source.now (view c.in_ok-program.program) c.in-Ok.graph c.in_ok-program.ensures.ok
-    c.in-Ok.ensures.ok
-    c.in-Ok.ensures.graph)
+pub returns-in_err-accepted-clause-each_fault : goal.returns-in_err-accepted-clause-each_fault
+returns-in_err-accepted-clause-each_fault c =
+    let p = err_from_is_err_and c.from_residual.result c.from_residual.ensures.1 in
+    rw (p.1, p.2) c.in_err-accepted.ensures.each_fault
 
-pub returns-in-Ok-clause-each_fault : goal.returns-in-Ok-clause-each_fault
-returns-in-Ok-clause-each_fault c = λ fault has.
-    no_fault c.args.source.now (view c.in_ok-program.program)
-    (has_program c.args.source.now (view c.in_ok-program.program) c.in-Ok.graph c.in_ok-program.ensures.ok
-    c.in-Ok.ensures.ok
-    c.in-Ok.ensures.graph)
-    fault has
+pub returns-in-Ok-clause-graph : goal.returns-in-Ok-clause-graph
+returns-in-Ok-clause-graph c = record {
+  expanded = flat.view c.in_ok-accepted.accepted.flat;
+  flat_program = c.in_ok-accepted.ensures.flat;
+  graph = c.in-Ok.ensures.graph;
+}
+
+pub returns-in-Ok-clause-keeps : goal.returns-in-Ok-clause-keeps
+returns-in-Ok-clause-keeps c =
+    graph_keeps_program c.args.source.now (view c.in_ok-accepted.accepted.program) c.in_ok-accepted.ensures.ok
+    (flat.view c.in_ok-accepted.accepted.flat) c.in_ok-accepted.ensures.flat c.in_ok-accepted.ensures.loopless
+    c.in-Ok.graph c.in-Ok.ensures.graph
 
 pub returns-in-Err-clause-err : goal.returns-in-Err-clause-err
-returns-in-Err-clause-err c =
-    rw c.reject.ensures.error
-    (source_error (view c.in_ok-program.program) c.args.source.now c.in_ok-program.ensures.ok c.in-Err.finding.error
-    c.in-Err.ensures.err)
-
-pub returns-in-Err-clause-each_program : goal.returns-in-Err-clause-each_program
-returns-in-Err-clause-each_program c =
-    rw c.reject.ensures.error
-    (λ program has.
-    program_error c.args.source.now c.in-Err.finding.error
-    (source_error (view c.in_ok-program.program) c.args.source.now c.in_ok-program.ensures.ok c.in-Err.finding.error
-    c.in-Err.ensures.err)
-    program has)
-
-pub returns-in-Err-clause-each_fault : goal.returns-in-Err-clause-each_fault
-returns-in-Err-clause-each_fault c =
-    rw c.reject.ensures.error
-    (λ fault has.
-    fault_error c.args.source.now c.in-Err.finding.error
-    (source_error (view c.in_ok-program.program) c.args.source.now c.in_ok-program.ensures.ok c.in-Err.finding.error
-    c.in-Err.ensures.err)
-    fault has)
-
-pub returns-in_err-program-clause-line : goal.returns-in_err-program-clause-line
-returns-in_err-program-clause-line c =
-    let p = err_from_is_err_and c.from_residual.result c.from_residual.ensures.1 in
-    rw (p.1, p.2)
-    (early_line c.args.source.now c.in_err-program.field-0.0 c.in_err-program.ensures.element
-    c.in_err-program.ensures.line)
-
-pub returns-in_err-program-clause-element : goal.returns-in_err-program-clause-element
-returns-in_err-program-clause-element c =
-    let p = err_from_is_err_and c.from_residual.result c.from_residual.ensures.1 in
-    rw (p.1, p.2)
-    (early_element c.args.source.now c.in_err-program.field-0.0 c.in_err-program.ensures.element
-    c.in_err-program.ensures.about)
+returns-in-Err-clause-err c = rw c.no_memory.ensures tt
 
 pub returns-in-Err-clause-line : goal.returns-in-Err-clause-line
-returns-in-Err-clause-line c =
-    late_line c.args.source.now c.in_ok-program.program c.in_ok-program.ensures.ok c.in-Err.finding c.reject.result
-    c.reject.ensures.error c.reject.ensures.element c.in-Err.ensures.err c.reject.ensures.line
+returns-in-Err-clause-line c = rw c.no_memory.ensures refl
 
 pub returns-in-Err-clause-element : goal.returns-in-Err-clause-element
-returns-in-Err-clause-element c =
-    late_element c.args.source.now c.in_ok-program.program c.in_ok-program.ensures.ok c.in-Err.finding c.reject.result
-    c.reject.ensures.error c.reject.ensures.element c.in-Err.ensures.about
+returns-in-Err-clause-element c = rw c.no_memory.ensures (tt, λ p read. refl)
+
+pub returns-in-Err-clause-each_program : goal.returns-in-Err-clause-each_program
+returns-in-Err-clause-each_program c = rw c.no_memory.ensures (λ program has. refl)
+
+pub returns-in-Err-clause-each_fault : goal.returns-in-Err-clause-each_fault
+returns-in-Err-clause-each_fault c = rw c.no_memory.ensures (λ fault has. inr refl)

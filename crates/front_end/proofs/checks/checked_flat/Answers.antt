@@ -2,10 +2,10 @@ use Rattle.silage_syntax.specs.Tree.{view}
 use Rattle.front_end.proofs.Counts.{checked}
 use Rattle.front_end.proofs.FirstFaults.{graph_error}
 use Rattle.front_end.proofs.FaultPlaces.{graph_about}
-use Rattle.front_end.proofs.checks.checked_graph.Goals as goal
+use Rattle.front_end.proofs.checks.checked_flat.Goals as goal
 
-pub graph_of-requires : goal.graph_of-requires
-graph_of-requires c = (
+pub loopless_flat-requires : goal.loopless_flat-requires
+loopless_flat-requires c = (
   view c.args.program.now,
   record {
     checked = checked c.requires.0 (view c.args.program.now) c.requires.1 c.in_ok-checked.ensures.ok;
@@ -14,8 +14,8 @@ graph_of-requires c = (
   },
 )
 
-pub returns-in-Ok-clause-graph : goal.returns-in-Ok-clause-graph
-returns-in-Ok-clause-graph c =
+pub returns-in-Ok-clause-flat : goal.returns-in-Ok-clause-flat
+returns-in-Ok-clause-flat c =
     c.in-Ok.ensures.ok (view c.args.program.now) (record {
       checked = checked c.requires.0 (view c.args.program.now) c.requires.1 c.in_ok-checked.ensures.ok;
       program = c.in_ok-checked.ensures.typed;
