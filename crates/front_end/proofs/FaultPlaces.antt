@@ -1,5 +1,5 @@
 -- Where the fault of a source is: its line, and the element that it is about.
-use Rattle.std.proofs.Common.{◌≡◌, ◌≢◌, ℕ, List, Option, Some, None, option_map, IfSome, refl, ap, subst}
+use Rattle.std.proofs.Common.{◌≡◌, ◌≢◌, ℕ, List, Option, Some, None, option_map, IfSome, IsSomeAnd, refl, ap, subst}
 use Rattle.fault_order.specs.Ranked.{IsFirst}
 use Rattle.silage_lex.specs.Tokens.{line_at}
 use Rattle.silage_lex.specs.declared.LexFault.{LexFault}
@@ -71,14 +71,14 @@ module _ (p : Program) where
   type_about kind.Memory = refl
 
   numbered_pair : (k : ℕ) (element : Option ElementPlace)
-      → IfSome element (λ e. IsNumbered p k e.at e.place)
-      → IfSome (option_map place_pair element) (λ e. IsNumbered p k e.0 e.1)
-  numbered_pair k None h = tt
+      → IsSomeAnd element (λ e. IsNumbered p k e.at e.place)
+      → IsSomeAnd (option_map place_pair element) (λ e. IsNumbered p k e.0 e.1)
+  numbered_pair k None h = absurd h
   numbered_pair k (Some e) h = h
 
   pub graph_about : (error : FrontError) (element : Option ElementPlace)
       → IsLoopError p error
-      → ((k : ℕ) → error ≡ Fault (Loop k) → IfSome element (λ e. IsNumbered p k e.at e.place))
+      → ((k : ℕ) → error ≡ Fault (Loop k) → IsSomeAnd element (λ e. IsNumbered p k e.at e.place))
       → (error ≡ Memory → element ≡ None)
       → IsAbout p error (option_map place_pair element)
   graph_about (Fault (Loop k)) element is found none = numbered_pair k element (found k refl)

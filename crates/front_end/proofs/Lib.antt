@@ -2,6 +2,7 @@ pub mod Counts
 pub mod FirstFaults
 pub mod OneAnswer
 pub mod FirstLoops
+pub mod NumberedPlaces
 pub mod OneGraph
 pub mod Flats
 pub mod Graphs

@@ -1,5 +1,5 @@
 -- Where in a source a fault is: the line that an error has, and the element that it is about.
-use Rattle.std.specs.Prelude.{◌≡◌, ℕ, List, length, slice_get, Option, Some, None, option_map, IfSome}
+use Rattle.std.specs.Prelude.{◌≡◌, ℕ, List, length, slice_get, Option, Some, None, option_map, IsSomeAnd}
 use Rattle.std.specs.Option.{option_map_or}
 use Rattle.fault_order.specs.Ranked.{IsFirst}
 use Rattle.silage_lex.specs.Tokens.{HasTokens, line_at}
@@ -100,5 +100,5 @@ pub record IsNumbered (p : Program) (k at place : ℕ) : Type 0 where
 abbrev pub IsAbout : Program → FrontError → (element : Option (ℕ × ℕ)) → Type 0
 IsAbout p (Fault (Def (def.NotDefined at))) element =
     (place : ℕ) × IsFirst (placed_faults p) (placed.NotDefined at place) × (element ≡ Some (at, place))
-IsAbout p (Fault (Loop k)) element = IfSome element (λ e. IsNumbered p k e.0 e.1)
+IsAbout p (Fault (Loop k)) element = IsSomeAnd element (λ e. IsNumbered p k e.0 e.1)
 IsAbout p _ element = element ≡ None

@@ -1,6 +1,6 @@
 //! The checks of a program that was read, and its flat program.
 
-ghost use Rattle.std.specs.Prelude.{◌≡◌, ℕ, None, IfSome, IfOk, IfErr, OnOk};
+ghost use Rattle.std.specs.Prelude.{◌≡◌, ℕ, None, IsSomeAnd, IfOk, IfErr, OnOk};
 ghost use Rattle.silage_syntax.specs.Tree.{view};
 ghost use Rattle.signal_graph.specs.Flat as flat_program;
 ghost use Rattle.element_rules.specs.Expansion.{IsExpansion};
@@ -11,7 +11,7 @@ ghost use Rattle.source_faults.specs.declared.fault.FrontError.TheVariants.{Faul
 ghost use Rattle.source_faults.specs.declared.fault.FrontFault.TheVariants.{Loop};
 ghost use Rattle.front_end.specs.Private.Checks.{HasSource, HasNoFault, IsCheckError, IsFlatFor};
 ghost use Rattle.source_faults.specs.Private.Errors.{of_names, of_types};
-ghost use Rattle.front_end.specs.Private.Findings.{element_of, without_element, of_placed};
+ghost use Rattle.front_end.specs.Private.Findings.{HasPlace, element_of, without_element, of_placed};
 
 use crate::flat::loopless_flat;
 use crate::names::{ElementPlace, numbered_element};
@@ -95,9 +95,10 @@ fn check(alloc: Global, program: &Program) -> Result<Checked, Finding>
 
 /// The element that a delay-free loop is about.
 fn looped(program: &Program, elements: &Elements, error: FrontError) -> Option<ElementPlace>
-    requires { IsExpansion (view program.now) elements.now }
+    requires elements { IsExpansion (view program.now) elements.now }
+    requires place { (k : ℕ) → error ≡ Fault (Loop k) → HasPlace (view program.now) k }
     ensures found { (k : ℕ) → error ≡ Fault (Loop k)
-        → IfSome result (λ e. IsNumbered (view program.now) k e.at e.place) }
+        → IsSomeAnd result (λ e. IsNumbered (view program.now) k e.at e.place) }
     ensures none { error ≡ Memory → result ≡ None }
 {
     match error {

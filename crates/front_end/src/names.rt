@@ -1,10 +1,11 @@
 //! The element that a fault is about, by which the text of the fault names it.
 
-ghost use Rattle.std.specs.Prelude.{◌≡◌, IfSome, option_copied, slice_get};
+ghost use Rattle.std.specs.Prelude.{◌≡◌, IsSomeAnd, option_copied, slice_get};
 ghost use Rattle.silage_syntax.specs.Names.{decls};
 ghost use Rattle.silage_syntax.specs.Tree.{view, view_func};
 ghost use Rattle.element_rules.specs.Expansion.{IsExpansion};
 ghost use Rattle.front_end.specs.Places.{IsNumbered};
+ghost use Rattle.front_end.specs.Private.Findings.{HasPlace};
 
 use element_rules::Elements;
 use silage_syntax::{Decl, Func, Program, Top};
@@ -22,8 +23,9 @@ pub(crate) fn numbered_element(
     elements: &Elements,
     number: u32,
 ) -> Option<ElementPlace>
-    requires { IsExpansion (view program.now) elements.now }
-    ensures { IfSome result (λ e. IsNumbered (view program.now) number e.at e.place) }
+    requires elements { IsExpansion (view program.now) elements.now }
+    requires place { HasPlace (view program.now) number }
+    ensures { IsSomeAnd result (λ e. IsNumbered (view program.now) number e.at e.place) }
 {
     let element = elements.elements.get(number as usize)?;
     let instance = elements.instances.get(element.inst as usize)?;
