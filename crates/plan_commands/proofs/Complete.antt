@@ -21,9 +21,7 @@ use Rattle.plan_commands.specs.Refusals.{IsRefusal, IsRefused, IsPlanError}
 use Rattle.plan_commands.specs.Schedule.{IsScheduleAnswer}
 use Rattle.plan_commands.proofs.PlanAnswers.{fault_for, its_refusal}
 use Rattle.statuses.specs.declared.status.Status.{Status}
-use Rattle.statuses.specs.declared.status.Status.TheVariants.{Done, Memory, Words, Desk, FrontEnd, Path, LinesFull}
-use Rattle.statuses.specs.declared.status.Status.TheVariants.{Period, FileFull, Image, Samples, Conflict}
-use Rattle.statuses.specs.declared.status.Status.TheVariants as status
+use Rattle.statuses.specs.declared.status.Status.TheVariants.{Done, Memory, Desk}
 
 -- a datapath that a file describes has numbers that it may have
 path_allowed : (bytes : Content) (d : Datapath) → IsPathOf bytes d → IsDatapath d
@@ -79,17 +77,7 @@ module _ (src datapath : Name) (old new : View) (files : Files) (told : old.file
     compile_complete out no_out Done h = inl refl
     compile_complete out no_out Desk (inl h) = ends Desk h
     compile_complete out no_out Desk (inr cut) = absurd (no_out cut.written.rose)
-    compile_complete out no_out Memory h = ends Memory h
-    compile_complete out no_out Words h = ends Words h
-    compile_complete out no_out (FrontEnd fault) h = ends (FrontEnd fault) h
-    compile_complete out no_out (Path fault) h = ends (Path fault) h
-    compile_complete out no_out (status.Unit refusal) h = ends (status.Unit refusal) h
-    compile_complete out no_out (LinesFull v) h = ends (LinesFull v) h
-    compile_complete out no_out (Period v) h = ends (Period v) h
-    compile_complete out no_out (FileFull u port v) h = ends (FileFull u port v) h
-    compile_complete out no_out (Image fault) h = ends (Image fault) h
-    compile_complete out no_out (Samples fault) h = ends (Samples fault) h
-    compile_complete out no_out (Conflict conflict) h = ends (Conflict conflict) h
+    compile_complete out no_out error h = ends error h
 
     pub schedule_complete : (PrintFaultsRose old new → ⊥)
         → (answer : Status)
@@ -98,14 +86,4 @@ module _ (src datapath : Name) (old new : View) (files : Files) (told : old.file
     schedule_complete no_print Done h = inl refl
     schedule_complete no_print Desk (inl h) = ends Desk h
     schedule_complete no_print Desk (inr cut) = absurd (no_print cut.rose)
-    schedule_complete no_print Memory h = ends Memory h
-    schedule_complete no_print Words h = ends Words h
-    schedule_complete no_print (FrontEnd fault) h = ends (FrontEnd fault) h
-    schedule_complete no_print (Path fault) h = ends (Path fault) h
-    schedule_complete no_print (status.Unit refusal) h = ends (status.Unit refusal) h
-    schedule_complete no_print (LinesFull v) h = ends (LinesFull v) h
-    schedule_complete no_print (Period v) h = ends (Period v) h
-    schedule_complete no_print (FileFull u port v) h = ends (FileFull u port v) h
-    schedule_complete no_print (Image fault) h = ends (Image fault) h
-    schedule_complete no_print (Samples fault) h = ends (Samples fault) h
-    schedule_complete no_print (Conflict conflict) h = ends (Conflict conflict) h
+    schedule_complete no_print error h = ends error h

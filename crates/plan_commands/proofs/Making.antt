@@ -9,9 +9,7 @@ use Rattle.silc_files.specs.Limits.{text_limit}
 use Rattle.plan_commands.specs.Refusals.{IsPlanError}
 use Rattle.plan_commands.specs.Compiling.{IsMade}
 use Rattle.statuses.specs.declared.status.Status.{Status}
-use Rattle.statuses.specs.declared.status.Status.TheVariants.{Done, Memory, Words, Desk, FrontEnd, Path, LinesFull}
-use Rattle.statuses.specs.declared.status.Status.TheVariants.{Period, FileFull, Image, Samples, Conflict}
-use Rattle.statuses.specs.declared.status.Status.TheVariants as status
+use Rattle.statuses.specs.declared.status.Status.TheVariants.{Done, Desk}
 use Rattle.silc_files.proofs.Endings.{specified_still, finished_still, not_written_still}
 use Rattle.plan_commands.proofs.Errors.{error_still}
 
@@ -68,14 +66,4 @@ module _ (src datapath out : Name) (old mid new : View) (same : IsUnchanged mid 
     put = specified_still old mid new same (IsPut out h.microcode) h.put;
   }
   reported Desk h = ⊎_elim (λ early. inl (still Desk early)) (λ late. inr (cut_short_still late)) h
-  reported Memory h = still Memory h
-  reported Words h = still Words h
-  reported (FrontEnd fault) h = still (FrontEnd fault) h
-  reported (Path fault) h = still (Path fault) h
-  reported (status.Unit refusal) h = still (status.Unit refusal) h
-  reported (LinesFull node) h = still (LinesFull node) h
-  reported (Period node) h = still (Period node) h
-  reported (FileFull unit port node) h = still (FileFull unit port node) h
-  reported (Image fault) h = still (Image fault) h
-  reported (Samples fault) h = still (Samples fault) h
-  reported (Conflict conflict) h = still (Conflict conflict) h
+  reported error h = still error h

@@ -34,8 +34,8 @@ use Rattle.plan_commands.specs.Planning.{TellsWhy}
 use Rattle.statuses.specs.Faults.{of_front, of_path, of_plan}
 use Rattle.plan_commands.specs.declared.planning.Planned.{Planned}
 use Rattle.statuses.specs.declared.status.Status.{Status}
-use Rattle.statuses.specs.declared.status.Status.TheVariants.{Done, Memory, Words, Desk, FrontEnd, Path, LinesFull}
-use Rattle.statuses.specs.declared.status.Status.TheVariants.{Period, FileFull, Image, Samples, Conflict}
+use Rattle.statuses.specs.declared.status.Status.TheVariants.{Memory, FrontEnd, Path, LinesFull}
+use Rattle.statuses.specs.declared.status.Status.TheVariants.{Period, FileFull}
 use Rattle.statuses.specs.declared.status.Status.TheVariants as status
 use Rattle.statuses.specs.declared.status.UnitRefusal.{UnitRefusal}
 use Rattle.statuses.specs.declared.status.UnitRefusal.TheVariants.{NoUnit, NoRoute, TooWide, NoRam, NoAcu}
@@ -57,15 +57,7 @@ module _ (g : Graph) (d : Datapath) where
   fault_for (LinesFull v) h = (plan.Line (line.LinesFull v), h, refl)
   fault_for (Period v) h = (plan.Period v, h, refl)
   fault_for (FileFull u port v) h = (plan.FileFull u port v, h, refl)
-  fault_for Done h = absurd h
-  fault_for Memory h = absurd h
-  fault_for Words h = absurd h
-  fault_for Desk h = absurd h
-  fault_for (FrontEnd fault) h = absurd h
-  fault_for (Path fault) h = absurd h
-  fault_for (Image fault) h = absurd h
-  fault_for (Samples fault) h = absurd h
-  fault_for (Conflict conflict) h = absurd h
+  fault_for other h = absurd h
 
 -- what the planner answers is what the graph has
 module _ (g : Graph) (d : Datapath) (answer : Result Plan PlanFault)
@@ -146,13 +138,7 @@ module _ (s d : Content) where
   cause (LinesFull v) is h = of_graph h
   cause (Period v) is h = of_graph h
   cause (FileFull u port v) is h = of_graph h
-  cause Done is h = absurd is
-  cause Memory is h = absurd is
-  cause Words is h = absurd is
-  cause Desk is h = absurd is
-  cause (Image fault) is h = absurd is
-  cause (Samples fault) is h = absurd is
-  cause (Conflict conflict) is h = absurd is
+  cause other is h = absurd is
 
   -- the source was refused
   module _ (error : FrontError) (status : Status) (told : status ≡ of_front error)

@@ -29,8 +29,8 @@ use Rattle.silc_files.specs.declared.files.Input.TheVariants.{Whole, TooLong}
 use Rattle.plan_commands.specs.declared.planning.Planned.{Planned}
 use Rattle.statuses.specs.declared.status.Ending.{Ending}
 use Rattle.statuses.specs.declared.status.Status.{Status}
-use Rattle.statuses.specs.declared.status.Status.TheVariants.{Done, Memory, Words, Desk, FrontEnd, Path, LinesFull}
-use Rattle.statuses.specs.declared.status.Status.TheVariants.{Period, FileFull, Image, Samples, Conflict}
+use Rattle.statuses.specs.declared.status.Status.TheVariants.{Memory, Path, LinesFull}
+use Rattle.statuses.specs.declared.status.Status.TheVariants.{Period, FileFull}
 use Rattle.statuses.specs.declared.status.Status.TheVariants as status
 
 refused_whole : (d : Content) → IsInput d TooLong → path_of d ≡ Err path.TooLong
@@ -75,15 +75,7 @@ refusal g path (status.Unit reason) h = tt
 refusal g path (LinesFull node) h = tt
 refusal g path (Period node) h = tt
 refusal g path (FileFull u port node) h = tt
-refusal g path Done h = absurd h
-refusal g path Memory h = absurd h
-refusal g path Words h = absurd h
-refusal g path Desk h = absurd h
-refusal g path (FrontEnd fault) h = absurd h
-refusal g path (Path fault) h = absurd h
-refusal g path (Image fault) h = absurd h
-refusal g path (Samples fault) h = absurd h
-refusal g path (Conflict conflict) h = absurd h
+refusal g path other h = absurd h
 
 -- what a source with a program has over a datapath
 module _ (s d : Content) (program : Program) (read : HasProgram s program) (g : Graph)
@@ -111,15 +103,7 @@ module _ (s d : Content) (program : Program) (read : HasProgram s program) (g : 
   refused (LinesFull node) h = unplanned_over (LinesFull node) h
   refused (Period node) h = unplanned_over (Period node) h
   refused (FileFull u port node) h = unplanned_over (FileFull u port node) h
-  refused Done h = absurd h
-  refused Memory h = absurd h
-  refused Words h = absurd h
-  refused Desk h = absurd h
-  refused (FrontEnd fault) h = absurd h
-  refused (Path fault) h = absurd h
-  refused (Image fault) h = absurd h
-  refused (Samples fault) h = absurd h
-  refused (Conflict conflict) h = absurd h
+  refused other h = absurd h
 
 -- why the file describes no datapath is why the inputs have no plan
 pub no_path : (source datapath : Input) (program : Program) (g : Graph)
@@ -129,17 +113,7 @@ pub no_path : (source datapath : Input) (program : Program) (g : Graph)
     → IsNoInputPlan source datapath status
 no_path source datapath program g has Memory h = inl refl
 no_path source datapath program g has (Path fault) h = inr (h.0, λ s d hs hd. ((program, (has s hs).read), h.1 d hd))
-no_path source datapath program g has Done h = absurd h
-no_path source datapath program g has Words h = absurd h
-no_path source datapath program g has Desk h = absurd h
-no_path source datapath program g has (FrontEnd fault) h = absurd h
-no_path source datapath program g has (status.Unit reason) h = absurd h
-no_path source datapath program g has (LinesFull node) h = absurd h
-no_path source datapath program g has (Period node) h = absurd h
-no_path source datapath program g has (FileFull u port node) h = absurd h
-no_path source datapath program g has (Image fault) h = absurd h
-no_path source datapath program g has (Samples fault) h = absurd h
-no_path source datapath program g has (Conflict conflict) h = absurd h
+no_path source datapath program g has other h = absurd h
 
 -- why the graph has no plan is why the inputs have none
 pub no_input_plan : (source datapath : Input) (program : Program) (g : Graph)

@@ -12,9 +12,7 @@ use Rattle.silc_files.specs.Printing.{IsPrintedMore, IsPrintedInPart, PrintsOnly
 use Rattle.plan_commands.specs.Private.Scheduling.{IsMadeSchedule}
 use Rattle.silc_files.specs.Reading.{OnlyReads}
 use Rattle.statuses.specs.declared.status.Status.{Status}
-use Rattle.statuses.specs.declared.status.Status.TheVariants.{Done, Memory, Words, Desk, FrontEnd, Path, LinesFull}
-use Rattle.statuses.specs.declared.status.Status.TheVariants.{Period, FileFull, Image, Samples, Conflict}
-use Rattle.statuses.specs.declared.status.Status.TheVariants as status
+use Rattle.statuses.specs.declared.status.Status.TheVariants.{Done, Desk}
 use Rattle.silc_files.proofs.Endings.{through_still}
 use Rattle.plan_commands.proofs.Errors.{error_still}
 
@@ -83,14 +81,4 @@ module _ (src datapath : Name) (old mid new : View) (same : IsUnchanged mid new)
     printed = printed_still (IsPrintedMore h.text) h.printed;
   }
   schedule_reported Desk h = ⊎_elim (λ early. inl (still Desk early)) (λ late. inr (print_cut_short_still late)) h
-  schedule_reported Memory h = still Memory h
-  schedule_reported Words h = still Words h
-  schedule_reported (FrontEnd fault) h = still (FrontEnd fault) h
-  schedule_reported (Path fault) h = still (Path fault) h
-  schedule_reported (status.Unit refusal) h = still (status.Unit refusal) h
-  schedule_reported (LinesFull node) h = still (LinesFull node) h
-  schedule_reported (Period node) h = still (Period node) h
-  schedule_reported (FileFull unit port node) h = still (FileFull unit port node) h
-  schedule_reported (Image fault) h = still (Image fault) h
-  schedule_reported (Samples fault) h = still (Samples fault) h
-  schedule_reported (Conflict conflict) h = still (Conflict conflict) h
+  schedule_reported error h = still error h

@@ -50,9 +50,8 @@ use Rattle.sample_commands.specs.declared.simulator.Kept.{Kept}
 use Rattle.sample_commands.specs.declared.simulator.Kept.TheVariants.{One}
 use Rattle.statuses.specs.declared.status.SampleFault.TheVariants as sample_fault
 use Rattle.statuses.specs.declared.status.Status.{Status}
-use Rattle.statuses.specs.declared.status.Status.TheVariants as status
-use Rattle.statuses.specs.declared.status.Status.TheVariants.{Done, Memory, Words, Desk, FrontEnd, Path, LinesFull}
-use Rattle.statuses.specs.declared.status.Status.TheVariants.{Period, FileFull, Image, Samples, Conflict}
+use Rattle.statuses.specs.declared.status.Status.TheVariants.{Done, Memory, Desk}
+use Rattle.statuses.specs.declared.status.Status.TheVariants.{Image, Samples, Conflict}
 use Rattle.sample_commands.proofs.EarlyEnds.{ended_early, run_finished, run_samples_are, run_stream_is, run_put}
 use Rattle.sample_commands.proofs.EarlyEnds.{opened_from, unopened_from, not_created_from, unopened_still, ended_still}
 use Rattle.sample_commands.proofs.Simulating.{fresh_puts, fresh_meets, fresh_run}
@@ -288,14 +287,6 @@ pub no_plan : (src datapath samples out : Name) (old new : View) (kept : Kept) (
     → IsPlanError src datapath old new status
     → IsRunAnswer src datapath samples out old new kept status
 no_plan src datapath samples out old new kept Desk h = inl (inl h)
-no_plan src datapath samples out old new kept Memory h = h
-no_plan src datapath samples out old new kept Words h = h
-no_plan src datapath samples out old new kept (FrontEnd fault) h = h
-no_plan src datapath samples out old new kept (Path fault) h = h
-no_plan src datapath samples out old new kept (status.Unit refusal) h = h
-no_plan src datapath samples out old new kept (LinesFull node) h = h
-no_plan src datapath samples out old new kept (Period node) h = h
-no_plan src datapath samples out old new kept (FileFull unit port node) h = h
 no_plan src datapath samples out old new kept Done h = absurd (no_error Done h (λ e. cc) (λ e. cc))
 no_plan src datapath samples out old new kept (Image fault) h = absurd (no_error (Image fault) h (λ e. cc) (λ e. cc))
 no_plan src datapath samples out old new kept (Samples (sample_fault.Row line at)) h =
@@ -304,6 +295,7 @@ no_plan src datapath samples out old new kept (Samples sample_fault.TooLong) h =
     absurd (no_error (Samples sample_fault.TooLong) h (λ e. cc) (λ e. cc))
 no_plan src datapath samples out old new kept (Conflict conflict) h =
     absurd (no_error (Conflict conflict) h (λ e. cc) (λ e. cc))
+no_plan src datapath samples out old new kept error h = h
 
 -- a report of the error leaves the answer of `run` as it is
 module _ (src datapath samples out : Name) (old mid new : View) (same : IsUnchanged mid new)
@@ -363,13 +355,6 @@ module _ (src datapath samples out : Name) (old mid new : View) (same : IsUnchan
   run_reported kept (Samples (sample_fault.Row line at)) h =
       stopped_still (stream.Row (record { line = line; at = at })) h
   run_reported kept (Samples sample_fault.TooLong) h = stopped_still stream.TooLong h
-  run_reported kept Memory h = still Memory h
-  run_reported kept Words h = still Words h
-  run_reported kept (FrontEnd fault) h = still (FrontEnd fault) h
-  run_reported kept (Path fault) h = still (Path fault) h
-  run_reported kept (status.Unit refusal) h = still (status.Unit refusal) h
-  run_reported kept (LinesFull node) h = still (LinesFull node) h
-  run_reported kept (Period node) h = still (Period node) h
-  run_reported kept (FileFull unit port node) h = still (FileFull unit port node) h
   run_reported kept (Image fault) h = h
   run_reported kept (Conflict conflict) h = h
+  run_reported kept error h = still error h

@@ -37,9 +37,8 @@ use Rattle.sample_commands.specs.declared.simulator.Kept.{Kept}
 use Rattle.sample_commands.specs.declared.simulator.Kept.TheVariants.{One}
 use Rattle.statuses.specs.declared.status.SampleFault.TheVariants as sample_fault
 use Rattle.statuses.specs.declared.status.Status.{Status}
-use Rattle.statuses.specs.declared.status.Status.TheVariants as status
-use Rattle.statuses.specs.declared.status.Status.TheVariants.{Done, Memory, Words, Desk, FrontEnd, Path, LinesFull}
-use Rattle.statuses.specs.declared.status.Status.TheVariants.{Period, FileFull, Image as bad_image}
+use Rattle.statuses.specs.declared.status.Status.TheVariants.{Done, Memory, Desk}
+use Rattle.statuses.specs.declared.status.Status.TheVariants.{Image as bad_image}
 use Rattle.statuses.specs.declared.status.Status.TheVariants.{Samples as bad_samples, Conflict as in_conflict}
 use Rattle.sample_commands.proofs.EarlyEnds.{ended_early, run_finished, run_samples_are, run_put, opened_from}
 use Rattle.sample_commands.proofs.EarlyEnds.{unopened_from, not_created_from, unopened_still, ended_still}
@@ -246,7 +245,6 @@ module _ (mic samples out : Name) (old mid new : View) (same : IsUnchanged mid n
     },
   )
   sim_reported kept Memory h = unchanged_still old mid new same h
-  sim_reported kept Words h = h
   sim_reported kept Desk h =
       ⊎_elim (λ early. inl (sim_unread_still early)) (λ late. inr (sim_stopped_still stream.Desk late)) h
   sim_reported kept (bad_image fault) h = (h.0, rejected_still old mid new same mic microcode_limit _ h.1)
@@ -254,9 +252,4 @@ module _ (mic samples out : Name) (old mid new : View) (same : IsUnchanged mid n
       sim_stopped_still (stream.Row (record { line = line; at = at })) h
   sim_reported kept (bad_samples sample_fault.TooLong) h = sim_stopped_still stream.TooLong h
   sim_reported kept (in_conflict conflict) h = sim_stopped_still (stream.Conflict conflict) h
-  sim_reported kept (FrontEnd fault) h = h
-  sim_reported kept (Path fault) h = h
-  sim_reported kept (status.Unit refusal) h = h
-  sim_reported kept (LinesFull node) h = h
-  sim_reported kept (Period node) h = h
-  sim_reported kept (FileFull unit port node) h = h
+  sim_reported kept other h = h

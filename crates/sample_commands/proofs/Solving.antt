@@ -43,9 +43,8 @@ use Rattle.sample_commands.proofs.EarlyEnds.{ended_early, run_finished, run_samp
 use Rattle.sample_commands.proofs.EarlyEnds.{opened_from, unopened_from, not_created_from, unopened_still, ended_still}
 use Rattle.statuses.specs.declared.status.SampleFault.TheVariants as sample_fault
 use Rattle.statuses.specs.declared.status.Status.{Status}
-use Rattle.statuses.specs.declared.status.Status.TheVariants as status
-use Rattle.statuses.specs.declared.status.Status.TheVariants.{Done, Memory, Words, Desk, FrontEnd, Path, LinesFull}
-use Rattle.statuses.specs.declared.status.Status.TheVariants.{Period, FileFull, Image, Samples, Conflict}
+use Rattle.statuses.specs.declared.status.Status.TheVariants.{Done, Memory, Desk, FrontEnd}
+use Rattle.statuses.specs.declared.status.Status.TheVariants.{Samples}
 
 -- SRC was accepted
 pub source_read : (src : Name) (old new : View) (input : Input) (bytes : Content) (p : Program) (g : Graph)
@@ -236,16 +235,7 @@ source_error src samples out old new reads Memory h = reads.unchanged
 source_error src samples out old new reads Desk h = inl (record { unchanged = reads.unchanged; rose = inl h })
 source_error src samples out old new reads (FrontEnd fault) h =
     (h.0, record { unchanged = reads.unchanged; read = h.1; why = h.2 })
-source_error src samples out old new reads Done h = absurd h
-source_error src samples out old new reads Words h = absurd h
-source_error src samples out old new reads (Path fault) h = absurd h
-source_error src samples out old new reads (status.Unit refusal) h = absurd h
-source_error src samples out old new reads (LinesFull node) h = absurd h
-source_error src samples out old new reads (Period node) h = absurd h
-source_error src samples out old new reads (FileFull unit port node) h = absurd h
-source_error src samples out old new reads (Image fault) h = absurd h
-source_error src samples out old new reads (Samples fault) h = absurd h
-source_error src samples out old new reads (Conflict conflict) h = absurd h
+source_error src samples out old new reads other h = absurd h
 
 -- a report of the error leaves the answer of `eval` as it is
 module _ (src samples out : Name) (old mid new : View) (same : IsUnchanged mid new) (later : FaultsNeverFall mid new)
@@ -291,11 +281,4 @@ module _ (src samples out : Name) (old mid new : View) (same : IsUnchanged mid n
   eval_reported (Samples (sample_fault.Row line at)) h =
       eval_stopped_still (stream.Row (record { line = line; at = at })) h
   eval_reported (Samples sample_fault.TooLong) h = eval_stopped_still stream.TooLong h
-  eval_reported Words h = h
-  eval_reported (Path fault) h = h
-  eval_reported (status.Unit refusal) h = h
-  eval_reported (LinesFull node) h = h
-  eval_reported (Period node) h = h
-  eval_reported (FileFull unit port node) h = h
-  eval_reported (Image fault) h = h
-  eval_reported (Conflict conflict) h = h
+  eval_reported other h = h

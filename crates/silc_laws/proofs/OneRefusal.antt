@@ -27,8 +27,8 @@ use Rattle.statuses.specs.Faults.{of_plan}
 use Rattle.statuses.specs.declared.status.ImageFault.{ImageFault}
 use Rattle.statuses.specs.declared.status.ImageFault.TheVariants as image_fault
 use Rattle.statuses.specs.declared.status.Status.{Status}
-use Rattle.statuses.specs.declared.status.Status.TheVariants.{Done, Memory, Words, Desk, FrontEnd, Path, LinesFull}
-use Rattle.statuses.specs.declared.status.Status.TheVariants.{Period, FileFull, Image, Samples, Conflict}
+use Rattle.statuses.specs.declared.status.Status.TheVariants.{FrontEnd, Path, LinesFull}
+use Rattle.statuses.specs.declared.status.Status.TheVariants.{Period, FileFull}
 use Rattle.statuses.specs.declared.status.Status.TheVariants as status
 
 -- a source has one fault
@@ -74,13 +74,7 @@ module _ (s d : Content) where
   cause (LinesFull v) is h = of_graph h
   cause (Period v) is h = of_graph h
   cause (FileFull u port v) is h = of_graph h
-  cause Done is h = absurd is
-  cause Memory is h = absurd is
-  cause Words is h = absurd is
-  cause Desk is h = absurd is
-  cause (Image fault) is h = absurd is
-  cause (Samples fault) is h = absurd is
-  cause (Conflict conflict) is h = absurd is
+  cause other is h = absurd is
 
   module _ (why other : Status) (is : IsRefusal other) (h : IsRefused other s d) where
     one_unplanned : IsUnplannedOver why s d → why ≡ other

@@ -38,9 +38,8 @@ use Rattle.silc_laws.proofs.OneRefusal.{one_source_fault, one_refusal, one_image
 use Rattle.statuses.specs.declared.status.ImageFault.{ImageFault}
 use Rattle.statuses.specs.declared.status.SampleFault.TheVariants as sample_fault
 use Rattle.statuses.specs.declared.status.Status.{Status}
-use Rattle.statuses.specs.declared.status.Status.TheVariants as status
-use Rattle.statuses.specs.declared.status.Status.TheVariants.{Done, Memory, Words, Desk, FrontEnd, Path, LinesFull}
-use Rattle.statuses.specs.declared.status.Status.TheVariants.{Period, FileFull, Image, Samples, Conflict}
+use Rattle.statuses.specs.declared.status.Status.TheVariants.{Done, Memory, Desk, FrontEnd}
+use Rattle.statuses.specs.declared.status.Status.TheVariants.{Image, Samples, Conflict}
 
 -- SRC is refused over DP
 module _ (src datapath : Name) (old new : View) (files : Files) (specified : old.files ≡ Some files)
@@ -72,17 +71,7 @@ module _ (src datapath : Name) (old new : View) (files : Files) (specified : old
         let its = h.compiled files specified in absurd (not_planned its.program its.path its.plan its.planned)
     compile_refuses out no_out Desk (inl h) = told Desk h
     compile_refuses out no_out Desk (inr cut) = absurd (no_out cut.written.rose)
-    compile_refuses out no_out Memory h = told Memory h
-    compile_refuses out no_out Words h = told Words h
-    compile_refuses out no_out (FrontEnd fault) h = told (FrontEnd fault) h
-    compile_refuses out no_out (Path fault) h = told (Path fault) h
-    compile_refuses out no_out (status.Unit refusal) h = told (status.Unit refusal) h
-    compile_refuses out no_out (LinesFull v) h = told (LinesFull v) h
-    compile_refuses out no_out (Period v) h = told (Period v) h
-    compile_refuses out no_out (FileFull u port v) h = told (FileFull u port v) h
-    compile_refuses out no_out (Image fault) h = told (Image fault) h
-    compile_refuses out no_out (Samples fault) h = told (Samples fault) h
-    compile_refuses out no_out (Conflict conflict) h = told (Conflict conflict) h
+    compile_refuses out no_out error h = told error h
 
     schedule_refuses : (PrintFaultsRose old new → ⊥)
         → (answer : Status)
@@ -93,17 +82,7 @@ module _ (src datapath : Name) (old new : View) (files : Files) (specified : old
         absurd (not_planned its.planned.0 its.path its.plan its.planned.1)
     schedule_refuses no_print Desk (inl h) = told Desk h
     schedule_refuses no_print Desk (inr cut) = absurd (no_print cut.rose)
-    schedule_refuses no_print Memory h = told Memory h
-    schedule_refuses no_print Words h = told Words h
-    schedule_refuses no_print (FrontEnd fault) h = told (FrontEnd fault) h
-    schedule_refuses no_print (Path fault) h = told (Path fault) h
-    schedule_refuses no_print (status.Unit refusal) h = told (status.Unit refusal) h
-    schedule_refuses no_print (LinesFull v) h = told (LinesFull v) h
-    schedule_refuses no_print (Period v) h = told (Period v) h
-    schedule_refuses no_print (FileFull u port v) h = told (FileFull u port v) h
-    schedule_refuses no_print (Image fault) h = told (Image fault) h
-    schedule_refuses no_print (Samples fault) h = told (Samples fault) h
-    schedule_refuses no_print (Conflict conflict) h = told (Conflict conflict) h
+    schedule_refuses no_print error h = told error h
 
   run_refuses : (samples out : Name) (kept : Kept)
       → HasNoFaultRisen (run src datapath samples out) old new
@@ -123,14 +102,7 @@ module _ (src datapath : Name) (old new : View) (files : Files) (specified : old
       by (Samples sample_fault.TooLong) h = absurd (not_planned h.program h.path h.plan (h.planned files specified))
       by (Image fault) h = absurd h
       by (Conflict conflict) h = absurd h
-      by Memory h = not_run Memory h
-      by Words h = not_run Words h
-      by (FrontEnd fault) h = not_run (FrontEnd fault) h
-      by (Path fault) h = not_run (Path fault) h
-      by (status.Unit refusal) h = not_run (status.Unit refusal) h
-      by (LinesFull v) h = not_run (LinesFull v) h
-      by (Period v) h = not_run (Period v) h
-      by (FileFull u port v) h = not_run (FileFull u port v) h
+      by error h = not_run error h
 
 -- SRC has a fault
 module _ (src samples out : Name) (old new : View) (files : Files) (specified : old.files ≡ Some files)
@@ -149,14 +121,7 @@ module _ (src samples out : Name) (old new : View) (files : Files) (specified : 
       inl (ap FrontEnd (one_source_fault (content_of (files src)) other fault h.0 (h.1.why files specified) has))
   eval_refuses (Samples (sample_fault.Row line at)) h = absurd (not_read h.program (h.specified files specified).read)
   eval_refuses (Samples sample_fault.TooLong) h = absurd (not_read h.program (h.specified files specified).read)
-  eval_refuses Words h = absurd h
-  eval_refuses (Path other) h = absurd h
-  eval_refuses (status.Unit refusal) h = absurd h
-  eval_refuses (LinesFull node) h = absurd h
-  eval_refuses (Period node) h = absurd h
-  eval_refuses (FileFull unit port node) h = absurd h
-  eval_refuses (Image other) h = absurd h
-  eval_refuses (Conflict conflict) h = absurd h
+  eval_refuses other h = absurd h
 
 -- MIC has a fault
 module _ (mic : Name) (old new : View) (files : Files) (specified : old.files ≡ Some files) (fault : ImageFault)
@@ -182,13 +147,7 @@ module _ (mic : Name) (old new : View) (files : Files) (specified : old.files �
   sim_refuses samples out kept none (Samples sample_fault.TooLong) h =
       absurd (no_image h.image (h.specified files specified))
   sim_refuses samples out kept none (Conflict conflict) h = absurd (no_image h.image (h.specified files specified))
-  sim_refuses samples out kept none Words h = absurd h
-  sim_refuses samples out kept none (FrontEnd other) h = absurd h
-  sim_refuses samples out kept none (Path other) h = absurd h
-  sim_refuses samples out kept none (status.Unit refusal) h = absurd h
-  sim_refuses samples out kept none (LinesFull node) h = absurd h
-  sim_refuses samples out kept none (Period node) h = absurd h
-  sim_refuses samples out kept none (FileFull unit port node) h = absurd h
+  sim_refuses samples out kept none other h = absurd h
 
   list_refuses : HasNoFaultRisen (list mic) old new
       → (answer : Status)

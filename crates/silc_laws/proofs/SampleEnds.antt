@@ -41,9 +41,8 @@ use Rattle.silc_laws.proofs.Reading.{bad_place_read, lines_read, all_rows_read, 
 use Rattle.silc_laws.proofs.StreamEnds.{IsEnd, status_at}
 use Rattle.statuses.specs.declared.status.SampleFault.TheVariants as sample_fault
 use Rattle.statuses.specs.declared.status.Status.{Status}
-use Rattle.statuses.specs.declared.status.Status.TheVariants as status
-use Rattle.statuses.specs.declared.status.Status.TheVariants.{Done, Memory, Words, Desk, FrontEnd, Path, LinesFull}
-use Rattle.statuses.specs.declared.status.Status.TheVariants.{Period, FileFull, Image, Samples, Conflict}
+use Rattle.statuses.specs.declared.status.Status.TheVariants.{Done, Memory, Desk, FrontEnd}
+use Rattle.statuses.specs.declared.status.Status.TheVariants.{Image, Samples, Conflict}
 
 -- memory ran out, or the status is that of one of these ends
 abbrev pub EndsBy : (Option StreamFault → Type 0) → Status → Type 0
@@ -167,13 +166,7 @@ module _ (mic samples out : Name) (old new : View) (kept : Kept) (files : Files)
       (conflict_stops samples out (channels_of h.image.inputs) old new files specified _
       (IsConflictInLast (microprogram_of h.image) [])
       (IsClearOver (microprogram_of h.image) []) (run_clear h.image) conflict h.ended)
-  sim_ends Words h = absurd h
-  sim_ends (FrontEnd fault) h = absurd h
-  sim_ends (Path fault) h = absurd h
-  sim_ends (status.Unit refusal) h = absurd h
-  sim_ends (LinesFull node) h = absurd h
-  sim_ends (Period node) h = absurd h
-  sim_ends (FileFull unit port node) h = absurd h
+  sim_ends other h = absurd h
 
 -- SRC has this program
 module _ (src samples out : Name) (old new : View) (files : Files) (specified : old.files ≡ Some files)
@@ -231,14 +224,7 @@ module _ (src samples out : Name) (old new : View) (files : Files) (specified : 
   eval_ends none (Samples (sample_fault.Row line at)) h =
       bad_row line at h.program (h.specified files specified).read h.ended
   eval_ends none (Samples sample_fault.TooLong) h = too_long h.program (h.specified files specified).read h.ended
-  eval_ends none Words h = absurd h
-  eval_ends none (Path fault) h = absurd h
-  eval_ends none (status.Unit refusal) h = absurd h
-  eval_ends none (LinesFull node) h = absurd h
-  eval_ends none (Period node) h = absurd h
-  eval_ends none (FileFull unit port node) h = absurd h
-  eval_ends none (Image fault) h = absurd h
-  eval_ends none (Conflict conflict) h = absurd h
+  eval_ends none other h = absurd h
 
 -- SRC's program has this plan over DP's datapath
 module _ (src datapath samples out : Name) (old new : View) (kept : Kept) (files : Files)
@@ -264,11 +250,4 @@ module _ (src datapath samples out : Name) (old new : View) (kept : Kept) (files
       h.ended
   run_ends (Image fault) h = absurd h
   run_ends (Conflict conflict) h = absurd h
-  run_ends Memory h = memory Memory h
-  run_ends Words h = memory Words h
-  run_ends (FrontEnd fault) h = memory (FrontEnd fault) h
-  run_ends (Path fault) h = memory (Path fault) h
-  run_ends (status.Unit refusal) h = memory (status.Unit refusal) h
-  run_ends (LinesFull node) h = memory (LinesFull node) h
-  run_ends (Period node) h = memory (Period node) h
-  run_ends (FileFull unit port node) h = memory (FileFull unit port node) h
+  run_ends error h = memory error h
