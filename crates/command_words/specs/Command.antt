@@ -20,6 +20,26 @@ pub record IsNumeral (text : List ℕ) (number : ℕ) : Type 0 where
   pub digits : IsTrue (is_digits text)
   pub value : number ≡ decimal text
 
+-- the inputs that the words of a command name
+abbrev pub inputs_of : Command → List Name
+inputs_of (compile src datapath out) = src ∷ datapath ∷ []
+inputs_of (schedule src datapath) = src ∷ datapath ∷ []
+inputs_of (list mic) = mic ∷ []
+inputs_of (sim mic samples out) = mic ∷ samples ∷ []
+inputs_of (eval src samples out) = src ∷ samples ∷ []
+inputs_of (run src datapath samples out) = src ∷ datapath ∷ samples ∷ []
+inputs_of (demo sections samples) = []
+
+-- the file that a command writes; where there is none, it prints
+abbrev pub output_of : Command → Option Name
+output_of (compile src datapath out) = Some out
+output_of (schedule src datapath) = None
+output_of (list mic) = None
+output_of (sim mic samples out) = Some out
+output_of (eval src samples out) = Some out
+output_of (run src datapath samples out) = Some out
+output_of (demo sections samples) = None
+
 -- the words as names
 abbrev pub names_of : List (String Global) → List Name
 names_of = map string_bytes

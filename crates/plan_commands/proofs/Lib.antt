@@ -5,3 +5,4 @@ pub mod Errors
 pub mod Making
 pub mod Scheduling
 pub mod Complete
+mod Examples

@@ -6,7 +6,7 @@ use Rattle.desk_core.proofs.DeskLemmas.{specified_from}
 use Rattle.plan_commands.specs.Compile.{IsDone, IsCompileDone, IsCutShort, IsAnswer}
 use Rattle.silc_files.specs.Endings.{IsNotWritten, IsFinished}
 use Rattle.silc_files.specs.Limits.{text_limit}
-use Rattle.plan_commands.specs.Refusals.{IsPlanError}
+use Rattle.plan_commands.specs.Refusals.{IsRefusal, IsRefused, IsPlanError}
 use Rattle.plan_commands.specs.Compiling.{IsMade}
 use Rattle.statuses.specs.declared.status.Status.{Status}
 use Rattle.statuses.specs.declared.status.Status.TheVariants.{Done, Desk}
@@ -56,7 +56,7 @@ module _ (src datapath out : Name) (old mid new : View) (same : IsUnchanged mid 
   }
 
   still : (status : Status) → IsPlanError src datapath old mid status → IsPlanError src datapath old new status
-  still = error_still src datapath old mid new same later before
+  still = error_still IsRefusal IsRefused src datapath old mid new same later before
 
   pub reported : (status : Status) → IsAnswer src datapath out old mid status → IsAnswer src datapath out old new status
   reported Done h = record {

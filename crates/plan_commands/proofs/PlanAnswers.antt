@@ -1,7 +1,6 @@
 -- What the source and the datapath have is what the call of a plan answers, unless memory runs out.
 use Rattle.std.proofs.Common.{◌≡◌, refl, sym, subst, ap, ◌∙◌, inl, inr, ⊎_elim, ◌⊎◌, Result, Ok, Err}
-use Rattle.std.specs.Prelude.{IsErrAnd, IfErr}
-use Rattle.std.proofs.lemmas.Result.{err_from_is_err_and}
+use Rattle.std.specs.Prelude.{IsErrAnd}
 use Rattle.datapath.specs.Described.{IsPathOf}
 use Rattle.datapath.specs.PathRules.{IsPathFault}
 use Rattle.datapath.specs.declared.fault.PathFault.{PathFault}
@@ -30,6 +29,7 @@ use Rattle.plan_commands.proofs.Plans.{file_fault}
 use Rattle.plan_commands.specs.PlanOf.{AnswersPlan, AnswersRefusal}
 use Rattle.plan_commands.specs.Refusals.{IsOfPath, IsRefusal, IsRefused, IsNoPlan}
 use Rattle.silc_files.specs.Sources.{IsAcceptedSource}
+use Rattle.silc_files.proofs.Results.{error_is}
 use Rattle.plan_commands.specs.Planning.{TellsWhy}
 use Rattle.statuses.specs.Faults.{of_front, of_path, of_plan}
 use Rattle.plan_commands.specs.declared.planning.Planned.{Planned}
@@ -216,12 +216,13 @@ module _ (s d : Content) where
               (same_graph over.program over.read over.graph over.graph_of) over.unplanned)
 
 -- where the call answers an error
-module _ {A : Type 0} (r : Result A Status) (told : Status) (is : IsErrAnd r (λ (status : Status). status ≡ told)) where
-  error_is : (s : Status) → told ≡ s → r ≡ Err s
-  error_is s e = let x = err_from_is_err_and r is in x.1 ∙ ap (λ (status : Status). Err status) (x.2 ∙ e)
-
-  either_is : (why : Status) → (told ≡ why) ⊎ (told ≡ Memory) → (r ≡ Err why) ⊎ (r ≡ Err Memory)
-  either_is why h = ⊎_elim (λ e. inl (error_is why e)) (λ e. inr (error_is Memory e)) h
+either_is : {A : Type 0} (r : Result A Status) (told : Status)
+    → IsErrAnd r (λ (status : Status). status ≡ told)
+    → (why : Status)
+    → (told ≡ why) ⊎ (told ≡ Memory)
+    → (r ≡ Err why) ⊎ (r ≡ Err Memory)
+either_is r told is why =
+    ⊎_elim (λ e. inl (error_is r told is why e)) (λ e. inr (error_is r told is Memory e))
 
 pub no_plan : (r : Result Planned Status) (told : Status)
     → IsErrAnd r (λ (status : Status). status ≡ told)
@@ -248,13 +249,6 @@ pub tells_why : (r : Result Plan Status) (told : Status)
 tells_why r told is why h =
     ⊎_elim (λ e. subst (λ (x : Result Plan Status). TellsWhy why x) (sym e) (inl refl))
     (λ e. subst (λ (x : Result Plan Status). TellsWhy why x) (sym e) (inr refl)) (either_is r told is why h)
-
-pub at_error : {A : Type 0} (r : Result A Status) (told : Status)
-    → IsErrAnd r (λ (status : Status). status ≡ told)
-    → (P : Status → Type 0)
-    → P told
-    → IfErr r P
-at_error {A} r told is P h = subst (λ (x : Result A Status). IfErr x P) (sym (error_is r told is told refl)) h
 
 -- the fault of a file, or no memory, is why a source with a program has no plan
 pub no_path_plan : (s d : Content) (program : Program)

@@ -2,7 +2,7 @@
 use Rattle.std.specs.Prelude.{◌≡◌, ◌⊎◌, Result, Ok, Err}
 use Rattle.desk_core.specs.View.{Name, Content, View}
 use Rattle.desk_core.specs.Desk.{WhereSpecified, content_of}
-use Rattle.desk_core.specs.Whole.{IsReadThrough}
+use Rattle.desk_core.specs.Whole.{IsUnchangedButInput, IsReadThrough}
 use Rattle.datapath.specs.Allowed.{IsDatapath}
 use Rattle.datapath.specs.Described.{IsPathOf}
 use Rattle.datapath.specs.PathRules.{IsPathFault}
@@ -16,12 +16,13 @@ use Rattle.source_faults.specs.Faults.{HasProgram, IsFrontFault, IsOfSource}
 use Rattle.front_end.specs.GraphOf.{IsProgramGraph}
 use Rattle.silc_files.specs.Limits.{text_limit}
 use Rattle.plan_commands.specs.Plans.{IsPlannedOver, IsUnplanned}
-use Rattle.plan_commands.specs.Refusals.{IsOfPath, IsRefusal, IsRefused}
+use Rattle.plan_commands.specs.Refusals.{IsOfPath, IsRefusal, IsRefused, IsUnread}
 use Rattle.silc_files.specs.Reading.{IsInput}
 use Rattle.silc_files.specs.declared.files.Input.{Input}
+use Rattle.plan_commands.specs.declared.planning.Inputs.{Inputs}
 use Rattle.plan_commands.specs.declared.planning.Planned.{Planned}
 use Rattle.statuses.specs.declared.status.Status.{Status}
-use Rattle.statuses.specs.declared.status.Status.TheVariants.{Memory, FrontEnd, Path}
+use Rattle.statuses.specs.declared.status.Status.TheVariants.{Memory, Desk, FrontEnd, Path}
 
 -- the source has the program with this graph
 pub record HasGraph (source : Content) (program : Program) (g : Graph) : Type 0 where
@@ -71,11 +72,31 @@ pub record IsInputPlan (source datapath : Input) (planned : Planned) : Type 0 wh
   pub allowed : IsDatapath planned.path
   pub plan : IsPlan graph planned.path planned.plan
 
--- why the inputs have none
-abbrev pub IsNoInputPlan : Input → Input → Status → Type 0
-IsNoInputPlan source datapath status =
+-- Why the inputs have none: `IsWhy` says which statuses tell that they are refused, and `Tells` what each tells of
+-- them.
+abbrev pub IsNoInputPlanOf : (IsWhy : Status → Type 0)
+    → (Tells : Status → Content → Content → Type 0)
+    → Input
+    → Input
+    → Status
+    → Type 0
+IsNoInputPlanOf IsWhy Tells source datapath status =
     (status ≡ Memory)
-    ⊎ (IsRefusal status × ((s d : Content) → IsInput s source → IsInput d datapath → IsRefused status s d))
+    ⊎ (IsWhy status × ((s d : Content) → IsInput s source → IsInput d datapath → Tells status s d))
+
+abbrev pub IsNoInputPlan : Input → Input → Status → Type 0
+IsNoInputPlan = IsNoInputPlanOf IsRefusal IsRefused
+
+-- SRC and DP were read through, one after the other, and this is what they hold
+pub record AreRead (src datapath : Name) (old new : View) (inputs : Inputs) : Type 0 where
+  pub read : IsReadThrough datapath text_limit old new
+  pub source_is : WhereSpecified old (λ files. IsInput (content_of (files src)) inputs.source)
+  pub datapath_is : WhereSpecified old (λ files. IsInput (content_of (files datapath)) inputs.datapath)
+
+-- why they were not
+abbrev pub AreUnread : Name → Name → View → View → Status → Type 0
+AreUnread src datapath old new status =
+    ((status ≡ Memory) × IsUnchangedButInput old new) ⊎ ((status ≡ Desk) × IsUnread src datapath old new)
 
 -- the plan of the program of SRC over the datapath of DP, which were read through
 pub record IsReadPlan (src datapath : Name) (old new : View) (planned : Planned) : Type 0 where

@@ -60,12 +60,18 @@ IsUnplanned (Period node) g d = IsPlanFault g d (plan.Period node)
 IsUnplanned (FileFull u port node) g d = IsPlanFault g d (plan.FileFull u port node)
 IsUnplanned _ g d = ⊥
 
--- the source has a program, the file describes a datapath, and this is why the graph has no plan over it
-pub record IsUnplannedOver (status : Status) (source datapath : List ℕ) : Type 0 where
+-- The source has a program, the file describes a datapath, and this is why the program's graph has no plan over it.
+-- `IsGraphOf` says which graph a program has, `IsWhy` which status tells why a graph has no plan.
+pub record IsUnplannedBy (IsGraphOf : Program → Graph → Type 0) (IsWhy : Status → Graph → Datapath → Type 0)
+    (status : Status) (source datapath : List ℕ) : Type 0 where
   pub program : Program
   pub read : HasProgram source program
   pub graph : Graph
-  pub graph_of : IsProgramGraph program graph
+  pub graph_of : IsGraphOf program graph
   pub path : Datapath
   pub described : IsPathOf datapath path
-  pub unplanned : IsUnplanned status graph path
+  pub unplanned : IsWhy status graph path
+
+-- so it is where the graph is the program's own, and its plan is that of `compile`
+abbrev pub IsUnplannedOver : Status → (source datapath : List ℕ) → Type 0
+IsUnplannedOver = IsUnplannedBy IsProgramGraph IsUnplanned

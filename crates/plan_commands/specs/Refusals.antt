@@ -31,29 +31,53 @@ IsRefusal (Period node) = Unit {0}
 IsRefusal (FileFull unit port node) = Unit {0}
 IsRefusal _ = ⊥
 
--- what it tells: a fault comes only where nothing before it has one
+-- What a status tells: a fault comes only where nothing before it has one. `IsUnplannedSo` says what tells why the
+-- program of the source has no plan over the datapath of the file.
+abbrev pub IsRefusedBy : (IsUnplannedSo : Status → (source datapath : List ℕ) → Type 0)
+    → Status
+    → (source datapath : List ℕ)
+    → Type 0
+IsRefusedBy IsUnplannedSo (FrontEnd fault) source datapath = IsFrontFault source fault
+IsRefusedBy IsUnplannedSo (Path fault) source datapath = IsAcceptedSource source × IsPathFault datapath fault
+IsRefusedBy IsUnplannedSo status source datapath = IsUnplannedSo status source datapath
+
+-- so it is where the plan is that of `compile`
 abbrev pub IsRefused : Status → (source datapath : List ℕ) → Type 0
-IsRefused (FrontEnd fault) source datapath = IsFrontFault source fault
-IsRefused (Path fault) source datapath = IsAcceptedSource source × IsPathFault datapath fault
-IsRefused status source datapath = IsUnplannedOver status source datapath
+IsRefused = IsRefusedBy IsUnplannedOver
 
 -- why `plan_of` gives no plan
 abbrev pub IsNoPlan : (source datapath : List ℕ) → Status → Type 0
 IsNoPlan source datapath status = (status ≡ Memory) ⊎ (IsRefusal status × IsRefused status source datapath)
 
+-- the status tells this of the source and the datapath in the files
+abbrev pub AreTold : (Tells : Status → (source datapath : List ℕ) → Type 0) → Name → Name → Status → Files → Type 0
+AreTold Tells src datapath status files = Tells status (content_of (files src)) (content_of (files datapath))
+
 -- the source and the datapath in the files are refused
 abbrev pub AreRefused : Name → Name → Status → Files → Type 0
-AreRefused src datapath status files = IsRefused status (content_of (files src)) (content_of (files datapath))
+AreRefused = AreTold IsRefused
 
 -- the source or the datapath could not be read; at most the input and the faults changed
 pub record IsUnread (src datapath : Name) (old new : View) : Type 0 where
   pub unchanged : IsUnchangedButInput old new
   pub rose : ReadFaultsRose src old new ⊎ ReadFaultsRose datapath old new
 
--- Why `compile` or `schedule` ends before it makes or prints anything, and `run` before it opens SAMPLES: there was no
--- memory, an input could not be read, or the files are refused. Both inputs are read through before either is judged.
-abbrev pub IsPlanError : Name → Name → View → View → Status → Type 0
-IsPlanError src datapath old new status =
+-- Why a planning of SRC over DP ends before it makes or prints anything: there was no memory, an input could not be
+-- read, or the files are refused. Both inputs are read through before either is judged. `IsWhy` says which statuses
+-- tell that the files are refused, and `Tells` what each tells of the two.
+abbrev pub IsErrorOf : (IsWhy : Status → Type 0)
+    → (Tells : Status → (source datapath : List ℕ) → Type 0)
+    → Name
+    → Name
+    → View
+    → View
+    → Status
+    → Type 0
+IsErrorOf IsWhy Tells src datapath old new status =
     ((status ≡ Memory) × IsUnchangedButInput old new)
     ⊎ ((status ≡ Desk) × IsUnread src datapath old new)
-    ⊎ (IsRefusal status × IsRejected datapath text_limit (AreRefused src datapath status) old new)
+    ⊎ (IsWhy status × IsRejected datapath text_limit (AreTold Tells src datapath status) old new)
+
+-- why `compile` or `schedule` ends before it makes or prints anything, and `run` before it opens SAMPLES
+abbrev pub IsPlanError : Name → Name → View → View → Status → Type 0
+IsPlanError = IsErrorOf IsRefusal IsRefused

@@ -1,10 +1,10 @@
 //! `compile SRC DP OUT`: from the plan of a source over a datapath to the bytes of the microcode.
-ghost use Rattle.std.specs.Prelude.{◌≡◌, ◌≢◌, ◌<◌, ◌^◌, length, IfOk, IfErr};
+ghost use Rattle.std.specs.Prelude.{◌≡◌, ◌≢◌, ◌<◌, ◌^◌, [], ◌∷◌, length, IfOk, IfErr};
 ghost use Rattle.datapath.specs.Allowed.{IsDatapath};
 ghost use Rattle.desk_core.specs.Desk.{FaultsNeverFall};
 ghost use Rattle.microcode_asm.specs.Planned.{IsPlanned};
 ghost use Rattle.plan_commands.specs.Compile.{IsAnswer};
-ghost use Rattle.silc_files.specs.Endings.{UsesOnly};
+ghost use Rattle.silc_files.specs.Endings.{IsAmong, UsesOnly};
 ghost use Rattle.plan_commands.specs.Refusals.{IsPlanError};
 ghost use Rattle.plan_commands.specs.Compiling.{IsMicrocodeOf, IsMade};
 ghost use Rattle.silc_files.specs.Reading.{OnlyReads};
@@ -32,7 +32,7 @@ pub fn microcode_of(alloc: Global, planned: &Planned) -> Result<Bytes, Status>
 
 /// Reads the source and the datapath, and then makes the microcode.
 fn make<D: Desk>(alloc: Global, desk: &mut D, source: &str, datapath: &str) -> Result<Bytes, Ending>
-    ensures reads { OnlyReads source.now datapath.now (D.view desk.old) (D.view desk.new) }
+    ensures reads { OnlyReads (IsAmong (source.now ∷ datapath.now ∷ [])) (D.view desk.old) (D.view desk.new) }
     ensures ok { IfOk result (IsMade source.now datapath.now (D.view desk.old) (D.view desk.new)) }
     ensures err { IfErr result (λ ending.
         IsPlanError source.now datapath.now (D.view desk.old) (D.view desk.new) ending.status) }
@@ -52,7 +52,8 @@ pub fn compile<D: Desk>(
     requires { output.now ≢ datapath.now }
     ensures faults { FaultsNeverFall (D.view desk.old) (D.view desk.new) }
     ensures answer { IsAnswer source.now datapath.now output.now (D.view desk.old) (D.view desk.new) result.status }
-    ensures only { UsesOnly source.now datapath.now output.now (D.view desk.old) (D.view desk.new) }
+    ensures only { UsesOnly (IsAmong (source.now ∷ datapath.now ∷ [])) output.now
+        (D.view desk.old) (D.view desk.new) }
 {
     match make(alloc, desk, source, datapath) {
         Ok(microcode) => match write_whole(desk, output, &microcode) {

@@ -9,5 +9,7 @@ mod planning;
 mod scheduler;
 
 pub use compiler::{compile, microcode_of};
-pub use planning::{Planned, plan_of, planned_of, read_plan};
+pub use planning::{
+    Inputs, Planned, datapath_in, plan_of, plan_over, planned_of, read_inputs, read_plan, source_in,
+};
 pub use scheduler::schedule;

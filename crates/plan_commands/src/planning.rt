@@ -1,5 +1,5 @@
 //! The plan of a source over a datapath, which `compile`, `schedule` and `run` make.
-ghost use Rattle.std.specs.Prelude.{◌≡◌, IfOk, IfErr};
+ghost use Rattle.std.specs.Prelude.{◌≡◌, [], ◌∷◌, IfOk, IfErr};
 ghost use Rattle.datapath.specs.Allowed.{IsDatapath};
 ghost use Rattle.plan_core.specs.IsPlan.{IsPlan};
 ghost use Rattle.signal_graph.specs.GraphRules.{IsGraph};
@@ -13,7 +13,8 @@ ghost use Rattle.plan_commands.specs.Plans.{HasPlan, HasOnlyPlan, IsUnplanned};
 ghost use Rattle.plan_commands.specs.Refusals.{IsNoPlan, IsRefusal, IsRefused, IsPlanError};
 ghost use Rattle.loop_expand.specs.GraphFor.{IsGraphFor};
 ghost use Rattle.plan_commands.specs.Planning.{IsSourceIn, IsNoSource, IsPathIn, IsNoPath, IsWithoutPlan, FindsPlan, TellsWhy};
-ghost use Rattle.plan_commands.specs.Planning.{IsInputPlan, IsNoInputPlan, IsReadPlan};
+ghost use Rattle.plan_commands.specs.Planning.{IsInputPlan, IsNoInputPlan, AreRead, AreUnread, IsReadPlan};
+ghost use Rattle.silc_files.specs.Endings.{IsAmong};
 ghost use Rattle.silc_files.specs.Reading.{OnlyReads};
 
 use datapath::{Datapath, PathFault};
@@ -27,6 +28,13 @@ use source_faults::FrontFault;
 use statuses::{Ending, Status};
 use std::alloc::Global;
 
+/// A source and a datapath, as they were read.
+#[derive(Drop)]
+pub struct Inputs {
+    pub source: Input,
+    pub datapath: Input,
+}
+
 /// A plan, and the datapath that it is for.
 #[derive(Drop)]
 pub struct Planned {
@@ -34,8 +42,8 @@ pub struct Planned {
     pub path: Datapath,
 }
 
-/// The program of the input, with its graph.
-fn source_in(alloc: Global, input: &Input) -> Result<Accepted, Ending>
+/// The program of the input, with its graph. `FrontEnd` where it has none, `Memory` where no memory is left.
+pub fn source_in(alloc: Global, input: &Input) -> Result<Accepted, Ending>
     ensures ok { IfOk result (λ accepted. IsSourceIn input.now (view accepted.program) accepted.graph) }
     ensures graph { IfOk result (λ accepted. IsGraphFor (view accepted.program) accepted.graph) }
     ensures err { IfErr result (λ ending. IsNoSource input.now ending.status) }
@@ -46,8 +54,8 @@ fn source_in(alloc: Global, input: &Input) -> Result<Accepted, Ending>
     }
 }
 
-/// The datapath that the input describes.
-fn datapath_in(alloc: Global, input: &Input) -> Result<Datapath, Status>
+/// The datapath that the input describes. `Path` where it describes none, `Memory` where no memory is left.
+pub fn datapath_in(alloc: Global, input: &Input) -> Result<Datapath, Status>
     ensures ok { IfOk result (IsPathIn input.now) }
     ensures allowed { IfOk result IsDatapath }
     ensures err { IfErr result (IsNoPath input.now) }
@@ -58,8 +66,9 @@ fn datapath_in(alloc: Global, input: &Input) -> Result<Datapath, Status>
     }
 }
 
-/// The plan of a graph over the datapath.
-fn plan_over(alloc: Global, graph: Graph, path: &Datapath) -> Result<Plan, Status>
+/// The plan of a graph over the datapath. `Unit`, `LinesFull`, `Period` or `FileFull` where it has none, `Memory` where
+/// no memory is left.
+pub fn plan_over(alloc: Global, graph: Graph, path: &Datapath) -> Result<Plan, Status>
     requires sound { IsGraph graph }
     requires loopless { IsGraphLoopless graph }
     requires path { IsDatapath path.now }
@@ -96,6 +105,23 @@ pub fn planned_of(alloc: Global, source: &Input, datapath: &Input) -> Result<Pla
     planned_over(alloc, accepted.graph, path)
 }
 
+/// Reads a source and a datapath whole, one after the other, for any planning of the one over the other, which judges
+/// them. `Desk` where one could not be read, `Memory` where no memory is left.
+pub fn read_inputs<D: Desk>(
+    alloc: Global,
+    desk: &mut D,
+    source: &str,
+    datapath: &str,
+) -> Result<Inputs, Status>
+    ensures reads { OnlyReads (IsAmong (source.now ∷ datapath.now ∷ [])) (D.view desk.old) (D.view desk.new) }
+    ensures ok { IfOk result (AreRead source.now datapath.now (D.view desk.old) (D.view desk.new)) }
+    ensures err { IfErr result (AreUnread source.now datapath.now (D.view desk.old) (D.view desk.new)) }
+{
+    let source = read_input(alloc, desk, source)?;
+    let datapath = read_input(alloc, desk, datapath)?;
+    Ok(Inputs { source, datapath })
+}
+
 /// Reads the source and the datapath, and then plans the one over the other.
 pub fn read_plan<D: Desk>(
     alloc: Global,
@@ -103,14 +129,13 @@ pub fn read_plan<D: Desk>(
     source: &str,
     datapath: &str,
 ) -> Result<Planned, Ending>
-    ensures reads { OnlyReads source.now datapath.now (D.view desk.old) (D.view desk.new) }
+    ensures reads { OnlyReads (IsAmong (source.now ∷ datapath.now ∷ [])) (D.view desk.old) (D.view desk.new) }
     ensures ok { IfOk result (IsReadPlan source.now datapath.now (D.view desk.old) (D.view desk.new)) }
     ensures err { IfErr result (λ ending.
         IsPlanError source.now datapath.now (D.view desk.old) (D.view desk.new) ending.status) }
 {
-    let source = read_input(alloc, desk, source)?;
-    let datapath = read_input(alloc, desk, datapath)?;
-    planned_of(alloc, &source, &datapath)
+    let inputs = read_inputs(alloc, desk, source, datapath)?;
+    planned_of(alloc, &inputs.source, &inputs.datapath)
 }
 
 /// The plan of the program of a source over the datapath that a file describes.

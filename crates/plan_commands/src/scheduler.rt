@@ -1,8 +1,9 @@
 //! `schedule SRC DP`: prints the plan of a source over a datapath.
-ghost use Rattle.std.specs.Prelude.{IfOk, IfErr};
+ghost use Rattle.std.specs.Prelude.{[], ◌∷◌, IfOk, IfErr};
 ghost use Rattle.desk_core.specs.Desk.{FaultsNeverFall};
 ghost use Rattle.plan_commands.specs.Refusals.{IsPlanError};
 ghost use Rattle.plan_commands.specs.Schedule.{IsScheduleAnswer};
+ghost use Rattle.silc_files.specs.Endings.{IsAmong};
 ghost use Rattle.silc_files.specs.Printing.{ChangesNoFile};
 ghost use Rattle.plan_commands.specs.Private.Scheduling.{IsMadeSchedule};
 ghost use Rattle.silc_files.specs.Reading.{OnlyReads};
@@ -17,7 +18,7 @@ use std::alloc::Global;
 
 /// Reads the source and the datapath, and then makes the text of the plan.
 fn make<D: Desk>(alloc: Global, desk: &mut D, source: &str, datapath: &str) -> Result<Bytes, Ending>
-    ensures reads { OnlyReads source.now datapath.now (D.view desk.old) (D.view desk.new) }
+    ensures reads { OnlyReads (IsAmong (source.now ∷ datapath.now ∷ [])) (D.view desk.old) (D.view desk.new) }
     ensures ok { IfOk result (IsMadeSchedule source.now datapath.now (D.view desk.old) (D.view desk.new)) }
     ensures err { IfErr result (λ ending.
         IsPlanError source.now datapath.now (D.view desk.old) (D.view desk.new) ending.status) }
@@ -30,7 +31,7 @@ fn make<D: Desk>(alloc: Global, desk: &mut D, source: &str, datapath: &str) -> R
 pub fn schedule<D: Desk>(alloc: Global, desk: &mut D, source: &str, datapath: &str) -> Ending
     ensures faults { FaultsNeverFall (D.view desk.old) (D.view desk.new) }
     ensures answer { IsScheduleAnswer source.now datapath.now (D.view desk.old) (D.view desk.new) result.status }
-    ensures only { ChangesNoFile source.now datapath.now (D.view desk.old) (D.view desk.new) }
+    ensures only { ChangesNoFile (IsAmong (source.now ∷ datapath.now ∷ [])) (D.view desk.old) (D.view desk.new) }
 {
     match make(alloc, desk, source, datapath) {
         Ok(text) => match print_whole(desk, &text) {

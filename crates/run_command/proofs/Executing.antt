@@ -1,19 +1,16 @@
 -- How the parts of `run` make up its answer.
 use Rattle.std.proofs.Common.{◌≡◌, refl, sym, ap, ap₂, subst, ◌∙◌, arith, inl, inr, ⊎_elim, ◌+◌, List, [], ◌∷◌, map}
-use Rattle.std.proofs.Common.{Bool}
 use Rattle.lists.specs.Rows.{Rows}
 use Rattle.cycle_sim.specs.Machine.{Snapshot, state_of}
 use Rattle.cycle_sim.specs.Microcode.{micro_of, inputs_of}
 use Rattle.desk_core.specs.View.{Name, Content, View}
 use Rattle.desk_core.specs.Desk.{WhereSpecified, FaultsNeverFall, IsUnchanged, content_of}
-use Rattle.desk_core.proofs.DeskLemmas.{never_fall_trans, specified_from}
+use Rattle.desk_core.proofs.DeskLemmas.{never_fall_trans}
 use Rattle.fix_word.specs.declared.types.SigType.{SigType}
 use Rattle.fix_word.specs.declared.types.SigType.TheVariants as sig
-use Rattle.micro_file.proofs.FirstFault.{spelled_no_fault}
 use Rattle.micro_image.specs.declared.image.Image.{Image as MicroImage}
 use Rattle.micro_image.specs.Fields.{Microprogram, microprogram_of}
 use Rattle.micro_image.specs.Run.{State, IsRunOut}
-use Rattle.micro_image.specs.Spells.{Spells}
 use Rattle.micro_image.specs.declared.conflict.Conflict.{Conflict as ConflictValue}
 use Rattle.micro_image.proofs.Streams.{length-spread}
 use Rattle.plan_soundness.specs.ImageOf.{IsImageOf, width_of}
@@ -26,45 +23,34 @@ use Rattle.sample_loops.specs.Streams.{IsRunThrough}
 use Rattle.sample_loops.specs.declared.stream.StreamFault.{StreamFault}
 use Rattle.sample_loops.specs.declared.stream.StreamFault.TheVariants as stream
 use Rattle.silage_meaning.specs.Solves as program
-use Rattle.silc_files.specs.Endings.{ChangesOnly}
+use Rattle.silc_files.specs.Endings.{IsAmong}
 use Rattle.silc_files.specs.Limits.{text_limit, samples_limit}
 use Rattle.silc_files.specs.Reading.{OnlyReads}
-use Rattle.silc_files.proofs.Endings.{unchanged_still, specified_still}
+use Rattle.silc_files.proofs.Endings.{unchanged_still}
 use Rattle.plan_commands.specs.Compiling.{IsMicrocodeOf}
 use Rattle.plan_commands.specs.Headline.{RunsTheSolution}
 use Rattle.plan_commands.specs.Planning.{IsReadPlan}
-use Rattle.plan_commands.specs.Refusals.{IsRefusal, IsPlanError}
+use Rattle.plan_commands.specs.Refusals.{IsRefusal, IsRefused, IsPlanError}
 use Rattle.silc_files.specs.Sources.{IsProgramIn}
 use Rattle.plan_commands.specs.declared.planning.Planned.{Planned}
 use Rattle.plan_commands.proofs.Compiled.{runs_the_solution}
 use Rattle.plan_commands.proofs.Errors.{error_still}
 use Rattle.sample_commands.specs.Eval.{type_channel, program_channels, IsSolutionRows}
-use Rattle.sample_commands.specs.Loaded.{IsMachineOf, IsNoMachine}
-use Rattle.run_command.specs.Run.{AreSamplesUnread, IsNotRun, IsRunStopped, IsRunDone, IsRunAnswer, RunUsesOnly}
+use Rattle.sample_commands.specs.Loaded.{IsMachineOf}
+use Rattle.run_command.specs.Run.{AreSamplesUnread, IsNotRun, IsRunStopped, IsExecuted, IsRunError}
 use Rattle.run_command.specs.Run.{HasSomePlan}
 use Rattle.sample_commands.specs.Samples.{AreSamples, IsEndedEarly}
 use Rattle.sample_commands.specs.StreamEnds.{status_of}
 use Rattle.run_command.specs.Private.Executing.{IsCompiledMachine}
-use Rattle.sample_commands.specs.Streaming.{IsOpened, IsNotOpened, StreamsOnly, RunsFiles, IsRunOver}
-use Rattle.sample_commands.specs.declared.simulator.Kept.{Kept}
-use Rattle.sample_commands.specs.declared.simulator.Kept.TheVariants.{One}
+use Rattle.sample_commands.specs.Streaming.{IsOpened, IsNotOpened, RunsFiles, IsNotRunOver}
 use Rattle.statuses.specs.declared.status.SampleFault.TheVariants as sample_fault
 use Rattle.statuses.specs.declared.status.Status.{Status}
 use Rattle.statuses.specs.declared.status.Status.TheVariants.{Done, Memory, Desk}
 use Rattle.statuses.specs.declared.status.Status.TheVariants.{Image, Samples, Conflict}
 use Rattle.sample_commands.proofs.EarlyEnds.{ended_early, run_finished, run_samples_are, run_stream_is, run_put}
 use Rattle.sample_commands.proofs.EarlyEnds.{opened_from, unopened_from, not_created_from, unopened_still, ended_still}
-use Rattle.sample_commands.proofs.Simulating.{fresh_puts, fresh_meets, fresh_run}
+use Rattle.sample_commands.proofs.Simulating.{fresh_puts, fresh_meets, fresh_run, not_stopped}
 use Rattle.sample_commands.proofs.Solving.{program_stream, eval_done_still}
-
--- where bytes spell an image, a machine lacks nothing but memory
-pub only_memory : (content : Content) (image : MicroImage)
-    → Spells content image
-    → (error : Status)
-    → IsNoMachine content error
-    → error ≡ Memory
-only_memory content image spells error =
-    ⊎_elim (λ m. m) (λ bad. absurd (spelled_no_fault content image bad.0 spells bad.2))
 
 -- neither want of memory nor a fault of the desk, and no refusal
 no_error : {src datapath : Name} {old new : View} (status : Status)
@@ -116,15 +102,8 @@ module _ (src datapath : Name) (old new : View) (planned : Planned) (plan : IsRe
 
 -- the machine was made, and then it ran over the files
 module _ (src datapath samples out : Name) (old mid new : View) (machine : Snapshot)
-    (first : OnlyReads src datapath old mid) (compiled : IsCompiledMachine src datapath old mid machine) where
-  pub run_uses : StreamsOnly samples out mid new → RunUsesOnly src datapath samples out old new
-  run_uses only = record {
-    files = specified_from (ChangesOnly out) old.files mid.files new.files first.unchanged.files only.files;
-    printed = only.printed ∙ first.unchanged.printed;
-    reads = λ s not_src not_datapath not_samples is. first.begins s not_src not_datapath (only.reads s not_samples is);
-    writes = λ s ne is. ap (λ (f : Name → Bool). f s) (sym first.unchanged.writes) ∙ only.writes s ne is;
-  }
-
+    (first : OnlyReads (IsAmong (src ∷ datapath ∷ [])) old mid)
+    (compiled : IsCompiledMachine src datapath old mid machine) where
   program_in : WhereSpecified old (IsProgramIn src compiled.program)
   program_in files is = record {
     read = (compiled.planned files is).has.read;
@@ -178,10 +157,8 @@ module _ (src datapath samples out : Name) (old mid new : View) (machine : Snaps
       met.there.there
 
   -- SAMPLES or OUT could not be opened
-  run_not_opened : (kept : Kept)
-      → IsNotOpened samples out mid new
-      → IsRunAnswer src datapath samples out old new kept Desk
-  run_not_opened kept = ⊎_elim
+  run_not_opened : IsNotOpened samples out mid new → IsRunError src datapath samples out old new Desk
+  run_not_opened = ⊎_elim
       (λ unread. inl (inr (record {
         unchanged = unchanged_still old mid new unread.0 first.unchanged;
         unopened =
@@ -197,8 +174,7 @@ module _ (src datapath samples out : Name) (old mid new : View) (machine : Snaps
         ended = inl (not_created_from samples out old mid new first.unchanged.files first.never_fall not);
       }))
 
-  module _ (kept : Kept) (after : Snapshot) (ending : Status)
-      (ran : RunsFiles samples out machine after mid new ending) where
+  module _ (after : Snapshot) (ending : Status) (ran : RunsFiles samples out machine after mid new ending) where
     fall : FaultsNeverFall old ran.mid
     fall = never_fall_trans old mid ran.mid first.never_fall ran.never_fall
 
@@ -220,17 +196,17 @@ module _ (src datapath samples out : Name) (old mid new : View) (machine : Snaps
 
     run_stopped : (fault : StreamFault)
         → IsEndedEarly samples out channels (IsSolutionRows compiled.program) (λ rows conflict. ⊥) old new fault
-        → IsRunAnswer src datapath samples out old new kept (status_of fault)
+        → IsRunError src datapath samples out old new (status_of fault)
     run_stopped stream.Desk h = inr (stopped_run stream.Desk h)
     run_stopped (stream.Row fault) h = stopped_run (stream.Row fault) h
     run_stopped stream.TooLong h = stopped_run stream.TooLong h
     run_stopped (stream.Conflict conflict) h = absurd h.met
 
-    run_done : kept ≡ One after
-        → IsRunThrough (samples_limit + 1) channels
+    run_through :
+        IsRunThrough (samples_limit + 1) channels
         (λ rows puts. RunsRows micro (state_of machine) rows puts (state_of after)) ran.mid new
-        → IsRunDone src datapath samples out old new kept
-    run_done keeps h =
+        → IsExecuted src datapath samples out after old new
+    run_through h =
         let is = run_stream_is samples out old ran.mid new fall opened ran.only channels _ h in
         let rows =
         solution_rows h.run.rows h.run.put.puts is
@@ -255,19 +231,16 @@ module _ (src datapath samples out : Name) (old mid new : View) (machine : Snaps
           planned = compiled.planned;
           image = image;
           image_of = compiled.image_of;
-          machine = after;
           ran =
               fresh_run image machine after h.run.rows h.run.put.puts compiled.fresh compiled.code ran.code
               h.run.put.given;
-          kept_is = keeps;
         }
 
-    run_ran : (ending ≡ Done → kept ≡ One after) → IsRunAnswer src datapath samples out old new kept ending
-    run_ran keeps = ⊎_elim
-        (λ done.
-        subst (IsRunAnswer src datapath samples out old new kept) (sym done.0) (run_done (keeps done.0) done.1))
+    run_ended : (ending ≡ Done → ⊥) → IsRunError src datapath samples out old new ending
+    run_ended not_done = ⊎_elim
+        (λ done. absurd (not_done done.0))
         (λ stopped.
-        subst (IsRunAnswer src datapath samples out old new kept) (sym stopped.1)
+        subst (IsRunError src datapath samples out old new) (sym stopped.1)
         (run_stopped stopped.0
         (ended_early samples out old ran.mid new fall opened ran.only channels (PutsRows micro (state_of machine))
         (IsSolutionRows compiled.program)
@@ -275,27 +248,33 @@ module _ (src datapath samples out : Name) (old mid new : View) (machine : Snaps
         (λ rows conflict. ⊥) solution_rows (no_conflict (state_of after)) stopped.0 stopped.2)))
         ran.ends
 
-  pub run_answer : (kept : Kept) (ending : Status)
-      → IsRunOver samples out machine mid new kept ending
-      → IsRunAnswer src datapath samples out old new kept ending
-  run_answer kept ending = ⊎_elim
-      (λ desk. subst (IsRunAnswer src datapath samples out old new kept) (sym desk.0) (run_not_opened kept desk.1))
-      (λ ran. run_ran kept ran.0 ending ran.2 ran.1)
+  pub run_done : (after : Snapshot)
+      → RunsFiles samples out machine after mid new Done
+      → IsExecuted src datapath samples out after old new
+  run_done after ran =
+      ⊎_elim (λ done. run_through after Done ran done.1) (λ stopped. absurd (not_stopped stopped.0 stopped.1)) ran.ends
+
+  pub run_error : (ending : Status)
+      → IsNotRunOver samples out machine mid new ending
+      → IsRunError src datapath samples out old new ending
+  run_error ending = ⊎_elim
+      (λ desk. subst (IsRunError src datapath samples out old new) (sym desk.0) (run_not_opened desk.1))
+      (λ ran. run_ended ran.0 ending ran.2 ran.1)
 
 -- why there is no plan is why `run` ends
-pub no_plan : (src datapath samples out : Name) (old new : View) (kept : Kept) (status : Status)
+pub no_plan : (src datapath samples out : Name) (old new : View) (status : Status)
     → IsPlanError src datapath old new status
-    → IsRunAnswer src datapath samples out old new kept status
-no_plan src datapath samples out old new kept Desk h = inl (inl h)
-no_plan src datapath samples out old new kept Done h = absurd (no_error Done h (λ e. cc) (λ e. cc))
-no_plan src datapath samples out old new kept (Image fault) h = absurd (no_error (Image fault) h (λ e. cc) (λ e. cc))
-no_plan src datapath samples out old new kept (Samples (sample_fault.Row line at)) h =
+    → IsRunError src datapath samples out old new status
+no_plan src datapath samples out old new Desk h = inl (inl h)
+no_plan src datapath samples out old new Done h = absurd (no_error Done h (λ e. cc) (λ e. cc))
+no_plan src datapath samples out old new (Image fault) h = absurd (no_error (Image fault) h (λ e. cc) (λ e. cc))
+no_plan src datapath samples out old new (Samples (sample_fault.Row line at)) h =
     absurd (no_error (Samples (sample_fault.Row line at)) h (λ e. cc) (λ e. cc))
-no_plan src datapath samples out old new kept (Samples sample_fault.TooLong) h =
+no_plan src datapath samples out old new (Samples sample_fault.TooLong) h =
     absurd (no_error (Samples sample_fault.TooLong) h (λ e. cc) (λ e. cc))
-no_plan src datapath samples out old new kept (Conflict conflict) h =
+no_plan src datapath samples out old new (Conflict conflict) h =
     absurd (no_error (Conflict conflict) h (λ e. cc) (λ e. cc))
-no_plan src datapath samples out old new kept error h = h
+no_plan src datapath samples out old new error h = h
 
 -- a report of the error leaves the answer of `run` as it is
 module _ (src datapath samples out : Name) (old mid new : View) (same : IsUnchanged mid new)
@@ -309,7 +288,7 @@ module _ (src datapath samples out : Name) (old mid new : View) (same : IsUnchan
   }
 
   still : (status : Status) → IsPlanError src datapath old mid status → IsPlanError src datapath old new status
-  still = error_still src datapath old mid new same later before
+  still = error_still IsRefusal IsRefused src datapath old mid new same later before
 
   not_run_still : IsNotRun src datapath samples old mid Desk → IsNotRun src datapath samples old new Desk
   not_run_still h = ⊎_elim (λ early. inl (still Desk early)) (λ unread. inr (unread_still unread)) h
@@ -327,34 +306,28 @@ module _ (src datapath samples out : Name) (old mid new : View) (same : IsUnchan
         (λ rows conflict. ⊥) fault h.ended;
   }
 
-  pub run_uses_still : RunUsesOnly src datapath samples out old mid → RunUsesOnly src datapath samples out old new
-  run_uses_still h = record {
-    files = specified_still old mid new same (ChangesOnly out) h.files;
-    printed = same.printed ∙ h.printed;
-    reads = λ s not_src not_datapath not_samples is.
-        h.reads s not_src not_datapath not_samples (ap (λ (f : Name → Bool). f s) (sym same.reads) ∙ is);
-    writes = λ s ne is. h.writes s ne (ap (λ (f : Name → Bool). f s) (sym same.writes) ∙ is);
-  }
-
-  pub run_reported : (kept : Kept) (status : Status)
-      → IsRunAnswer src datapath samples out old mid kept status
-      → IsRunAnswer src datapath samples out old new kept status
-  run_reported kept Done h = record {
+  pub executed_still : (machine : Snapshot)
+      → IsExecuted src datapath samples out machine old mid
+      → IsExecuted src datapath samples out machine old new
+  executed_still machine h = record {
     solved = eval_done_still src samples out old mid new same later before h.solved;
     path = h.path;
     plan = h.plan;
     planned = h.planned;
     image = h.image;
     image_of = h.image_of;
-    machine = h.machine;
     ran = h.ran;
-    kept_is = h.kept_is;
   }
-  run_reported kept Desk h =
+
+  pub run_reported : (status : Status)
+      → IsRunError src datapath samples out old mid status
+      → IsRunError src datapath samples out old new status
+  run_reported Desk h =
       ⊎_elim (λ early. inl (not_run_still early)) (λ late. inr (stopped_still stream.Desk late)) h
-  run_reported kept (Samples (sample_fault.Row line at)) h =
+  run_reported (Samples (sample_fault.Row line at)) h =
       stopped_still (stream.Row (record { line = line; at = at })) h
-  run_reported kept (Samples sample_fault.TooLong) h = stopped_still stream.TooLong h
-  run_reported kept (Image fault) h = h
-  run_reported kept (Conflict conflict) h = h
-  run_reported kept error h = still error h
+  run_reported (Samples sample_fault.TooLong) h = stopped_still stream.TooLong h
+  run_reported Done h = h
+  run_reported (Image fault) h = h
+  run_reported (Conflict conflict) h = h
+  run_reported error h = still error h

@@ -1,15 +1,14 @@
 -- What `run SRC DP SAMPLES OUT` compiles and runs, when each of its statuses comes, and what it leaves.
-use Rattle.std.specs.Prelude.{◌≡◌, ◌≢◌, ◌⊎◌, Bool, true}
+use Rattle.std.specs.Prelude.{◌⊎◌}
 use Rattle.datapath.specs.declared.types.Datapath.{Datapath}
 use Rattle.cycle_sim.specs.Machine.{Snapshot}
 use Rattle.desk_core.specs.View.{Name, Files, View}
-use Rattle.desk_core.specs.Desk.{IfSpecified, WhereSpecified, NoOtherBegins, content_of}
+use Rattle.desk_core.specs.Desk.{WhereSpecified, content_of}
 use Rattle.desk_core.specs.Whole.{IsUnchangedButInput}
 use Rattle.micro_image.specs.declared.image.Image.{Image}
 use Rattle.plan_core.specs.declared.plan.Plan.{Plan}
 use Rattle.plan_soundness.specs.ImageOf.{IsImageOf}
 use Rattle.silage_syntax.specs.Tree.{Program}
-use Rattle.silc_files.specs.Endings.{ChangesOnly}
 use Rattle.silc_files.specs.Limits.{text_limit}
 use Rattle.sample_loops.specs.declared.stream.StreamFault.{StreamFault}
 use Rattle.sample_loops.specs.declared.stream.StreamFault.TheVariants as stream
@@ -18,8 +17,6 @@ use Rattle.plan_commands.specs.Plans.{IsPlannedOver}
 use Rattle.plan_commands.specs.Refusals.{IsPlanError}
 use Rattle.sample_commands.specs.Samples.{AreUnopened, IsEndedEarly}
 use Rattle.sample_commands.specs.Sim.{HasRun}
-use Rattle.sample_commands.specs.declared.simulator.Kept.{Kept}
-use Rattle.sample_commands.specs.declared.simulator.Kept.TheVariants.{One}
 use Rattle.statuses.specs.declared.status.SampleFault.TheVariants as sample_fault
 use Rattle.statuses.specs.declared.status.Status.{Status}
 use Rattle.statuses.specs.declared.status.Status.TheVariants as status
@@ -58,41 +55,26 @@ pub record IsRunStopped (src datapath samples out : Name) (old new : View) (faul
       IsEndedEarly samples out (program_channels program) (IsSolutionRows program) (λ rows conflict. ⊥) old new fault
 
 -- OUT has what `eval` writes, the output rows of the one solution of SRC's program over the stream of SAMPLES. The
--- image of the program's plan over DP's datapath ran this stream to its end and put these rows, and the machine that
--- ran it is kept.
-pub record IsRunDone (src datapath samples out : Name) (old new : View) (kept : Kept) : Type 0 where
+-- image of the program's plan over DP's datapath ran this stream to its end and put these rows; the machine is the one
+-- that ran it.
+pub record IsExecuted (src datapath samples out : Name) (machine : Snapshot) (old new : View) : Type 0 where
   pub solved : IsEvalDone src samples out old new
   pub path : Datapath
   pub plan : Plan
   pub planned : WhereSpecified old (HasPlanIn src datapath solved.program path plan)
   pub image : Image
   pub image_of : IsImageOf path plan image
-  pub machine : Snapshot
   pub ran : HasRun image solved.stream machine solved.text
-  pub kept_is : kept ≡ One machine
 
--- When each status comes. The microcode of a plan is an image, whose run meets no conflict.
-abbrev pub IsRunAnswer : Name → Name → Name → Name → View → View → Kept → Status → Type 0
-IsRunAnswer src datapath samples out old new kept status.Done = IsRunDone src datapath samples out old new kept
-IsRunAnswer src datapath samples out old new kept status.Desk =
+-- When each status comes where `run` is not done. The microcode of a plan is an image, whose run meets no conflict.
+abbrev pub IsRunError : Name → Name → Name → Name → View → View → Status → Type 0
+IsRunError src datapath samples out old new status.Desk =
     IsNotRun src datapath samples old new status.Desk ⊎ IsRunStopped src datapath samples out old new stream.Desk
-IsRunAnswer src datapath samples out old new kept (status.Samples (sample_fault.Row line at)) =
+IsRunError src datapath samples out old new (status.Samples (sample_fault.Row line at)) =
     IsRunStopped src datapath samples out old new (stream.Row (record { line = line; at = at }))
-IsRunAnswer src datapath samples out old new kept (status.Samples sample_fault.TooLong) =
+IsRunError src datapath samples out old new (status.Samples sample_fault.TooLong) =
     IsRunStopped src datapath samples out old new stream.TooLong
-IsRunAnswer src datapath samples out old new kept (status.Image fault) = ⊥
-IsRunAnswer src datapath samples out old new kept (status.Conflict conflict) = ⊥
-IsRunAnswer src datapath samples out old new kept error = IsNotRun src datapath samples old new error
-
--- no name but these three begins to be read
-abbrev pub BeginsOnlyThree : Name → Name → Name → (Name → Bool) → (Name → Bool) → Type 0
-BeginsOnlyThree src datapath samples old new =
-    (name : Name) → name ≢ src → name ≢ datapath → name ≢ samples → new name ≡ true → old name ≡ true
-
--- No file but OUT changed, and nothing was printed. No name but the three inputs began to be read, and none but OUT to
--- be written.
-pub record RunUsesOnly (src datapath samples out : Name) (old new : View) : Type 0 where
-  pub files : IfSpecified (ChangesOnly out) old.files new.files
-  pub printed : new.printed ≡ old.printed
-  pub reads : BeginsOnlyThree src datapath samples old.reads new.reads
-  pub writes : NoOtherBegins out old.writes new.writes
+IsRunError src datapath samples out old new status.Done = ⊥
+IsRunError src datapath samples out old new (status.Image fault) = ⊥
+IsRunError src datapath samples out old new (status.Conflict conflict) = ⊥
+IsRunError src datapath samples out old new error = IsNotRun src datapath samples old new error

@@ -1,5 +1,6 @@
 -- What opening SAMPLES and creating OUT does, and what a stream then reads of the one and puts into the other.
-use Rattle.std.proofs.Common.{◌≡◌, ◌≢◌, refl, sym, ap, ◌∙◌, inl, inr, [], Some, Bool, Result, Ok, Err, OnOk, OnErr}
+use Rattle.std.proofs.Common.{◌≡◌, ◌≢◌, refl, sym, ap, subst, ◌∙◌, inl, inr, [], Some, Bool, Result, Ok, Err, OnOk}
+use Rattle.std.proofs.Common.{OnErr}
 use Rattle.std.proofs.Common.{IsErr}
 use Rattle.desk_core.specs.View.{Name, Content, View}
 use Rattle.desk_core.specs.Desk.{IfSpecified, ReadFaultsRose, WriteFaultsRose, FaultsNeverFall, IsUnchanged}
@@ -7,6 +8,8 @@ use Rattle.desk_core.specs.Desk.{IsUnchangedButOutput, IsReading, IsWriting, IsP
 use Rattle.desk_core.proofs.DeskLemmas.{rose_later, specified_from, input_stays}
 use Rattle.sample_loops.specs.Output.{HasPut}
 use Rattle.sample_loops.specs.Streams.{ChangesOutputAlone}
+use Rattle.silc_files.specs.Endings.{ChangesOnly, UsesOnly}
+use Rattle.silc_files.specs.Reading.{OnlyReads}
 use Rattle.sample_commands.specs.Streaming.{IsOpened, IsNotOpened, StreamsOnly}
 
 -- a result of each kind
@@ -81,6 +84,21 @@ module _ (samples out : Name) (old mid new : View) (reading : IsReading samples 
     reads = λ s ne t. reading.no_other s ne (writing.no_new_input s t);
     writes = λ s ne t. ap (λ (f : Name → Bool). f s) (sym reading.writes) ∙ writing.no_other s ne t;
   }
+
+-- after the inputs before, SAMPLES is one more
+pub streams_use : (Before IsInput : Name → Type 0) (samples out : Name) (old mid new : View)
+    → ((name : Name) → Before name → IsInput name)
+    → IsInput samples
+    → OnlyReads Before old mid
+    → StreamsOnly samples out mid new
+    → UsesOnly IsInput out old new
+streams_use Before IsInput samples out old mid new wider its first only = record {
+  files = specified_from (ChangesOnly out) old.files mid.files new.files first.unchanged.files only.files;
+  printed = only.printed ∙ first.unchanged.printed;
+  reads = λ s not is.
+      first.begins s (λ before. not (wider s before)) (only.reads s (λ e. not (subst IsInput (sym e) its)) is);
+  writes = λ s ne is. ap (λ (f : Name → Bool). f s) (sym first.unchanged.writes) ∙ only.writes s ne is;
+}
 
 -- what OUT has after a stream
 pub put_from : (samples out : Name) (old mid new : View) (bytes : Content)

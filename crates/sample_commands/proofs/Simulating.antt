@@ -1,40 +1,42 @@
 -- A machine before its first cycle over a stream, and how the parts of `sim` make up its answer.
 use Rattle.std.proofs.Common.{◌≡◌, refl, sym, ap, subst, ◌∙◌, arith, inl, inr, ⊎_elim, ◌+◌, ◌*◌, ◌<◌, ◌^◌, ◌%◌, []}
-use Rattle.std.proofs.Common.{length, Bool}
+use Rattle.std.proofs.Common.{List, ◌∷◌, length}
 use Rattle.std.proofs.Math.Nat.{zero-mod}
 use Rattle.std.specs.List.{range_with_len}
 use Rattle.lists.specs.Rows.{Rows}
 use Rattle.cycle_sim.specs.declared.microcode.Microcode.{Microcode}
 use Rattle.cycle_sim.specs.Machine.{Snapshot, state_of}
 use Rattle.cycle_sim.specs.Microcode.{micro_of, inputs_of, code_of}
-use Rattle.desk_core.specs.View.{Name, View}
+use Rattle.desk_core.specs.View.{Name, Content, View}
 use Rattle.desk_core.specs.Desk.{FaultsNeverFall, IsUnchanged, IsPut, content_of}
-use Rattle.desk_core.proofs.DeskLemmas.{rose_earlier, never_fall_trans, specified_from}
+use Rattle.desk_core.proofs.DeskLemmas.{rose_earlier, never_fall_trans}
 use Rattle.micro_image.specs.declared.conflict.Conflict.{Conflict as ConflictValue}
 use Rattle.micro_image.specs.Conflict.{IsClearBelow}
 use Rattle.micro_image.specs.declared.image.Image.{Image}
 use Rattle.micro_image.specs.Fields.{Microprogram, microprogram_of}
 use Rattle.micro_image.specs.Run.{State, Stands, IsRunOut, latches, spread}
+use Rattle.micro_file.proofs.FirstFault.{spelled_no_fault}
+use Rattle.micro_image.specs.Spells.{Spells}
 use Rattle.micro_image.proofs.Lists.{map-same}
 use Rattle.micro_image.proofs.Streams.{length-spread}
+use Rattle.sample_io.specs.declared.channel.Channel.{Channel}
 use Rattle.sample_io.specs.Samples.{printed}
 use Rattle.sample_loops.specs.Machines.{channels_of, IsReady, RunsRows, PutsRows, StopsInLast, IsConflictInLast}
 use Rattle.sample_loops.specs.Private.MachineLaws.{runs_clear}
+use Rattle.sample_loops.specs.Streams.{IsRunThrough}
 use Rattle.sample_loops.specs.declared.stream.StreamFault.{StreamFault}
 use Rattle.sample_loops.specs.declared.stream.StreamFault.TheVariants as stream
-use Rattle.silc_files.specs.Endings.{ChangesOnly, UsesOnly}
+use Rattle.silc_files.specs.Endings.{IsAmong}
 use Rattle.silc_files.specs.Limits.{microcode_limit, samples_limit}
 use Rattle.silc_files.specs.Reading.{OnlyReads}
 use Rattle.silc_files.proofs.Endings.{unchanged_still, specified_still, rejected_still, finished_still}
 use Rattle.sample_commands.specs.Samples.{AreSamples, IsEndedEarly}
-use Rattle.sample_commands.specs.Sim.{HasRun, IsSimUnread, IsSimStopped, IsSimAnswer, HasSomeImage}
+use Rattle.sample_commands.specs.Sim.{HasRun, IsSimUnread, IsSimStopped, IsSimulated, IsSimError, HasSomeImage}
 use Rattle.sample_commands.specs.StreamEnds.{status_of}
-use Rattle.sample_commands.specs.Loaded.{IsFresh}
+use Rattle.sample_commands.specs.Loaded.{IsFresh, IsNoMachine}
 use Rattle.sample_commands.specs.Private.Running.{IsLoaded, IsLoadError}
-use Rattle.sample_commands.specs.Streaming.{AreRunOver, IsOpened, IsNotOpened, StreamsOnly, RunsFiles}
-use Rattle.sample_commands.specs.Streaming.{IsRunOver}
-use Rattle.sample_commands.specs.declared.simulator.Kept.{Kept}
-use Rattle.sample_commands.specs.declared.simulator.Kept.TheVariants.{One}
+use Rattle.sample_commands.specs.Streaming.{AreRunOver, IsOpened, IsNotOpened, RunsFiles}
+use Rattle.sample_commands.specs.Streaming.{IsNotRunOver}
 use Rattle.statuses.specs.declared.status.SampleFault.TheVariants as sample_fault
 use Rattle.statuses.specs.declared.status.Status.{Status}
 use Rattle.statuses.specs.declared.status.Status.TheVariants.{Done, Memory, Desk}
@@ -42,6 +44,15 @@ use Rattle.statuses.specs.declared.status.Status.TheVariants.{Image as bad_image
 use Rattle.statuses.specs.declared.status.Status.TheVariants.{Samples as bad_samples, Conflict as in_conflict}
 use Rattle.sample_commands.proofs.EarlyEnds.{ended_early, run_finished, run_samples_are, run_put, opened_from}
 use Rattle.sample_commands.proofs.EarlyEnds.{unopened_from, not_created_from, unopened_still, ended_still}
+
+-- where bytes spell an image, a machine lacks nothing but memory
+pub only_memory : (content : Content) (image : Image)
+    → Spells content image
+    → (error : Status)
+    → IsNoMachine content error
+    → error ≡ Memory
+only_memory content image spells error =
+    ⊎_elim (λ m. m) (λ bad. absurd (spelled_no_fault content image bad.0 spells bad.2))
 
 -- a fresh machine, and what it is over rows
 module _ (machine : Snapshot) (fresh : IsFresh machine) where
@@ -91,28 +102,30 @@ fresh_run image machine after rows puts fresh code same ran = record {
   text_is = refl;
 }
 
--- the files were opened and the machine ran over them, and it is kept where it came to the end
-pub kept_over : (samples out : Name) (old new : View) (machine after : Snapshot) (kept : Kept) (ending : Status)
-    → AreRunOver samples out machine after old new ending
-    → (ending ≡ Done → kept ≡ One after)
-    → IsRunOver samples out machine old new kept ending
-kept_over samples out old new machine after kept ending over keeps =
-    ⊎_elim (λ not. inl not) (λ ran. inr (after, keeps, ran)) over
+-- the machine ran over the files to the end of SAMPLES, or it did not
+module _ (samples out : Name) (old new : View) (machine after : Snapshot) where
+  pub ran_over : AreRunOver samples out machine after old new Done → RunsFiles samples out machine after old new Done
+  ran_over = ⊎_elim (λ not. absurd (let e = not.0 in cc)) (λ ran. ran)
+
+  pub not_run_over : (ending : Status)
+      → (ending ≡ Done → ⊥)
+      → AreRunOver samples out machine after old new ending
+      → IsNotRunOver samples out machine old new ending
+  not_run_over ending not_done = ⊎_elim (λ not. inl not) (λ ran. inr (after, not_done, ran))
+
+-- a run that is done did not stop
+pub not_stopped : (fault : StreamFault) → Done ≡ status_of fault → ⊥
+not_stopped stream.Desk e = cc
+not_stopped (stream.Row fault) e = cc
+not_stopped stream.TooLong e = cc
+not_stopped (stream.Conflict conflict) e = cc
 
 -- the machine was loaded, and then it ran over the files
-module _ (mic samples out : Name) (old mid new : View) (machine : Snapshot) (first : OnlyReads mic mic old mid)
-    (loaded : IsLoaded mic old mid machine) where
-  pub sim_uses : StreamsOnly samples out mid new → UsesOnly mic samples out old new
-  sim_uses only = record {
-    files = specified_from (ChangesOnly out) old.files mid.files new.files first.unchanged.files only.files;
-    printed = only.printed ∙ first.unchanged.printed;
-    reads = λ s not_mic not_samples is. first.begins s not_mic not_mic (only.reads s not_samples is);
-    writes = λ s ne is. ap (λ (f : Name → Bool). f s) (sym first.unchanged.writes) ∙ only.writes s ne is;
-  }
-
+module _ (mic samples out : Name) (old mid new : View) (machine : Snapshot)
+    (first : OnlyReads (IsAmong (mic ∷ [])) old mid) (loaded : IsLoaded mic old mid machine) where
   -- SAMPLES or OUT could not be opened
-  sim_not_opened : (kept : Kept) → IsNotOpened samples out mid new → IsSimAnswer mic samples out old new kept Desk
-  sim_not_opened kept = ⊎_elim
+  sim_not_opened : IsNotOpened samples out mid new → IsSimError mic samples out old new Desk
+  sim_not_opened = ⊎_elim
       (λ unread. inl (record {
         unchanged = unchanged_still old mid new unread.0 first.unchanged;
         rose =
@@ -125,8 +138,7 @@ module _ (mic samples out : Name) (old mid new : View) (machine : Snapshot) (fir
         ended = inl (not_created_from samples out old mid new first.unchanged.files first.never_fall not);
       }))
 
-  module _ (kept : Kept) (after : Snapshot) (ending : Status)
-      (ran : RunsFiles samples out machine after mid new ending) where
+  module _ (after : Snapshot) (ending : Status) (ran : RunsFiles samples out machine after mid new ending) where
     fall : FaultsNeverFall old ran.mid
     fall = never_fall_trans old mid ran.mid first.never_fall ran.never_fall
 
@@ -136,44 +148,47 @@ module _ (mic samples out : Name) (old mid new : View) (machine : Snapshot) (fir
     sim_stopped : (fault : StreamFault)
         → IsEndedEarly samples out (channels_of loaded.image.inputs) (IsRunOut (microprogram_of loaded.image))
         (IsConflictInLast (microprogram_of loaded.image) []) old new fault
-        → IsSimAnswer mic samples out old new kept (status_of fault)
+        → IsSimError mic samples out old new (status_of fault)
     sim_stopped stream.Desk h = inr (record { image = loaded.image; specified = loaded.specified; ended = h })
     sim_stopped (stream.Row fault) h = record { image = loaded.image; specified = loaded.specified; ended = h }
     sim_stopped stream.TooLong h = record { image = loaded.image; specified = loaded.specified; ended = h }
     sim_stopped (stream.Conflict conflict) h = record { image = loaded.image; specified = loaded.specified; ended = h }
 
-    sim_ran : (ending ≡ Done → kept ≡ One after) → IsSimAnswer mic samples out old new kept ending
-    sim_ran keeps =
-        let image = loaded.image in
+    its_channels : List Channel
+    its_channels = channels_of (inputs_of machine.code)
+
+    sim_through :
+        IsRunThrough (samples_limit + 1) its_channels
+        (λ rows puts. RunsRows (micro_of machine.code) (state_of machine) rows puts (state_of after)) ran.mid new
+        → IsSimulated mic samples out after old new
+    sim_through h = record {
+      finished = run_finished samples out old ran.mid new fall opened ran.only its_channels _ h;
+      image = loaded.image;
+      stream = h.run.rows;
+      text = printed h.run.put.puts;
+      ran =
+          fresh_run loaded.image machine after h.run.rows h.run.put.puts loaded.fresh loaded.code ran.code
+          h.run.put.given;
+      specified = λ files is. record {
+        microcode = loaded.specified files is;
+        samples_are =
+            subst (λ (code : Microcode).
+            AreSamples (channels_of (inputs_of code)) (content_of (files samples)) h.run.rows)
+            loaded.code
+            (run_samples_are samples out old ran.mid new fall opened ran.only its_channels _ h files is);
+      };
+      put = run_put samples out old ran.mid new fall opened ran.only its_channels _ h;
+    }
+
+    sim_ended : (ending ≡ Done → ⊥) → IsSimError mic samples out old new ending
+    sim_ended not_done =
         let fresh = loaded.fresh in
         let micro = micro_of machine.code in
         let channels = channels_of (inputs_of machine.code) in
         ⊎_elim
-        (λ done.
-        subst (IsSimAnswer mic samples out old new kept) (sym done.0) (
-          after,
-          keeps done.0,
-          record {
-            finished = run_finished samples out old ran.mid new fall opened ran.only channels _ done.1;
-            image = image;
-            stream = done.1.run.rows;
-            text = printed done.1.run.put.puts;
-            ran =
-                fresh_run image machine after done.1.run.rows done.1.run.put.puts fresh loaded.code ran.code
-                done.1.run.put.given;
-            specified = λ files is. record {
-              microcode = loaded.specified files is;
-              samples_are =
-                  subst (λ (code : Microcode).
-                  AreSamples (channels_of (inputs_of code)) (content_of (files samples)) done.1.run.rows)
-                  loaded.code
-                  (run_samples_are samples out old ran.mid new fall opened ran.only channels _ done.1 files is);
-            };
-            put = run_put samples out old ran.mid new fall opened ran.only channels _ done.1;
-          },
-        ))
+        (λ done. absurd (not_done done.0))
         (λ stopped.
-        subst (IsSimAnswer mic samples out old new kept) (sym stopped.1)
+        subst (IsSimError mic samples out old new) (sym stopped.1)
         (sim_stopped stopped.0
         (subst (λ (code : Microcode).
         IsEndedEarly samples out (channels_of (inputs_of code)) (IsRunOut (micro_of code))
@@ -187,20 +202,26 @@ module _ (mic samples out : Name) (old mid new : View) (machine : Snapshot) (fir
         (λ rows conflict is. fresh_meets machine fresh (state_of after) rows conflict) stopped.0 stopped.2))))
         ran.ends
 
-  pub sim_answer : (kept : Kept) (ending : Status)
-      → IsRunOver samples out machine mid new kept ending
-      → IsSimAnswer mic samples out old new kept ending
-  sim_answer kept ending = ⊎_elim
-      (λ desk. subst (IsSimAnswer mic samples out old new kept) (sym desk.0) (sim_not_opened kept desk.1))
-      (λ ran. sim_ran kept ran.0 ending ran.2 ran.1)
+  pub sim_done : (after : Snapshot)
+      → RunsFiles samples out machine after mid new Done
+      → IsSimulated mic samples out after old new
+  sim_done after ran =
+      ⊎_elim (λ done. sim_through after Done ran done.1) (λ stopped. absurd (not_stopped stopped.0 stopped.1)) ran.ends
+
+  pub sim_error : (ending : Status)
+      → IsNotRunOver samples out machine mid new ending
+      → IsSimError mic samples out old new ending
+  sim_error ending = ⊎_elim
+      (λ desk. subst (IsSimError mic samples out old new) (sym desk.0) (sim_not_opened desk.1))
+      (λ ran. sim_ended ran.0 ending ran.2 ran.1)
 
 -- why no machine was made of MIC is why `sim` ends
-pub sim_unloaded : (mic samples out : Name) (old new : View) (kept : Kept) (status : Status)
-    → OnlyReads mic mic old new
+pub sim_unloaded : (mic samples out : Name) (old new : View) (status : Status)
+    → OnlyReads (IsAmong (mic ∷ [])) old new
     → IsLoadError mic old new status
-    → IsSimAnswer mic samples out old new kept status
-sim_unloaded mic samples out old new kept status reads =
-    let answer : Status → Type 0 = IsSimAnswer mic samples out old new kept in
+    → IsSimError mic samples out old new status
+sim_unloaded mic samples out old new status reads =
+    let answer : Status → Type 0 = IsSimError mic samples out old new in
     ⊎_elim (λ m. subst answer (sym m) reads.unchanged)
     (⊎_elim (λ d. subst answer (sym d.0) (inl (record { unchanged = reads.unchanged; rose = inl d.1 })))
     (λ l. subst answer (sym l.1) (l.2, record { unchanged = reads.unchanged; read = l.3.read; why = l.3.why })))
@@ -228,28 +249,28 @@ module _ (mic samples out : Name) (old mid new : View) (same : IsUnchanged mid n
         (IsConflictInLast (microprogram_of h.image) []) fault h.ended;
   }
 
-  pub sim_reported : (kept : Kept) (status : Status)
-      → IsSimAnswer mic samples out old mid kept status
-      → IsSimAnswer mic samples out old new kept status
-  sim_reported kept Done h = (
-    h.0,
-    h.1,
-    record {
-      finished = finished_still old mid new same samples samples_limit h.2.finished;
-      image = h.2.image;
-      stream = h.2.stream;
-      text = h.2.text;
-      ran = h.2.ran;
-      specified = h.2.specified;
-      put = specified_still old mid new same (IsPut out h.2.text) h.2.put;
-    },
-  )
-  sim_reported kept Memory h = unchanged_still old mid new same h
-  sim_reported kept Desk h =
+  pub simulated_still : (machine : Snapshot)
+      → IsSimulated mic samples out machine old mid
+      → IsSimulated mic samples out machine old new
+  simulated_still machine h = record {
+    finished = finished_still old mid new same samples samples_limit h.finished;
+    image = h.image;
+    stream = h.stream;
+    text = h.text;
+    ran = h.ran;
+    specified = h.specified;
+    put = specified_still old mid new same (IsPut out h.text) h.put;
+  }
+
+  pub sim_reported : (status : Status)
+      → IsSimError mic samples out old mid status
+      → IsSimError mic samples out old new status
+  sim_reported Memory h = unchanged_still old mid new same h
+  sim_reported Desk h =
       ⊎_elim (λ early. inl (sim_unread_still early)) (λ late. inr (sim_stopped_still stream.Desk late)) h
-  sim_reported kept (bad_image fault) h = (h.0, rejected_still old mid new same mic microcode_limit _ h.1)
-  sim_reported kept (bad_samples (sample_fault.Row line at)) h =
+  sim_reported (bad_image fault) h = (h.0, rejected_still old mid new same mic microcode_limit _ h.1)
+  sim_reported (bad_samples (sample_fault.Row line at)) h =
       sim_stopped_still (stream.Row (record { line = line; at = at })) h
-  sim_reported kept (bad_samples sample_fault.TooLong) h = sim_stopped_still stream.TooLong h
-  sim_reported kept (in_conflict conflict) h = sim_stopped_still (stream.Conflict conflict) h
-  sim_reported kept other h = h
+  sim_reported (bad_samples sample_fault.TooLong) h = sim_stopped_still stream.TooLong h
+  sim_reported (in_conflict conflict) h = sim_stopped_still (stream.Conflict conflict) h
+  sim_reported other h = h

@@ -1,10 +1,10 @@
 -- How the parts of `eval` make up its answer.
-use Rattle.std.proofs.Common.{◌≡◌, refl, sym, ap, subst, ◌∙◌, inl, inr, ⊎_elim, ◌+◌, [], map, Bool, length}
+use Rattle.std.proofs.Common.{◌≡◌, refl, sym, ap, subst, ◌∙◌, inl, inr, ⊎_elim, ◌+◌, [], ◌∷◌, map, length}
 use Rattle.lists.specs.Rows.{Rows}
 use Rattle.desk_core.specs.View.{Name, Content, View}
 use Rattle.desk_core.specs.Desk.{WhereSpecified, IsPut, FaultsNeverFall, IsUnchanged, content_of}
 use Rattle.desk_core.specs.Whole.{IsReadThrough}
-use Rattle.desk_core.proofs.DeskLemmas.{rose_earlier, never_fall_trans, specified_from}
+use Rattle.desk_core.proofs.DeskLemmas.{rose_earlier, never_fall_trans}
 use Rattle.equation_eval.specs.Evaluation.{Evaluation}
 use Rattle.source_faults.specs.Faults.{HasProgram}
 use Rattle.source_faults.specs.declared.fault.FrontFault.TheVariants as front
@@ -26,7 +26,7 @@ use Rattle.silage_syntax.specs.Tree.{Program}
 use Rattle.silage_meaning.specs.Solves as program
 use Rattle.silc_files.specs.declared.files.Input.{Input}
 use Rattle.silc_files.specs.declared.files.Input.TheVariants.{Whole, TooLong}
-use Rattle.silc_files.specs.Endings.{ChangesOnly, UsesOnly}
+use Rattle.silc_files.specs.Endings.{IsAmong}
 use Rattle.silc_files.specs.Limits.{text_limit, samples_limit}
 use Rattle.silc_files.specs.Reading.{OnlyReads, IsInput}
 use Rattle.silc_files.proofs.Endings.{unchanged_still, specified_still, rejected_still, finished_still}
@@ -38,7 +38,7 @@ use Rattle.sample_commands.specs.Samples.{AreSamples, IsEndedEarly}
 use Rattle.sample_commands.specs.StreamEnds.{status_of}
 use Rattle.sample_commands.specs.Private.Evaluating.{IsSourceRead, IsSourceError, IsEvaluatorOf, EvaluatesFiles}
 use Rattle.sample_commands.specs.Private.Evaluating.{IsEvalOver}
-use Rattle.sample_commands.specs.Streaming.{IsOpened, IsNotOpened, StreamsOnly}
+use Rattle.sample_commands.specs.Streaming.{IsOpened, IsNotOpened}
 use Rattle.sample_commands.proofs.EarlyEnds.{ended_early, run_finished, run_samples_are, run_stream_is, run_put}
 use Rattle.sample_commands.proofs.EarlyEnds.{opened_from, unopened_from, not_created_from, unopened_still, ended_still}
 use Rattle.statuses.specs.declared.status.SampleFault.TheVariants as sample_fault
@@ -111,16 +111,8 @@ fresh_solves e fresh rows puts h =
     subst (λ (ran : Rows). SolvesRows (record { graph = e.graph; ran = ran }) rows puts) fresh h
 
 -- the evaluator was made, and then it was run over the files
-module _ (src samples out : Name) (old mid new : View) (evaluator : Evaluation) (first : OnlyReads src src old mid)
-    (is : IsEvaluatorOf src old mid evaluator) where
-  pub eval_uses : StreamsOnly samples out mid new → UsesOnly src samples out old new
-  eval_uses only = record {
-    files = specified_from (ChangesOnly out) old.files mid.files new.files first.unchanged.files only.files;
-    printed = only.printed ∙ first.unchanged.printed;
-    reads = λ s not_src not_samples t. first.begins s not_src not_src (only.reads s not_samples t);
-    writes = λ s ne t. ap (λ (f : Name → Bool). f s) (sym first.unchanged.writes) ∙ only.writes s ne t;
-  }
-
+module _ (src samples out : Name) (old mid new : View) (evaluator : Evaluation)
+    (first : OnlyReads (IsAmong (src ∷ [])) old mid) (is : IsEvaluatorOf src old mid evaluator) where
   its_channels : graph_channels evaluator.graph ≡ program_channels is.program
   its_channels = ap (map type_channel) is.source.graph.keeps.inputs
 
@@ -227,7 +219,7 @@ module _ (src samples out : Name) (old mid new : View) (evaluator : Evaluation) 
 
 -- why SRC has no program is why `eval` ends
 pub source_error : (src samples out : Name) (old new : View)
-    → OnlyReads src src old new
+    → OnlyReads (IsAmong (src ∷ [])) old new
     → (status : Status)
     → IsSourceError src old new status
     → IsEvalAnswer src samples out old new status

@@ -19,8 +19,6 @@ use Rattle.sample_loops.specs.declared.stream.StreamFault.TheVariants as stream
 use Rattle.silc_files.specs.Endings.{IsRejected, IsFinished}
 use Rattle.silc_files.specs.Limits.{microcode_limit, samples_limit}
 use Rattle.sample_commands.specs.Samples.{AreSamples, AreUnopened, IsEndedEarly}
-use Rattle.sample_commands.specs.declared.simulator.Kept.{Kept}
-use Rattle.sample_commands.specs.declared.simulator.Kept.TheVariants.{One}
 use Rattle.statuses.specs.declared.status.ImageFault.{ImageFault}
 use Rattle.statuses.specs.declared.status.ImageFault.TheVariants as image_fault
 use Rattle.statuses.specs.declared.status.SampleFault.TheVariants as sample_fault
@@ -92,24 +90,18 @@ pub record IsSimulated (mic samples out : Name) (machine : Snapshot) (old new : 
   pub specified : WhereSpecified old (HasStream mic samples image stream)
   pub put : IfSpecified (IsPut out text) old.files new.files
 
--- `sim` is done: it wrote the rows of the run, and keeps the machine that ran
-abbrev pub IsSimDone : Name → Name → Name → View → View → Kept → Type 0
-IsSimDone mic samples out old new kept =
-    (machine : Snapshot) × (kept ≡ One machine) × IsSimulated mic samples out machine old new
-
--- When each status comes. MIC is read through and judged before SAMPLES is opened and OUT created, and all memory is
--- taken before.
-abbrev pub IsSimAnswer : Name → Name → Name → View → View → Kept → Status → Type 0
-IsSimAnswer mic samples out old new kept status.Done = IsSimDone mic samples out old new kept
-IsSimAnswer mic samples out old new kept status.Memory = IsUnchangedButInput old new
-IsSimAnswer mic samples out old new kept status.Desk =
+-- When each status comes where `sim` is not done. MIC is read through and judged before SAMPLES is opened and OUT
+-- created, and all memory is taken before.
+abbrev pub IsSimError : Name → Name → Name → View → View → Status → Type 0
+IsSimError mic samples out old new status.Memory = IsUnchangedButInput old new
+IsSimError mic samples out old new status.Desk =
     IsSimUnread mic samples old new ⊎ IsSimStopped mic samples out old new stream.Desk
-IsSimAnswer mic samples out old new kept (status.Image fault) =
+IsSimError mic samples out old new (status.Image fault) =
     IsOfMicrocode fault × IsRejected mic microcode_limit (HasImageFault mic fault) old new
-IsSimAnswer mic samples out old new kept (status.Samples (sample_fault.Row line at)) =
+IsSimError mic samples out old new (status.Samples (sample_fault.Row line at)) =
     IsSimStopped mic samples out old new (stream.Row (record { line = line; at = at }))
-IsSimAnswer mic samples out old new kept (status.Samples sample_fault.TooLong) =
+IsSimError mic samples out old new (status.Samples sample_fault.TooLong) =
     IsSimStopped mic samples out old new stream.TooLong
-IsSimAnswer mic samples out old new kept (status.Conflict conflict) =
+IsSimError mic samples out old new (status.Conflict conflict) =
     IsSimStopped mic samples out old new (stream.Conflict conflict)
-IsSimAnswer mic samples out old new kept _ = ⊥
+IsSimError mic samples out old new _ = ⊥

@@ -1,5 +1,5 @@
 -- SAMPLES run as a stream: what opening the files does, and what a run of a machine over them comes to.
-use Rattle.std.specs.Prelude.{◌≡◌, ◌⊎◌, ◌+◌, [], Some, true}
+use Rattle.std.specs.Prelude.{◌≡◌, ◌≢◌, ◌⊎◌, ◌+◌, [], Some, true}
 use Rattle.cycle_sim.specs.Machine.{Snapshot, state_of}
 use Rattle.cycle_sim.specs.Microcode.{micro_of, inputs_of}
 use Rattle.desk_core.specs.View.{Name, View}
@@ -11,8 +11,6 @@ use Rattle.silc_files.specs.Endings.{ChangesOnly}
 use Rattle.silc_files.specs.Limits.{samples_limit}
 use Rattle.sample_commands.specs.Samples.{IsNotCreated}
 use Rattle.sample_commands.specs.StreamEnds.{EndsStream}
-use Rattle.sample_commands.specs.declared.simulator.Kept.{Kept}
-use Rattle.sample_commands.specs.declared.simulator.Kept.TheVariants.{One}
 use Rattle.statuses.specs.declared.status.Status.{Status}
 use Rattle.statuses.specs.declared.status.Status.TheVariants.{Done, Desk}
 
@@ -56,8 +54,8 @@ abbrev pub AreRunOver : Name → Name → Snapshot → Snapshot → View → Vie
 AreRunOver samples out machine after old new ending =
     ((ending ≡ Desk) × IsNotOpened samples out old new) ⊎ RunsFiles samples out machine after old new ending
 
--- the files could not be opened; or the stream was run, and the machine is kept where it came to its end
-abbrev pub IsRunOver : Name → Name → Snapshot → View → View → Kept → Status → Type 0
-IsRunOver samples out machine old new kept ending =
+-- why the machine did not run to the end: the files could not be opened, or the run stopped before
+abbrev pub IsNotRunOver : Name → Name → Snapshot → View → View → Status → Type 0
+IsNotRunOver samples out machine old new ending =
     ((ending ≡ Desk) × IsNotOpened samples out old new)
-    ⊎ ((after : Snapshot) × (ending ≡ Done → kept ≡ One after) × RunsFiles samples out machine after old new ending)
+    ⊎ ((after : Snapshot) × (ending ≢ Done) × RunsFiles samples out machine after old new ending)

@@ -1,5 +1,5 @@
 //! `eval SRC SAMPLES OUT`: from the bytes of a source and samples to the output rows of the source's one solution.
-ghost use Rattle.std.specs.Prelude.{◌≡◌, ◌≢◌, ◌≤◌, ◌^◌, [], map, IfOk, IfErr};
+ghost use Rattle.std.specs.Prelude.{◌≡◌, ◌≢◌, ◌≤◌, ◌^◌, [], ◌∷◌, map, IfOk, IfErr};
 ghost use Rattle.std.specs.List.{All};
 ghost use Rattle.desk_core.specs.Desk.{FaultsNeverFall};
 ghost use Rattle.sample_io.specs.Channels.{IsChannel};
@@ -10,7 +10,7 @@ ghost use Rattle.signal_graph.specs.GraphRules.{IsGraph};
 ghost use Rattle.signal_graph.specs.GraphSolves.{IsGraphLoopless};
 ghost use Rattle.signal_graph.specs.Rules.{IsType};
 ghost use Rattle.silage_syntax.specs.Tree.{view};
-ghost use Rattle.silc_files.specs.Endings.{UsesOnly};
+ghost use Rattle.silc_files.specs.Endings.{IsAmong, UsesOnly};
 ghost use Rattle.silc_files.specs.Reading.{OnlyReads};
 ghost use Rattle.sample_commands.specs.Eval.{IsEvalAnswer};
 ghost use Rattle.sample_commands.specs.StreamEnds.{status_of, EndsStream};
@@ -41,7 +41,7 @@ struct Ready {
 
 /// Reads SRC, and makes the graph of its program.
 fn read_source<D: Desk>(alloc: Global, desk: &mut D, name: &str) -> Result<Accepted, Ending>
-    ensures reads { OnlyReads name.now name.now (D.view desk.old) (D.view desk.new) }
+    ensures reads { OnlyReads (IsAmong (name.now ∷ [])) (D.view desk.old) (D.view desk.new) }
     ensures ok { IfOk result (λ accepted.
         IsSourceRead name.now (D.view desk.old) (D.view desk.new) (view accepted.program) accepted.graph) }
     ensures err { IfErr result (λ ending. IsSourceError name.now (D.view desk.old) (D.view desk.new) ending.status) }
@@ -93,7 +93,7 @@ fn ready_for(alloc: Global, graph: &Graph) -> Result<Ready, Status>
 
 /// Reads SRC, and takes all memory that an evaluation of its program needs.
 fn read_ready<D: Desk>(alloc: Global, desk: &mut D, source: &str) -> Result<Ready, Ending>
-    ensures reads { OnlyReads source.now source.now (D.view desk.old) (D.view desk.new) }
+    ensures reads { OnlyReads (IsAmong (source.now ∷ [])) (D.view desk.old) (D.view desk.new) }
     ensures evaluator { IfOk result (λ ready.
         IsEvaluatorOf source.now (D.view desk.old) (D.view desk.new) ready.evaluator) }
     ensures channels { IfOk result (λ ready. ready.rows.channels ≡ graph_channels ready.evaluator.graph) }
@@ -173,7 +173,8 @@ pub fn eval<D: Desk>(
     requires { output.now ≢ samples.now }
     ensures faults { FaultsNeverFall (D.view desk.old) (D.view desk.new) }
     ensures answer { IsEvalAnswer source.now samples.now output.now (D.view desk.old) (D.view desk.new) result.status }
-    ensures only { UsesOnly source.now samples.now output.now (D.view desk.old) (D.view desk.new) }
+    ensures only { UsesOnly (IsAmong (source.now ∷ samples.now ∷ [])) output.now
+        (D.view desk.old) (D.view desk.new) }
 {
     match read_ready(alloc, desk, source) {
         Ok(ready) => Ending::from(eval_ready(ready, desk, samples, output)),

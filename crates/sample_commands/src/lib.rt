@@ -9,5 +9,5 @@ mod simulator;
 mod streams;
 
 pub use evaluator::{eval, eval_samples};
-pub use simulator::{Kept, Ready, machine_of, machine_rows, run_ready, sim};
+pub use simulator::{Ready, machine_of, machine_rows, run_ready, sim};
 pub use streams::run_samples;

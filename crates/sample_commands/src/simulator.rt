@@ -1,16 +1,15 @@
 //! `sim MIC SAMPLES OUT`: from the bytes of microcode and samples to the rows that the microcode puts.
-ghost use Rattle.std.specs.Prelude.{◌≡◌, ◌≢◌, ◌<◌, ◌≤◌, ◌^◌, length, map, IfOk, IfErr};
+ghost use Rattle.std.specs.Prelude.{◌≡◌, ◌≢◌, ◌<◌, ◌≤◌, ◌^◌, [], ◌∷◌, length, map, IfOk, IfErr};
 ghost use Rattle.std.specs.List.{All};
 ghost use Rattle.cycle_sim.specs.Microcode.{inputs_of};
 ghost use Rattle.desk_core.specs.Desk.{FaultsNeverFall};
 ghost use Rattle.sample_io.specs.Channels.{IsChannel, channel_of};
-ghost use Rattle.silc_files.specs.Endings.{UsesOnly};
+ghost use Rattle.silc_files.specs.Endings.{IsAmong, UsesOnly};
 ghost use Rattle.silc_files.specs.Reading.{OnlyReads};
 ghost use Rattle.sample_commands.specs.Loaded.{IsMachineOf, IsNoMachine, IsFresh, AreFreshRows};
-ghost use Rattle.sample_commands.specs.Sim.{IsSimAnswer};
+ghost use Rattle.sample_commands.specs.Sim.{IsSimulated, IsSimError};
 ghost use Rattle.sample_commands.specs.Private.Running.{IsLoaded, IsLoadError};
-ghost use Rattle.sample_commands.specs.Streaming.{AreRunOver, StreamsOnly, IsRunOver};
-ghost use Rattle.sample_commands.specs.declared.simulator.Kept.TheVariants.{Nothing};
+ghost use Rattle.sample_commands.specs.Streaming.{AreRunOver, StreamsOnly, RunsFiles, IsNotRunOver};
 ghost use Rattle.statuses.specs.declared.status.Status.TheVariants.{Memory};
 
 use crate::streams::{SAMPLES_END, open_files, run_samples};
@@ -20,16 +19,8 @@ use lists::{Bytes, List};
 use micro_file::decode;
 use sample_io::{Channel, Rows};
 use silc_files::{MICROCODE_LIMIT, read_file};
-use statuses::{ImageFault, Status};
+use statuses::{Ending, ImageFault, Status};
 use std::alloc::{AllocError, Global};
-
-/// What a command keeps for its caller.
-#[derive(Drop)]
-pub enum Kept {
-    Nothing,
-    /// The machine after the last sample.
-    One(Machine),
-}
 
 /// A machine before its first sample, and the rows that its samples are read into.
 #[derive(Drop)]
@@ -51,7 +42,7 @@ pub fn machine_of(alloc: Global, microcode: &Bytes) -> Result<Machine, Status>
 
 /// Reads MIC, and makes the machine of its image.
 fn read_machine<D: Desk>(alloc: Global, desk: &mut D, name: &str) -> Result<Machine, Status>
-    ensures reads { OnlyReads name.now name.now (D.view desk.old) (D.view desk.new) }
+    ensures reads { OnlyReads (IsAmong (name.now ∷ [])) (D.view desk.old) (D.view desk.new) }
     ensures ok { IfOk result (IsLoaded name.now (D.view desk.old) (D.view desk.new)) }
     ensures err { IfErr result (IsLoadError name.now (D.view desk.old) (D.view desk.new)) }
 {
@@ -84,7 +75,7 @@ pub fn machine_rows(alloc: Global, machine: &Machine) -> Result<Rows, Status>
 
 /// Reads MIC, makes the machine of its image, and takes all memory that a run of it needs.
 fn read_ready<D: Desk>(alloc: Global, desk: &mut D, microcode: &str) -> Result<Ready, Status>
-    ensures reads { OnlyReads microcode.now microcode.now (D.view desk.old) (D.view desk.new) }
+    ensures reads { OnlyReads (IsAmong (microcode.now ∷ [])) (D.view desk.old) (D.view desk.new) }
     ensures machine { IfOk result (λ ready.
         IsLoaded microcode.now (D.view desk.old) (D.view desk.new) ready.machine) }
     ensures rows { IfOk result (λ ready. AreFreshRows (inputs_of ready.machine.code) ready.rows) }
@@ -116,55 +107,50 @@ fn run_files<D: Desk>(
     }
 }
 
-/// Runs the machine over SAMPLES into OUT, and keeps it where it came to the end.
+/// Runs the machine over SAMPLES into OUT, and gives it after the last sample.
 pub fn run_ready<D: Desk>(
     ready: Ready,
     desk: &mut D,
     samples: &str,
     output: &str,
-    kept: &mut Kept,
-) -> Status
-    requires empty { kept.old ≡ Nothing }
+) -> Result<Machine, Status>
     requires apart { output.now ≢ samples.now }
     requires fresh { IsFresh ready.machine }
     requires rows { AreFreshRows (inputs_of ready.machine.code) ready.rows }
     ensures faults { FaultsNeverFall (D.view desk.old) (D.view desk.new) }
     ensures only { StreamsOnly samples.now output.now (D.view desk.old) (D.view desk.new) }
-    ensures over { IsRunOver samples.now output.now ready.machine (D.view desk.old) (D.view desk.new) kept.new result }
-    ensures nothing_kept { result ≢ Status.Done → kept.new ≡ Nothing }
+    ensures ok { IfOk result (λ after.
+        RunsFiles samples.now output.now ready.machine after (D.view desk.old) (D.view desk.new) Status.Done) }
+    ensures err { IfErr result
+        (IsNotRunOver samples.now output.now ready.machine (D.view desk.old) (D.view desk.new)) }
 {
     let Ready {
         mut machine,
         mut rows,
     } = ready;
     match run_files(&mut machine, &mut rows, desk, samples, output) {
-        Status::Done => {
-            *kept = Kept::One(machine);
-            Status::Done
-        }
-        status => status,
+        Status::Done => Ok(machine),
+        status => Err(status),
     }
 }
 
-/// Carries out `sim`.
+/// Carries out `sim`, and gives the machine after the last sample.
 pub fn sim<D: Desk>(
     alloc: Global,
     desk: &mut D,
     microcode: &str,
     samples: &str,
     output: &str,
-    kept: &mut Kept,
-) -> Status
-    requires empty { kept.old ≡ Nothing }
-    requires apart { output.now ≢ samples.now }
+) -> Result<Machine, Ending>
+    requires { output.now ≢ samples.now }
     ensures faults { FaultsNeverFall (D.view desk.old) (D.view desk.new) }
-    ensures answer { IsSimAnswer microcode.now samples.now output.now (D.view desk.old) (D.view desk.new)
-        kept.new result }
-    ensures nothing_kept { result ≢ Status.Done → kept.new ≡ Nothing }
-    ensures only { UsesOnly microcode.now samples.now output.now (D.view desk.old) (D.view desk.new) }
+    ensures ok { IfOk result (λ machine.
+        IsSimulated microcode.now samples.now output.now machine (D.view desk.old) (D.view desk.new)) }
+    ensures err { IfErr result (λ ending.
+        IsSimError microcode.now samples.now output.now (D.view desk.old) (D.view desk.new) ending.status) }
+    ensures only { UsesOnly (IsAmong (microcode.now ∷ samples.now ∷ [])) output.now
+        (D.view desk.old) (D.view desk.new) }
 {
-    match read_ready(alloc, desk, microcode) {
-        Ok(ready) => run_ready(ready, desk, samples, output, kept),
-        Err(status) => status,
-    }
+    let ready = read_ready(alloc, desk, microcode)?;
+    Ok(run_ready(ready, desk, samples, output)?)
 }

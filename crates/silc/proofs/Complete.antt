@@ -9,7 +9,7 @@ use Rattle.micro_image.specs.declared.image.Image.{Image as MicroImage}
 use Rattle.plan_commands.specs.Refusals.{IsNoPlan}
 use Rattle.plan_commands.proofs.Complete.{never_refused}
 use Rattle.sample_commands.specs.Sim.{IsMicrocodeOf, IsImageFault, HasImage}
-use Rattle.sample_commands.specs.declared.simulator.Kept.{Kept}
+use Rattle.silc.specs.declared.kept.Kept.{Kept}
 use Rattle.silc.specs.Demo.{IsCascadePlannable, IsDemoAnswer}
 use Rattle.silc.specs.Listing.{IsListAnswer}
 use Rattle.statuses.specs.declared.status.ImageFault.{ImageFault}

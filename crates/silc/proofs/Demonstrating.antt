@@ -42,7 +42,7 @@ use Rattle.sample_commands.specs.Loaded.{IsFresh, IsMachineOf}
 use Rattle.demo_cascade.specs.declared.Totals.{Totals}
 use Rattle.silc_files.specs.declared.files.Input.TheVariants.{Whole}
 use Rattle.plan_commands.specs.declared.planning.Planned.{Planned}
-use Rattle.sample_commands.specs.declared.simulator.Kept.{Kept}
+use Rattle.silc.specs.declared.kept.Kept.{Kept}
 use Rattle.statuses.specs.declared.status.Status.{Status}
 use Rattle.statuses.specs.declared.status.Status.TheVariants.{Done}
 use Rattle.demo_cascade.proofs.CascadeProgram.{HasOneWordEach, one_word_each}

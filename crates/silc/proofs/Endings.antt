@@ -9,7 +9,7 @@ use Rattle.desk_core.specs.Desk.{IfSpecified}
 use Rattle.plan_commands.specs.Compile.{IsDone}
 use Rattle.plan_commands.specs.Refusals.{IsPlanError}
 use Rattle.plan_commands.proofs.Making.{headline_at}
-use Rattle.sample_commands.specs.declared.simulator.Kept.{Kept}
+use Rattle.silc.specs.declared.kept.Kept.{Kept}
 use Rattle.silc.specs.Demo.{IsDemoAnswer}
 use Rattle.silc.specs.Endings.{IsEnding}
 use Rattle.silc.specs.Listing.{IsListAnswer}

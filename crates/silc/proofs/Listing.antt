@@ -1,10 +1,11 @@
 -- How the parts of `list` make up its answer.
-use Rattle.std.proofs.Common.{◌≡◌, ap, subst, inl, inr, ⊎_elim, Bool}
+use Rattle.std.proofs.Common.{◌≡◌, ap, subst, inl, inr, ⊎_elim, [], ◌∷◌, Bool}
 use Rattle.desk_core.specs.View.{Name, Content, View}
 use Rattle.desk_core.specs.Desk.{FaultsNeverFall, IfSpecified, IsUnchanged, PrintFaultsRose}
 use Rattle.desk_core.specs.Whole.{IsReadThrough}
 use Rattle.desk_core.proofs.DeskLemmas.{rose_later, rose_earlier, specified_from}
 use Rattle.desk_core.proofs.WholeLemmas.{through_stays}
+use Rattle.silc_files.specs.Endings.{IsAmong}
 use Rattle.silc_files.specs.Limits.{microcode_limit}
 use Rattle.silc.specs.Listing.{IsListed, IsListingCutShort, IsListError, IsListAnswer}
 use Rattle.silc_files.specs.Printing.{IsPrintedMore, IsPrintedInPart, PrintsOnly}
@@ -15,11 +16,10 @@ use Rattle.sample_commands.specs.Private.Running.{IsBadMicrocode, IsLoadError}
 use Rattle.statuses.specs.declared.status.ImageFault.{ImageFault}
 use Rattle.statuses.specs.declared.status.Status.{Status}
 use Rattle.statuses.specs.declared.status.Status.TheVariants as status
-use Rattle.silc_files.proofs.Endings.{unchanged_still, through_still, rejected_still}
-use Rattle.plan_commands.proofs.Scheduling.{printed_still}
+use Rattle.silc_files.proofs.Endings.{unchanged_still, through_still, rejected_still, printed_still}
 
 -- MIC is no microcode
-module _ (mic : Name) (old new : View) (reads : OnlyReads mic mic old new) where
+module _ (mic : Name) (old new : View) (reads : OnlyReads (IsAmong (mic ∷ [])) old new) where
   rejected : (s : Status) (fault : ImageFault)
       → IsOfMicrocode fault
       → s ≡ status.Image fault
@@ -44,7 +44,7 @@ module _ (mic : Name) (old new : View) (reads : OnlyReads mic mic old new) where
       h
 
 -- the listing was made, and then printed
-module _ (mic : Name) (old mid new : View) (text : Content) (reads : OnlyReads mic mic old mid)
+module _ (mic : Name) (old mid new : View) (text : Content) (reads : OnlyReads (IsAmong (mic ∷ [])) old mid)
     (made : IsMadeListing mic old mid text) (prints : PrintsOnly mid new) where
   through : IsReadThrough mic microcode_limit old new
   through =
@@ -80,7 +80,7 @@ module _ (mic : Name) (old mid new : View) (same : IsUnchanged mid new) (later :
     read = through_still old mid new same mic microcode_limit h.read;
     image = h.image;
     specified = h.specified;
-    printed = printed_still mic mic old mid new same later before _ h.printed;
+    printed = printed_still old mid new same _ h.printed;
   }
 
   listing_cut_short_still : IsListingCutShort mic old mid → IsListingCutShort mic old new
@@ -89,7 +89,7 @@ module _ (mic : Name) (old mid new : View) (same : IsUnchanged mid new) (later :
     read = through_still old mid new same mic microcode_limit h.read;
     image = h.image;
     specified = h.specified;
-    printed = printed_still mic mic old mid new same later before _ h.printed;
+    printed = printed_still old mid new same _ h.printed;
   }
 
   list_error_still : (s : Status) → IsListError mic old mid s → IsListError mic old new s

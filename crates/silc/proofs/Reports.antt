@@ -1,17 +1,22 @@
 -- A report of an error changes nothing but counts of faults, so a command ends after it as it did before.
+use Rattle.std.proofs.Common.{[], ◌∷◌}
 use Rattle.command_words.specs.Command.{Command, compile, schedule, list, sim, eval, run, demo}
 use Rattle.desk_core.specs.View.{View}
 use Rattle.desk_core.specs.Desk.{FaultsNeverFall, IsUnchanged}
 use Rattle.plan_commands.proofs.Making.{reported}
-use Rattle.plan_commands.proofs.Scheduling.{schedule_reported, changes_still}
-use Rattle.run_command.proofs.Executing.{run_reported, run_uses_still}
-use Rattle.sample_commands.proofs.Simulating.{sim_reported}
+use Rattle.plan_commands.proofs.Scheduling.{schedule_reported}
+use Rattle.run_command.specs.Run.{IsExecuted, IsRunError}
+use Rattle.run_command.proofs.Executing.{executed_still, run_reported}
+use Rattle.sample_commands.specs.Sim.{IsSimulated, IsSimError}
+use Rattle.sample_commands.proofs.Simulating.{simulated_still, sim_reported}
 use Rattle.sample_commands.proofs.Solving.{eval_reported}
-use Rattle.sample_commands.specs.declared.simulator.Kept.{Kept}
+use Rattle.silc.specs.declared.kept.Kept.{Kept}
 use Rattle.silc.specs.Endings.{IsEnding}
 use Rattle.silc.proofs.Demonstrating.{demo_reported, prints_still}
 use Rattle.silc.proofs.Listing.{list_reported}
-use Rattle.silc_files.proofs.Endings.{uses_still}
+use Rattle.silc.proofs.Kept.{ends_still}
+use Rattle.silc_files.specs.Endings.{IsAmong}
+use Rattle.silc_files.proofs.Endings.{uses_still, changes_still}
 use Rattle.statuses.specs.declared.status.Status.{Status}
 
 module _ (old mid new : View) (same : IsUnchanged mid new) (later : FaultsNeverFall mid new)
@@ -21,32 +26,39 @@ module _ (old mid new : View) (same : IsUnchanged mid new) (later : FaultsNeverF
       → IsEnding command old new kept status
   ending_reported (compile src datapath out) h = (
     reported src datapath out old mid new same later before status h.0,
-    uses_still old mid new same src datapath out h.1,
+    uses_still old mid new same (IsAmong (src ∷ datapath ∷ [])) out h.1,
     h.2,
   )
   ending_reported (schedule src datapath) h = (
     schedule_reported src datapath old mid new same later before status h.0,
-    changes_still src datapath old mid new same later before h.1,
+    changes_still old mid new same (IsAmong (src ∷ datapath ∷ [])) h.1,
     h.2,
   )
   ending_reported (list mic) h = (
     list_reported mic old mid new same later before status h.0,
-    changes_still mic mic old mid new same later before h.1,
+    changes_still old mid new same (IsAmong (mic ∷ [])) h.1,
     h.2,
   )
   ending_reported (sim mic samples out) h = (
-    sim_reported mic samples out old mid new same later before kept status h.0,
-    uses_still old mid new same mic samples out h.1,
+    ends_still (λ machine. IsSimulated mic samples out machine old mid)
+        (λ machine. IsSimulated mic samples out machine old new) (IsSimError mic samples out old mid)
+        (IsSimError mic samples out old new) kept (simulated_still mic samples out old mid new same later before)
+        (sim_reported mic samples out old mid new same later before) status h.0,
+    uses_still old mid new same (IsAmong (mic ∷ samples ∷ [])) out h.1,
     h.2,
   )
   ending_reported (eval src samples out) h = (
     eval_reported src samples out old mid new same later before status h.0,
-    uses_still old mid new same src samples out h.1,
+    uses_still old mid new same (IsAmong (src ∷ samples ∷ [])) out h.1,
     h.2,
   )
   ending_reported (run src datapath samples out) h = (
-    run_reported src datapath samples out old mid new same later before kept status h.0,
-    run_uses_still src datapath samples out old mid new same later before h.1,
+    ends_still (λ machine. IsExecuted src datapath samples out machine old mid)
+        (λ machine. IsExecuted src datapath samples out machine old new) (IsRunError src datapath samples out old mid)
+        (IsRunError src datapath samples out old new) kept
+        (executed_still src datapath samples out old mid new same later before)
+        (run_reported src datapath samples out old mid new same later before) status h.0,
+    uses_still old mid new same (IsAmong (src ∷ datapath ∷ samples ∷ [])) out h.1,
     h.2,
   )
   ending_reported (demo sections samples) h = (

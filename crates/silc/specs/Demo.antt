@@ -17,8 +17,8 @@ use Rattle.demo_cascade.specs.Cascade.{cascade_source, cascade_datapath, cascade
 use Rattle.plan_commands.specs.Plans.{IsPlannedOver, IsPlannable}
 use Rattle.plan_commands.specs.Refusals.{IsNoPlan}
 use Rattle.silc_files.specs.Printing.{IsPrintedMore, IsPrintedInPart}
-use Rattle.sample_commands.specs.declared.simulator.Kept.{Kept}
-use Rattle.sample_commands.specs.declared.simulator.Kept.TheVariants.{One}
+use Rattle.silc.specs.declared.kept.Kept.{Kept}
+use Rattle.silc.specs.declared.kept.Kept.TheVariants.{One}
 use Rattle.statuses.specs.declared.status.Status.{Status}
 use Rattle.statuses.specs.declared.status.Status.TheVariants.{Done, Desk}
 

@@ -6,16 +6,17 @@ ghost use Rattle.command_words.specs.Named.{named};
 ghost use Rattle.desk_core.specs.View.{Name};
 ghost use Rattle.desk_core.specs.Desk.{FaultsNeverFall, IsUnchanged, IfSpecified};
 ghost use Rattle.plan_commands.specs.Compile.{IsDone};
-ghost use Rattle.sample_commands.specs.declared.simulator.Kept.TheVariants.{Nothing};
+ghost use Rattle.silc.specs.declared.kept.Kept.TheVariants.{Nothing};
 ghost use Rattle.silc.specs.Endings.{IsEnding};
 
 use crate::demo::demo;
+use crate::kept::{Kept, keep};
 use crate::list::list;
 use command_words::{Command, command_in};
 use desk_core::Desk;
 use plan_commands::{compile, schedule};
 use run_command::run;
-use sample_commands::{Kept, eval, sim};
+use sample_commands::{eval, sim};
 use statuses::{Ending, Status, report};
 use std::alloc::Global;
 
@@ -38,7 +39,7 @@ fn carry_out<D: Desk>(alloc: Global, command: &Command, desk: &mut D, kept: &mut
             microcode,
             samples,
             output,
-        } => { Ending::from(sim(alloc, desk, microcode, samples, output, kept)) }
+        } => keep(sim(alloc, desk, microcode, samples, output), kept),
         Command::Eval {
             source,
             samples,
@@ -49,7 +50,7 @@ fn carry_out<D: Desk>(alloc: Global, command: &Command, desk: &mut D, kept: &mut
             datapath,
             samples,
             output,
-        } => { run(alloc, desk, source, datapath, samples, output, kept) }
+        } => keep(run(alloc, desk, source, datapath, samples, output), kept),
         Command::Demo { sections, samples } => demo(alloc, desk, *sections, *samples, kept),
     }
 }

@@ -8,14 +8,15 @@ ghost use Rattle.plan_commands.specs.Refusals.{IsNoPlan};
 ghost use Rattle.silc.specs.Private.Demonstrating.{IsCascadePlan, IsCascadeMachine, HasOneWord, RunsCascade, HasPutWords, HasTotals};
 ghost use Rattle.silc_files.specs.Printing.{PrintsOnly};
 ghost use Rattle.sample_commands.specs.Loaded.{IsFresh};
-ghost use Rattle.sample_commands.specs.declared.simulator.Kept.TheVariants.{Nothing};
+ghost use Rattle.silc.specs.declared.kept.Kept.TheVariants.{Nothing};
 
+use crate::kept::Kept;
 use cycle_sim::Machine;
 use demo_cascade::{Totals, cascade_datapath, cascade_line, cascade_source, cascade_word};
 use desk_core::Desk;
 use lists::Bytes;
 use plan_commands::{Planned, microcode_of, planned_of};
-use sample_commands::{Kept, machine_of};
+use sample_commands::machine_of;
 use silc_files::{Input, print_whole};
 use statuses::{Ending, Status};
 use std::alloc::Global;

@@ -1,6 +1,7 @@
 //! `list MIC`: prints the image that microcode spells.
-ghost use Rattle.std.specs.Prelude.{◌≤◌, length, IfOk, IfErr};
+ghost use Rattle.std.specs.Prelude.{◌≤◌, [], ◌∷◌, length, IfOk, IfErr};
 ghost use Rattle.desk_core.specs.Desk.{FaultsNeverFall};
+ghost use Rattle.silc_files.specs.Endings.{IsAmong};
 ghost use Rattle.silc_files.specs.Limits.{microcode_limit};
 ghost use Rattle.silc.specs.Listing.{IsListAnswer};
 ghost use Rattle.silc_files.specs.Printing.{ChangesNoFile};
@@ -29,7 +30,7 @@ fn listing_of(alloc: Global, microcode: &Bytes) -> Result<Bytes, Status>
 
 /// Reads MIC, and makes the listing of its image.
 fn make<D: Desk>(alloc: Global, desk: &mut D, name: &str) -> Result<Bytes, Status>
-    ensures reads { OnlyReads name.now name.now (D.view desk.old) (D.view desk.new) }
+    ensures reads { OnlyReads (IsAmong (name.now ∷ [])) (D.view desk.old) (D.view desk.new) }
     ensures ok { IfOk result (IsMadeListing name.now (D.view desk.old) (D.view desk.new)) }
     ensures err { IfErr result (IsLoadError name.now (D.view desk.old) (D.view desk.new)) }
 {
@@ -42,7 +43,7 @@ fn make<D: Desk>(alloc: Global, desk: &mut D, name: &str) -> Result<Bytes, Statu
 pub fn list<D: Desk>(alloc: Global, desk: &mut D, microcode: &str) -> Status
     ensures faults { FaultsNeverFall (D.view desk.old) (D.view desk.new) }
     ensures answer { IsListAnswer microcode.now (D.view desk.old) (D.view desk.new) result }
-    ensures only { ChangesNoFile microcode.now microcode.now (D.view desk.old) (D.view desk.new) }
+    ensures only { ChangesNoFile (IsAmong (microcode.now ∷ [])) (D.view desk.old) (D.view desk.new) }
 {
     match make(alloc, desk, microcode) {
         Ok(text) => match print_whole(desk, &text) {

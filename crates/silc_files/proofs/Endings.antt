@@ -1,12 +1,22 @@
 -- What reading and writing whole files does to a desk over a command, and that reporting an error changes none of it.
-use Rattle.std.proofs.Common.{◌≡◌, ◌≢◌, sym, ◌∙◌, ap, ℕ, Bool}
+use Rattle.std.proofs.Common.{◌≡◌, ◌≢◌, refl, sym, ◌∙◌, ap, inl, inr, ⊎_elim, ℕ, List, [], ◌∷◌, ◌++◌, Bool}
 use Rattle.desk_core.specs.View.{Name, Content, Files, View}
 use Rattle.desk_core.specs.Desk.{WriteFaultsRose, FaultsNeverFall, IsUnchanged, IfSpecified}
 use Rattle.desk_core.specs.Whole.{IsUnchangedButInput, IsReadThrough, IsWrittenWhole, IsWrittenInPart, IsPutInPart}
 use Rattle.desk_core.proofs.DeskLemmas.{rose_later, rose_earlier, never_fall_trans, specified_from}
 use Rattle.desk_core.proofs.WholeLemmas.{through_stays, through_beside}
-use Rattle.silc_files.specs.Endings.{IsRejected, IsNotWritten, IsFinished, ChangesOnly, UsesOnly}
+use Rattle.silc_files.specs.Endings.{IsRejected, IsNotWritten, IsFinished, IsAmong, ChangesOnly, UsesOnly}
+use Rattle.silc_files.specs.Printing.{ChangesNoFile}
 use Rattle.silc_files.specs.Reading.{OnlyReads}
+
+-- a name among some is among more
+pub among_first : (names more : List Name) (name : Name) → IsAmong names name → IsAmong (names ++ more) name
+among_first [] more name h = absurd h
+among_first (one ∷ names) more name h = ⊎_elim (λ e. inl e) (λ rest. inr (among_first names more name rest)) h
+
+pub among_more : (names more : List Name) (name : Name) → IsAmong more name → IsAmong (names ++ more) name
+among_more [] more name h = h
+among_more (one ∷ names) more name h = inr (among_more names more name h)
 
 pub unchanged_trans : (old mid new : View)
     → IsUnchangedButInput old mid
@@ -20,16 +30,49 @@ unchanged_trans old mid new h k =
       writes = k.writes ∙ h.writes;
     }
 
--- one input is read after the other
-pub reads_both : (first second : Name) (old mid new : View)
-    → OnlyReads first first old mid
-    → OnlyReads second second mid new
-    → OnlyReads first second old new
-reads_both first second old mid new h k = record {
+-- one part of the inputs is read after the other
+pub reads_both : (First Second IsInput : Name → Type 0) (old mid new : View)
+    → ((name : Name) → First name → IsInput name)
+    → ((name : Name) → Second name → IsInput name)
+    → OnlyReads First old mid
+    → OnlyReads Second mid new
+    → OnlyReads IsInput old new
+reads_both First Second IsInput old mid new first second h k = record {
   never_fall = never_fall_trans old mid new h.never_fall k.never_fall;
   unchanged = unchanged_trans old mid new h.unchanged k.unchanged;
-  begins = λ s not_first not_second is. h.begins s not_first not_first (k.begins s not_second not_second is);
+  begins = λ s not is. h.begins s (λ of. not (first s of)) (k.begins s (λ of. not (second s of)) is);
 }
+
+-- what reads some of the inputs reads no others
+pub reads_wider : (First IsInput : Name → Type 0) (old new : View)
+    → ((name : Name) → First name → IsInput name)
+    → OnlyReads First old new
+    → OnlyReads IsInput old new
+reads_wider First IsInput old new wider h = record {
+  never_fall = h.never_fall;
+  unchanged = h.unchanged;
+  begins = λ s not is. h.begins s (λ of. not (wider s of)) is;
+}
+
+-- and it changes nothing that a command leaves alone
+pub uses_none : (IsInput : Name → Type 0) (out : Name) (old new : View)
+    → OnlyReads IsInput old new
+    → UsesOnly IsInput out old new
+uses_none IsInput out old new h = record {
+  files = λ after is. (after, sym h.unchanged.files ∙ is, λ s ne. refl);
+  printed = h.unchanged.printed;
+  reads = h.begins;
+  writes = λ s ne is. ap (λ (f : Name → Bool). f s) (sym h.unchanged.writes) ∙ is;
+}
+
+-- the inputs are read, and then those of another list
+pub reads_more : (names more : List Name) (old mid new : View)
+    → OnlyReads (IsAmong names) old mid
+    → OnlyReads (IsAmong more) mid new
+    → OnlyReads (IsAmong (names ++ more)) old new
+reads_more names more old mid new =
+    reads_both (IsAmong names) (IsAmong more) (IsAmong (names ++ more)) old mid new (among_first names more)
+    (among_more names more)
 
 -- OUT was written after the last input was read through
 pub finished : (last out : Name) (limit : ℕ) (bytes : Content) (old mid new : View)
@@ -104,11 +147,23 @@ module _ (old mid new : View) (same : IsUnchanged mid new) where
     files = specified_still (IsPutInPart out bytes) h.files;
   }
 
-  pub uses_still : (first second out : Name) → UsesOnly first second out old mid → UsesOnly first second out old new
-  uses_still first second out h = record {
+  pub printed_still : (R : Content → Content → Type 0)
+      → IfSpecified R old.printed mid.printed
+      → IfSpecified R old.printed new.printed
+  printed_still R h = λ after is. h after (sym same.printed ∙ is)
+
+  pub changes_still : (IsInput : Name → Type 0) → ChangesNoFile IsInput old mid → ChangesNoFile IsInput old new
+  changes_still IsInput h = record {
+    files = same.files ∙ h.files;
+    output = same.output ∙ h.output;
+    reads = λ s not is. h.reads s not (ap (λ (f : Name → Bool). f s) (sym same.reads) ∙ is);
+    writes = same.writes ∙ h.writes;
+  }
+
+  pub uses_still : (IsInput : Name → Type 0) (out : Name) → UsesOnly IsInput out old mid → UsesOnly IsInput out old new
+  uses_still IsInput out h = record {
     files = specified_still (ChangesOnly out) h.files;
     printed = same.printed ∙ h.printed;
-    reads = λ s not_first not_second is.
-        h.reads s not_first not_second (ap (λ (f : Name → Bool). f s) (sym same.reads) ∙ is);
+    reads = λ s not is. h.reads s not (ap (λ (f : Name → Bool). f s) (sym same.reads) ∙ is);
     writes = λ s ne is. h.writes s ne (ap (λ (f : Name → Bool). f s) (sym same.writes) ∙ is);
   }

@@ -1,3 +1,4 @@
+mod Examples
 pub mod Results
 pub mod Endings
 pub mod Printed

@@ -1,5 +1,5 @@
 -- What the ways in which a command ends have in common.
-use Rattle.std.specs.Prelude.{◌≡◌, ◌≢◌, ℕ, None, Bool, true}
+use Rattle.std.specs.Prelude.{◌≡◌, ◌≢◌, ◌⊎◌, ℕ, List, [], ◌∷◌, None, Bool, true}
 use Rattle.desk_core.specs.View.{Name, Content, Files, View}
 use Rattle.desk_core.specs.Desk.{IfSpecified, WhereSpecified, WriteFaultsRose, HasOutput, NoOtherBegins}
 use Rattle.desk_core.specs.Whole.{IsUnchangedButInput, IsReadThrough, IsPutInPart}
@@ -23,19 +23,23 @@ pub record IsFinished (last : Name) (limit : ℕ) (old new : View) : Type 0 wher
   pub read : IsReadThrough last limit old new
   pub closed : HasOutput None new
 
--- no name but these two begins to be read
-abbrev pub BeginsOnly : Name → Name → (Name → Bool) → (Name → Bool) → Type 0
-BeginsOnly first second old new =
-    (name : Name) → name ≢ first → name ≢ second → new name ≡ true → old name ≡ true
+-- the name is one of these
+abbrev pub IsAmong : List Name → Name → Type 0
+IsAmong [] name = ⊥
+IsAmong (one ∷ names) name = (name ≡ one) ⊎ IsAmong names name
+
+-- no name but an input begins to be read
+abbrev pub BeginsOnly : (IsInput : Name → Type 0) → (Name → Bool) → (Name → Bool) → Type 0
+BeginsOnly IsInput old new = (name : Name) → (IsInput name → ⊥) → new name ≡ true → old name ≡ true
 
 -- every file but OUT is as it was
 abbrev pub ChangesOnly : Name → Files → Files → Type 0
 ChangesOnly out before after = (name : Name) → name ≢ out → after name ≡ before name
 
--- No file but OUT changed, and nothing was printed. No name but the two inputs began to be read, and none but OUT to be
+-- No file but OUT changed, and nothing was printed. No name but an input began to be read, and none but OUT to be
 -- written.
-pub record UsesOnly (first second out : Name) (old new : View) : Type 0 where
+pub record UsesOnly (IsInput : Name → Type 0) (out : Name) (old new : View) : Type 0 where
   pub files : IfSpecified (ChangesOnly out) old.files new.files
   pub printed : new.printed ≡ old.printed
-  pub reads : BeginsOnly first second old.reads new.reads
+  pub reads : BeginsOnly IsInput old.reads new.reads
   pub writes : NoOtherBegins out old.writes new.writes

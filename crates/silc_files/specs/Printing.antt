@@ -21,9 +21,9 @@ pub record PrintsOnly (old new : View) : Type 0 where
   pub reads : new.reads ≡ old.reads
   pub writes : new.writes ≡ old.writes
 
--- No file and no output changed. No name but the two inputs began to be read, and none to be written.
-pub record ChangesNoFile (src datapath : Name) (old new : View) : Type 0 where
+-- No file and no output changed. No name but an input began to be read, and none to be written.
+pub record ChangesNoFile (IsInput : Name → Type 0) (old new : View) : Type 0 where
   pub files : new.files ≡ old.files
   pub output : new.output ≡ old.output
-  pub reads : BeginsOnly src datapath old.reads new.reads
+  pub reads : BeginsOnly IsInput old.reads new.reads
   pub writes : new.writes ≡ old.writes

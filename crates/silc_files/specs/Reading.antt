@@ -10,11 +10,11 @@ use Rattle.silc_files.specs.declared.files.Input.TheVariants.{Whole, TooLong}
 use Rattle.statuses.specs.declared.status.Status.{Status}
 use Rattle.statuses.specs.declared.status.Status.TheVariants as status
 
--- at most the input and the faults changed, no count of faults fell, and no name but these two began to be read
-pub record OnlyReads (first second : Name) (old new : View) : Type 0 where
+-- at most the input and the faults changed, no count of faults fell, and no name but an input began to be read
+pub record OnlyReads (IsInput : Name → Type 0) (old new : View) : Type 0 where
   pub never_fall : FaultsNeverFall old new
   pub unchanged : IsUnchangedButInput old new
-  pub begins : BeginsOnly first second old.reads new.reads
+  pub begins : BeginsOnly IsInput old.reads new.reads
 
 -- the input is all of the content, which is within the limit, or it is too long
 abbrev pub IsInput : Content → Input → Type 0

@@ -1,7 +1,8 @@
 //! Inputs, each read whole.
-ghost use Rattle.std.specs.Prelude.{◌≡◌, ◌<◌, ◌≤◌, ◌^◌, length, IfOk, IfErr, OnOk};
+ghost use Rattle.std.specs.Prelude.{◌≡◌, ◌<◌, ◌≤◌, ◌^◌, [], ◌∷◌, length, IfOk, IfErr, OnOk};
 ghost use Rattle.desk_core.specs.Desk.{WhereSpecified, content_of};
 ghost use Rattle.desk_core.specs.Whole.{IsReadThrough};
+ghost use Rattle.silc_files.specs.Endings.{IsAmong};
 ghost use Rattle.silc_files.specs.Limits.{text_limit};
 ghost use Rattle.silc_files.specs.Reading.{OnlyReads, IsInput, IsShort, IsInputError, IsReadError};
 
@@ -25,7 +26,7 @@ pub enum Input {
 
 /// Reads a source or a datapath whole. One that is too long is rejected later, when its own check comes.
 pub fn read_input<D: Desk>(alloc: Global, desk: &mut D, name: &str) -> Result<Input, Status>
-    ensures reads { OnlyReads name.now name.now (D.view desk.old) (D.view desk.new) }
+    ensures reads { OnlyReads (IsAmong (name.now ∷ [])) (D.view desk.old) (D.view desk.new) }
     ensures through { OnOk result (IsReadThrough name.now text_limit (D.view desk.old) (D.view desk.new)) }
     ensures short { IfOk result IsShort }
     ensures ok { IfOk result (λ found.
@@ -49,7 +50,7 @@ pub fn read_file<D: Desk>(
     too_long: Status,
 ) -> Result<Bytes, Status>
     requires { limit < 2 ^ 60 }
-    ensures reads { OnlyReads name.now name.now (D.view desk.old) (D.view desk.new) }
+    ensures reads { OnlyReads (IsAmong (name.now ∷ [])) (D.view desk.old) (D.view desk.new) }
     ensures through { OnOk result (IsReadThrough name.now limit (D.view desk.old) (D.view desk.new)) }
     ensures within { IfOk result (λ bytes. length bytes ≤ limit) }
     ensures content { IfOk result (λ bytes.

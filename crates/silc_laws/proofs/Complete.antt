@@ -1,7 +1,7 @@
 -- Where the files are as a command asks and no fault of its own rose, it is done or memory ran out. Where its samples
 -- stop
 -- it, it answers why, or memory ran out.
-use Rattle.std.proofs.Common.{◌≡◌, ◌∙◌, ap, subst, inl, inr, ⊎_elim, ℕ, List, [], Option, Some, None, arith}
+use Rattle.std.proofs.Common.{◌≡◌, ◌∙◌, refl, ap, subst, inl, inr, ⊎_elim, ℕ, List, [], Option, Some, None, arith}
 use Rattle.std.specs.Prelude.{String}
 use Rattle.std.specs.declared.alloc.Global.{Global}
 use Rattle.command_words.specs.Command.{Command, compile, schedule, list, sim, eval, run, demo, IsCommandIn, IsCompile}
@@ -21,7 +21,7 @@ use Rattle.plan_core.specs.declared.plan.Plan.{Plan}
 use Rattle.sample_commands.specs.Eval.{program_channels}
 use Rattle.sample_commands.specs.Sim.{HasImage, HasSomeImage}
 use Rattle.sample_commands.specs.StreamEnds.{status_of}
-use Rattle.sample_commands.specs.declared.simulator.Kept.{Kept}
+use Rattle.silc.specs.declared.kept.Kept.{Kept}
 use Rattle.sample_io.specs.declared.channel.Channel.{Channel}
 use Rattle.sample_loops.specs.Machines.{channels_of}
 use Rattle.sample_loops.specs.declared.stream.StreamFault.{StreamFault}
@@ -92,9 +92,10 @@ module _ (words : List (String Global)) (old new : View) (kept : Kept) (status :
       → Specifies (ArePlannable src datapath) old
       → IsDoneOrMemory status
   compile_law src datapath out form none files =
-      compile_complete src datapath old new files.files files.specified files.so (λ r. none (inl r))
-      (λ r. none (inr (inl r)))
-      out (λ r. none (inr (inr r))) status (answer_law words old new kept status ending src datapath out form)
+      compile_complete src datapath old new files.files files.specified files.so (λ r. none (inl (src, inl refl, r)))
+      (λ r. none (inl (datapath, inr (inl refl), r)))
+      out (λ r. none (inr (inl (out, refl, r)))) status
+      (answer_law words old new kept status ending src datapath out form)
 
   pub compile_plan_law : status ≡ Done
       → (src datapath out : Name)
@@ -114,9 +115,9 @@ module _ (words : List (String Global)) (old new : View) (kept : Kept) (status :
       → Specifies (ArePlannable src datapath) old
       → IsDoneOrMemory status
   plan_text_law src datapath form none files =
-      schedule_complete src datapath old new files.files files.specified files.so (λ r. none (inl r))
-      (λ r. none (inr (inl r)))
-      (λ r. none (inr (inr r))) status (schedule_law words old new kept status ending src datapath form)
+      schedule_complete src datapath old new files.files files.specified files.so (λ r. none (inl (src, inl refl, r)))
+      (λ r. none (inl (datapath, inr (inl refl), r)))
+      (λ r. none (inr (inr (refl, r)))) status (schedule_law words old new kept status ending src datapath form)
 
   pub listing_law : (mic : Name)
       → IsList words mic
@@ -124,8 +125,8 @@ module _ (words : List (String Global)) (old new : View) (kept : Kept) (status :
       → Specifies (HasSomeImage mic) old
       → IsDoneOrMemory status
   listing_law mic form none files =
-      list_complete mic old new files.files files.specified files.so.0 files.so.1 (λ r. none (inl r))
-      (λ r. none (inr r)) status
+      list_complete mic old new files.files files.specified files.so.0 files.so.1 (λ r. none (inl (mic, inl refl, r)))
+      (λ r. none (inr (inr (refl, r)))) status
       (list_law words old new kept status ending mic form)
 
   pub demonstration_law : (sections samples : ℕ)
@@ -134,7 +135,7 @@ module _ (words : List (String Global)) (old new : View) (kept : Kept) (status :
       → IsCascadePlannable sections
       → IsDoneOrMemory status
   demonstration_law sections samples form none plannable =
-      demo_complete sections samples old new kept plannable none status
+      demo_complete sections samples old new kept plannable (λ r. none (inr (inr (refl, r)))) status
       (demo_law words old new kept status ending sections samples form)
 
   -- a run of MIC's image over SAMPLES comes to the end that their bytes have

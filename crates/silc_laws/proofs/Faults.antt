@@ -1,5 +1,5 @@
 -- A command answers that a file fault ended it only where a count of faults of its own rose.
-use Rattle.std.proofs.Common.{◌≡◌, ◌⊎◌, subst, inl, inr, ⊎_elim, arith, ℕ, List}
+use Rattle.std.proofs.Common.{◌≡◌, ◌⊎◌, refl, subst, inl, inr, ⊎_elim, arith, ℕ, List}
 use Rattle.std.specs.Prelude.{String}
 use Rattle.std.specs.declared.alloc.Global.{Global}
 use Rattle.command_words.specs.Command.{Command, compile, schedule, list, sim, eval, run, demo, IsCommandIn}
@@ -11,9 +11,8 @@ use Rattle.plan_commands.specs.Compile.{IsAnswer}
 use Rattle.plan_commands.specs.Refusals.{IsPlanError}
 use Rattle.plan_commands.specs.Schedule.{IsScheduleAnswer}
 use Rattle.sample_commands.specs.Eval.{IsEvalAnswer}
-use Rattle.run_command.specs.Run.{IsRunAnswer}
-use Rattle.sample_commands.specs.Sim.{IsSimAnswer}
-use Rattle.sample_commands.specs.declared.simulator.Kept.{Kept}
+use Rattle.silc.specs.Runs.{IsSimAnswer, IsRunAnswer}
+use Rattle.silc.specs.declared.kept.Kept.{Kept}
 use Rattle.sample_commands.proofs.EarlyEnds.{cut_rose}
 use Rattle.silc.specs.Demo.{IsDemoAnswer}
 use Rattle.silc.specs.Endings.{IsEnding}
@@ -34,50 +33,57 @@ module _ (old new : View) (kept : Kept) where
   compiling : (src datapath out : Name)
       → IsAnswer src datapath out old new Desk
       → HasFaultRisen (compile src datapath out) old new
-  compiling src datapath out (inl error) = ⊎_elim (λ r. inl r) (λ r. inr (inl r)) (planning src datapath error)
-  compiling src datapath out (inr cut) = inr (inr cut.written.rose)
+  compiling src datapath out (inl error) =
+      ⊎_elim (λ r. inl (src, inl refl, r)) (λ r. inl (datapath, inr (inl refl), r)) (planning src datapath error)
+  compiling src datapath out (inr cut) = inr (inl (out, refl, cut.written.rose))
 
   scheduling : (src datapath : Name)
       → IsScheduleAnswer src datapath old new Desk
       → HasFaultRisen (schedule src datapath) old new
-  scheduling src datapath (inl error) = ⊎_elim (λ r. inl r) (λ r. inr (inl r)) (planning src datapath error)
-  scheduling src datapath (inr cut) = inr (inr cut.rose)
+  scheduling src datapath (inl error) =
+      ⊎_elim (λ r. inl (src, inl refl, r)) (λ r. inl (datapath, inr (inl refl), r)) (planning src datapath error)
+  scheduling src datapath (inr cut) = inr (inr (refl, cut.rose))
 
   listing : (mic : Name) → IsListAnswer mic old new Desk → HasFaultRisen (list mic) old new
   listing mic (inl done) = absurd (let e = done.0 in cc)
-  listing mic (inr (inl cut)) = inr cut.1.rose
+  listing mic (inr (inl cut)) = inr (inr (refl, cut.1.rose))
   listing mic (inr (inr (inl memory))) = absurd (let e = memory.0 in cc)
-  listing mic (inr (inr (inr (inl unread)))) = inl unread.1.rose
+  listing mic (inr (inr (inr (inl unread)))) = inl (mic, inl refl, unread.1.rose)
   listing mic (inr (inr (inr (inr (fault, e, rejected))))) = absurd (cc)
 
   pub simulating : (mic samples out : Name)
       → IsSimAnswer mic samples out old new kept Desk
       → HasFaultRisen (sim mic samples out) old new
-  simulating mic samples out (inl unread) = ⊎_elim (λ r. inl r) (λ r. inr (inl r.rose)) unread.rose
+  simulating mic samples out (inl unread) =
+      ⊎_elim (λ r. inl (mic, inl refl, r)) (λ r. inl (samples, inr (inl refl), r.rose)) unread.rose
   simulating mic samples out (inr stopped) =
-      inr (⊎_elim (λ not. inr not.rose) (λ cut. cut_rose samples out _ _ old new cut) stopped.ended)
+      ⊎_elim (λ r. inl (samples, inr (inl refl), r)) (λ w. inr (inl (out, refl, w)))
+      (⊎_elim (λ not. inr not.rose) (λ cut. cut_rose samples out _ _ old new cut) stopped.ended)
 
   pub evaluating : (src samples out : Name)
       → IsEvalAnswer src samples out old new Desk
       → HasFaultRisen (eval src samples out) old new
-  evaluating src samples out (inl unread) = ⊎_elim (λ r. inl r) (λ r. inr (inl r.rose)) unread.rose
+  evaluating src samples out (inl unread) =
+      ⊎_elim (λ r. inl (src, inl refl, r)) (λ r. inl (samples, inr (inl refl), r.rose)) unread.rose
   evaluating src samples out (inr stopped) =
-      inr (⊎_elim (λ not. inr not.rose) (λ cut. cut_rose samples out _ _ old new cut) stopped.ended)
+      ⊎_elim (λ r. inl (samples, inr (inl refl), r)) (λ w. inr (inl (out, refl, w)))
+      (⊎_elim (λ not. inr not.rose) (λ cut. cut_rose samples out _ _ old new cut) stopped.ended)
 
   pub running : (src datapath samples out : Name)
       → IsRunAnswer src datapath samples out old new kept Desk
       → HasFaultRisen (run src datapath samples out) old new
   running src datapath samples out (inl (inl error)) =
-      ⊎_elim (λ r. inl r) (λ r. inr (inl r)) (planning src datapath error)
-  running src datapath samples out (inl (inr unread)) = inr (inr (inl unread.unopened.rose))
+      ⊎_elim (λ r. inl (src, inl refl, r)) (λ r. inl (datapath, inr (inl refl), r)) (planning src datapath error)
+  running src datapath samples out (inl (inr unread)) = inl (samples, inr (inr (inl refl)), unread.unopened.rose)
   running src datapath samples out (inr stopped) =
-      inr (inr (⊎_elim (λ not. inr not.rose) (λ cut. cut_rose samples out _ _ old new cut) stopped.ended))
+      ⊎_elim (λ r. inl (samples, inr (inr (inl refl)), r)) (λ w. inr (inl (out, refl, w)))
+      (⊎_elim (λ not. inr not.rose) (λ cut. cut_rose samples out _ _ old new cut) stopped.ended)
 
   demonstrating : (sections samples : ℕ)
       → IsDemoAnswer sections samples old new kept Desk
       → HasFaultRisen (demo sections samples) old new
   demonstrating sections samples (inl done) = absurd (let e = done.0 in cc)
-  demonstrating sections samples (inr (inl cut)) = cut.1.rose
+  demonstrating sections samples (inr (inl cut)) = inr (inr (refl, cut.1.rose))
   demonstrating sections samples (inr (inr error)) =
       absurd (⊎_elim (λ memory. cc) (λ refused. refused.0) error.why)
 
@@ -120,14 +126,7 @@ never : Rose 0 0 → ⊥
 never (inl more) = omega arith
 never (inr top) = omega arith
 
-either : {A B : Type 0} → (A → ⊥) → (B → ⊥) → A ⊎ B → ⊥
-either no_left no_right h = ⊎_elim no_left no_right h
-
 pub none_risen : (command : Command) (old new : NeverFails) → HasFaultRisen command (view_of old) (view_of new) → ⊥
-none_risen (compile src datapath out) old new h = either never (either never never) h
-none_risen (schedule src datapath) old new h = either never (either never never) h
-none_risen (list mic) old new h = either never never h
-none_risen (sim mic samples out) old new h = either never (either never never) h
-none_risen (eval src samples out) old new h = either never (either never never) h
-none_risen (run src datapath samples out) old new h = either never (either never (either never never)) h
-none_risen (demo sections samples) old new h = never h
+none_risen command old new (inl read) = never read.2
+none_risen command old new (inr (inl written)) = never written.2
+none_risen command old new (inr (inr printed)) = never printed.1

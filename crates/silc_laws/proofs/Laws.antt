@@ -1,25 +1,25 @@
 -- What follows for each command from how it ends.
-use Rattle.std.proofs.Common.{◌≡◌, subst, inl, inr, ℕ, List, None}
+use Rattle.std.proofs.Common.{◌≡◌, sym, ap, ◌∙◌, subst, ℕ, List, Bool, Some, None}
 use Rattle.std.specs.Prelude.{String}
 use Rattle.std.specs.declared.alloc.Global.{Global}
 use Rattle.command_words.specs.Command.{Command, compile, schedule, list, sim, eval, run, demo}
 use Rattle.command_words.specs.Command.{IsCommandIn, IsCompile, IsSchedule, IsList, IsSim, IsEval, IsRun, IsDemo}
+use Rattle.command_words.specs.Command.{output_of}
 use Rattle.desk_core.specs.View.{Name, View}
 use Rattle.desk_core.specs.Desk.{HasOutput}
 use Rattle.plan_commands.specs.Compile.{IsAnswer}
 use Rattle.plan_commands.specs.Schedule.{IsScheduled, IsScheduleAnswer}
 use Rattle.sample_commands.specs.Eval.{IsEvalDone, IsEvalAnswer}
-use Rattle.run_command.specs.Run.{IsRunDone, IsRunAnswer, RunUsesOnly}
-use Rattle.sample_commands.specs.Sim.{IsSimDone, IsSimAnswer}
-use Rattle.sample_commands.specs.declared.simulator.Kept.{Kept}
+use Rattle.silc.specs.Runs.{IsSimDone, IsSimAnswer, IsRunDone, IsRunAnswer}
+use Rattle.silc.specs.declared.kept.Kept.{Kept}
 use Rattle.silc.specs.Demo.{IsDemoDone, IsDemoAnswer}
-use Rattle.silc.specs.Endings.{IsEnding}
+use Rattle.silc.specs.Endings.{IsEnding, IsInputOf}
 use Rattle.silc.specs.Listing.{IsListed, IsListAnswer}
 use Rattle.silc.proofs.Demonstrating.{demo_done}
 use Rattle.silc.proofs.Listing.{list_done}
 use Rattle.silc_files.specs.Endings.{UsesOnly}
 use Rattle.silc_files.specs.Printing.{ChangesNoFile, PrintsOnly}
-use Rattle.silc_laws.specs.Forms.{IsCommandOn, IsCommandTo}
+use Rattle.silc_laws.specs.Forms.{IsCommandTo}
 use Rattle.silc_laws.proofs.Closed.{done_closed}
 use Rattle.statuses.specs.declared.status.Status.{Status}
 use Rattle.statuses.specs.declared.status.Status.TheVariants.{Done}
@@ -55,21 +55,49 @@ module _ (words : List (String Global)) (old new : View) (kept : Kept) (status :
       → IsRunAnswer src datapath samples out old new kept status
   run_law src datapath samples out form = (ending (run src datapath samples out) form).0
 
-  pub only_law : (first second out : Name) → IsCommandOn words first second out → UsesOnly first second out old new
-  only_law first second out (inl form) = (ending (compile first second out) form).1
-  only_law first second out (inr (inl form)) = (ending (sim first second out) form).1
-  only_law first second out (inr (inr form)) = (ending (eval first second out) form).1
+  uses_own : (command : Command) (own out : Name)
+      → Some own ≡ Some out
+      → UsesOnly (IsInputOf command old) own old new
+      → UsesOnly (IsInputOf command old) out old new
+  uses_own command own out e h =
+      let same : own ≡ out = cc in subst (λ (name : Name). UsesOnly (IsInputOf command old) name old new) same h
 
-  pub run_only_law : (src datapath samples out : Name)
-      → IsRun words src datapath samples out
-      → RunUsesOnly src datapath samples out old new
-  run_only_law src datapath samples out form = (ending (run src datapath samples out) form).1
+  pub only_law : (command : Command) (out : Name)
+      → IsCommandIn words command
+      → output_of command ≡ Some out
+      → UsesOnly (IsInputOf command old) out old new
+  only_law (compile src datapath own) out form e =
+      uses_own (compile src datapath own) own out e (ending (compile src datapath own) form).1
+  only_law (sim mic samples own) out form e =
+      uses_own (sim mic samples own) own out e (ending (sim mic samples own) form).1
+  only_law (eval src samples own) out form e =
+      uses_own (eval src samples own) own out e (ending (eval src samples own) form).1
+  only_law (run src datapath samples own) out form e =
+      uses_own (run src datapath samples own) own out e (ending (run src datapath samples own) form).1
+  only_law (schedule src datapath) out form e = absurd (cc)
+  only_law (list mic) out form e = absurd (cc)
+  only_law (demo sections samples) out form e = absurd (cc)
 
-  pub schedule_only_law : (src datapath : Name) → IsSchedule words src datapath → ChangesNoFile src datapath old new
-  schedule_only_law src datapath form = (ending (schedule src datapath) form).1
+  prints_no_file : (IsInput : Name → Type 0) → PrintsOnly old new → ChangesNoFile IsInput old new
+  prints_no_file IsInput h = record {
+    files = h.files;
+    output = h.output;
+    reads = λ s not is. ap (λ (f : Name → Bool). f s) (sym h.reads) ∙ is;
+    writes = h.writes;
+  }
 
-  pub list_only_law : (mic : Name) → IsList words mic → ChangesNoFile mic mic old new
-  list_only_law mic form = (ending (list mic) form).1
+  pub prints_law : (command : Command)
+      → IsCommandIn words command
+      → output_of command ≡ None
+      → ChangesNoFile (IsInputOf command old) old new
+  prints_law (schedule src datapath) form e = (ending (schedule src datapath) form).1
+  prints_law (list mic) form e = (ending (list mic) form).1
+  prints_law (demo sections samples) form e =
+      prints_no_file (IsInputOf (demo sections samples) old) (ending (demo sections samples) form).1
+  prints_law (compile src datapath own) form e = absurd (cc)
+  prints_law (sim mic samples own) form e = absurd (cc)
+  prints_law (eval src samples own) form e = absurd (cc)
+  prints_law (run src datapath samples own) form e = absurd (cc)
 
   pub demo_only_law : (sections samples : ℕ) → IsDemo words sections samples → PrintsOnly old new
   demo_only_law sections samples form = (ending (demo sections samples) form).1
@@ -104,4 +132,4 @@ module _ (words : List (String Global)) (old new : View) (kept : Kept) (status :
         (run_law src datapath samples out form)
 
     pub closed_law : (out : Name) → IsCommandTo words out → HasOutput None new
-    closed_law = done_closed words old new kept status done answer_law sim_law eval_law run_law
+    closed_law = done_closed old new kept words status ending done

@@ -21,10 +21,10 @@ use Rattle.silc_files.specs.Sources.{HasFrontFault}
 use Rattle.plan_commands.proofs.Complete.{never_refused}
 use Rattle.plan_core.specs.declared.plan.Plan.{Plan}
 use Rattle.sample_commands.specs.Eval.{IsEvalAnswer}
-use Rattle.run_command.specs.Run.{IsRunAnswer}
-use Rattle.sample_commands.specs.Sim.{HasImage, HasImageFault, IsSimAnswer}
-use Rattle.sample_commands.specs.declared.simulator.Kept.{Kept}
-use Rattle.sample_commands.specs.declared.simulator.Kept.TheVariants.{Nothing}
+use Rattle.sample_commands.specs.Sim.{HasImage, HasImageFault}
+use Rattle.silc.specs.Runs.{IsSimAnswer, IsRunAnswer}
+use Rattle.silc.specs.declared.kept.Kept.{Kept}
+use Rattle.silc.specs.declared.kept.Kept.TheVariants.{Nothing}
 use Rattle.silage_syntax.specs.Tree.{Program}
 use Rattle.silc.specs.Demo.{IsDemoAnswer}
 use Rattle.silc.specs.Endings.{IsEnding}
@@ -92,10 +92,10 @@ module _ (src datapath : Name) (old new : View) (files : Files) (specified : old
   run_refuses samples out kept none = by
     where
       not_run : (error : Status) → IsPlanError src datapath old new error → Tells error
-      not_run = told (λ r. none (inl r)) (λ r. none (inr (inl r)))
+      not_run = told (λ r. none (inl (src, inl refl, r))) (λ r. none (inl (datapath, inr (inl refl), r)))
 
       by : (answer : Status) → IsRunAnswer src datapath samples out old new kept answer → Tells answer
-      by Done h = absurd (not_planned h.solved.program h.path h.plan (h.planned files specified))
+      by Done h = absurd (not_planned h.2.solved.program h.2.path h.2.plan (h.2.planned files specified))
       by Desk h = absurd (none (running old new kept src datapath samples out h))
       by (Samples (sample_fault.Row line at)) h =
           absurd (not_planned h.program h.path h.plan (h.planned files specified))
@@ -154,9 +154,9 @@ module _ (mic : Name) (old new : View) (files : Files) (specified : old.files �
       → IsListAnswer mic old new answer
       → IsThisOrMemory (Image fault) answer
   list_refuses none answer (inl done) = absurd (no_image done.1.image (done.1.specified files specified))
-  list_refuses none answer (inr (inl cut)) = absurd (none (inr cut.1.rose))
+  list_refuses none answer (inr (inl cut)) = absurd (none (inr (inr (refl, cut.1.rose))))
   list_refuses none answer (inr (inr (inl memory))) = inr memory.0
-  list_refuses none answer (inr (inr (inr (inl unread)))) = absurd (none (inl unread.1.rose))
+  list_refuses none answer (inr (inr (inr (inl unread)))) = absurd (none (inl (mic, inl refl, unread.1.rose)))
   list_refuses none answer (inr (inr (inr (inr (other, is, bad))))) =
       inl (is ∙ same_fault other (bad.rejected.why files specified))
 
@@ -173,7 +173,8 @@ demo_refuses sections samples old new kept none why is refused answer (inl done)
     let run = done.1.run in
     absurd (never_refused (cascade_source sections) (cascade_datapath sections)
     (run.path, run.plan, (run.program, run.planned.has)) why is refused)
-demo_refuses sections samples old new kept none why is refused answer (inr (inl cut)) = absurd (none cut.1.rose)
+demo_refuses sections samples old new kept none why is refused answer (inr (inl cut)) =
+    absurd (none (inr (inr (refl, cut.1.rose))))
 demo_refuses sections samples old new kept none why is refused answer (inr (inr error)) =
     ⊎_elim (λ memory. inr memory)
     (λ h. inl (one_refusal (cascade_source sections) (cascade_datapath sections) answer why h.0 h.1 is refused))
@@ -190,8 +191,9 @@ module _ (words : List (String Global)) (old new : View) (kept : Kept) (status :
       → Specifies (AreRefused src datapath why) old
       → IsThisOrMemory why status
   compile_refusal_law src datapath out form none why is given =
-      compile_refuses src datapath old new given.files given.specified why is given.so (λ r. none (inl r))
-      (λ r. none (inr (inl r))) out (λ r. none (inr (inr r))) status
+      compile_refuses src datapath old new given.files given.specified why is given.so
+      (λ r. none (inl (src, inl refl, r))) (λ r. none (inl (datapath, inr (inl refl), r))) out
+      (λ r. none (inr (inl (out, refl, r)))) status
       (answer_law words old new kept status ending src datapath out form)
 
   pub schedule_refusal_law : (src datapath : Name)
@@ -202,8 +204,9 @@ module _ (words : List (String Global)) (old new : View) (kept : Kept) (status :
       → Specifies (AreRefused src datapath why) old
       → IsThisOrMemory why status
   schedule_refusal_law src datapath form none why is given =
-      schedule_refuses src datapath old new given.files given.specified why is given.so (λ r. none (inl r))
-      (λ r. none (inr (inl r))) (λ r. none (inr (inr r))) status
+      schedule_refuses src datapath old new given.files given.specified why is given.so
+      (λ r. none (inl (src, inl refl, r))) (λ r. none (inl (datapath, inr (inl refl), r)))
+      (λ r. none (inr (inr (refl, r)))) status
       (schedule_law words old new kept status ending src datapath form)
 
   pub run_refusal_law : (src datapath samples out : Name)

@@ -21,11 +21,11 @@ use Rattle.plan_commands.specs.Refusals.{IsPlanError}
 use Rattle.plan_commands.proofs.Complete.{plan_memory}
 use Rattle.plan_core.specs.declared.plan.Plan.{Plan}
 use Rattle.sample_commands.specs.Eval.{program_channels, IsSolutionRows, IsEvalDone, IsEvalAnswer}
-use Rattle.run_command.specs.Run.{IsRunAnswer}
 use Rattle.sample_commands.specs.Samples.{IsEndedEarly}
-use Rattle.sample_commands.specs.Sim.{HasImage, IsSimAnswer}
-use Rattle.sample_commands.specs.declared.simulator.Kept.{Kept}
-use Rattle.sample_commands.specs.declared.simulator.Kept.TheVariants.{Nothing}
+use Rattle.sample_commands.specs.Sim.{HasImage}
+use Rattle.silc.specs.Runs.{IsSimAnswer, IsRunAnswer}
+use Rattle.silc.specs.declared.kept.Kept.{Kept}
+use Rattle.silc.specs.declared.kept.Kept.TheVariants.{Nothing}
 use Rattle.sample_io.specs.declared.RowFault.{RowFault}
 use Rattle.sample_io.specs.declared.channel.Channel.{Channel}
 use Rattle.sample_loops.specs.Machines.{channels_of, IsClearOver, IsConflictInLast}
@@ -236,11 +236,12 @@ module _ (src datapath samples out : Name) (old new : View) (kept : Kept) (files
 
   memory : (error : Status) → IsPlanError src datapath old new error → PlannedEnds error
   memory error h =
-      inl (plan_memory src datapath old new files specified (path, plan, (program, has)) (λ r. none (inl r))
-      (λ r. none (inr (inl r))) error h)
+      inl (plan_memory src datapath old new files specified (path, plan, (program, has))
+      (λ r. none (inl (src, inl refl, r)))
+      (λ r. none (inl (datapath, inr (inl refl), r))) error h)
 
   pub run_ends : (status : Status) → IsRunAnswer src datapath samples out old new kept status → PlannedEnds status
-  run_ends Done h = done src samples out old new files specified program has.read h.solved
+  run_ends Done h = done src samples out old new files specified program has.read h.2.solved
   run_ends Desk h = absurd (none (running old new kept src datapath samples out h))
   run_ends (Samples (sample_fault.Row line at)) h =
       bad_row src samples out old new files specified program has.read line at h.program

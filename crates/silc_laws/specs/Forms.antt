@@ -1,16 +1,9 @@
--- Commands that read and write files in the same way.
-use Rattle.std.specs.Prelude.{◌⊎◌, List, String}
+-- Commands that write a file.
+use Rattle.std.specs.Prelude.{◌≡◌, List, String, Some}
 use Rattle.std.specs.declared.alloc.Global.{Global}
-use Rattle.command_words.specs.Command.{IsCompile, IsSim, IsEval, IsRun}
+use Rattle.command_words.specs.Command.{Command, IsCommandIn, output_of}
 use Rattle.desk_core.specs.View.{Name}
 
--- the words are one of the commands that read two files and write a third, on these files
-abbrev pub IsCommandOn : List (String Global) → Name → Name → Name → Type 0
-IsCommandOn words first second out =
-    IsCompile words first second out ⊎ IsSim words first second out ⊎ IsEval words first second out
-
--- the words are one of the commands that write this file
+-- the words are a command that writes this file
 abbrev pub IsCommandTo : List (String Global) → Name → Type 0
-IsCommandTo words out =
-    ((first : Name) × (second : Name) × IsCommandOn words first second out)
-    ⊎ ((src : Name) × (datapath : Name) × (samples : Name) × IsRun words src datapath samples out)
+IsCommandTo words out = (command : Command) × IsCommandIn words command × (output_of command ≡ Some out)

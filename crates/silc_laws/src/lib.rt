@@ -4,13 +4,14 @@
 
 mod streams;
 
-ghost use Rattle.std.specs.Prelude.{◌≡◌, ◌≢◌, ℕ, None};
+ghost use Rattle.std.specs.Prelude.{◌≡◌, ◌≢◌, ◌↔◌, ℕ, Some, None};
 ghost use Rattle.command_words.specs.Command as spec;
-ghost use Rattle.command_words.specs.Command.{Command, IsCommand, IsCommandIn};
+ghost use Rattle.command_words.specs.Command.{Command, IsCommand, IsCommandIn, output_of};
 ghost use Rattle.command_words.specs.Command.{IsCompile, IsSchedule, IsList, IsSim, IsEval, IsRun, IsDemo};
 ghost use Rattle.datapath.specs.declared.types.Datapath.{Datapath};
 ghost use Rattle.desk_core.specs.Desk.{HasOutput, WhereSpecified};
-ghost use Rattle.desk_core.specs.View.{Name, View};
+ghost use Rattle.desk_core.specs.NeverFails.{view_of};
+ghost use Rattle.desk_core.specs.View.{Name};
 ghost use Rattle.source_faults.specs.declared.fault.FrontFault.{FrontFault};
 ghost use Rattle.plan_commands.specs.Compile.{IsAnswer};
 ghost use Rattle.plan_commands.specs.Refusals.{IsRefusal, AreRefused};
@@ -18,13 +19,13 @@ ghost use Rattle.plan_commands.specs.Schedule.{IsScheduled, IsScheduleAnswer};
 ghost use Rattle.silc_files.specs.Sources.{HasFrontFault};
 ghost use Rattle.plan_core.specs.declared.plan.Plan.{Plan};
 ghost use Rattle.sample_commands.specs.Eval.{IsEvalDone, IsEvalAnswer};
-ghost use Rattle.run_command.specs.Run.{IsRunDone, IsRunAnswer, RunUsesOnly};
-ghost use Rattle.sample_commands.specs.Sim.{HasSomeImage, HasImageFault, IsSimDone, IsSimAnswer};
+ghost use Rattle.sample_commands.specs.Sim.{HasSomeImage, HasImageFault};
 ghost use Rattle.sample_commands.specs.StreamEnds.{status_of};
-ghost use Rattle.sample_commands.specs.declared.simulator.Kept.TheVariants.{Nothing};
+ghost use Rattle.silc.specs.declared.kept.Kept.TheVariants.{Nothing};
 ghost use Rattle.sample_loops.specs.declared.stream.StreamFault.{StreamFault};
 ghost use Rattle.silc.specs.Demo.{IsCascadePlannable, IsDemoDone, IsDemoAnswer};
-ghost use Rattle.silc.specs.Endings.{IsEnding};
+ghost use Rattle.silc.specs.Endings.{IsEnding, IsInputOf};
+ghost use Rattle.silc.specs.Runs.{IsSimDone, IsSimAnswer, IsRunDone, IsRunAnswer};
 ghost use Rattle.silc.specs.Listing.{IsListed, IsListAnswer};
 ghost use Rattle.silc_files.specs.Endings.{UsesOnly};
 ghost use Rattle.silc_files.specs.Printing.{ChangesNoFile, PrintsOnly};
@@ -33,7 +34,7 @@ ghost use Rattle.silc_laws.specs.Complete.{HavePlan, HasImageOf, IsCascadeRefuse
 ghost use Rattle.silc_laws.specs.Complete.{StopsSim, StopsEval, StopsPlanned};
 ghost use Rattle.silc_laws.specs.Complete.{IsThisOrMemory, IsDoneOrMemory, IsEndedBySamples, IsEndedByRun};
 ghost use Rattle.silc_laws.specs.Faults.{HasFaultRisen, HasNoFaultRisen};
-ghost use Rattle.silc_laws.specs.Forms.{IsCommandOn, IsCommandTo};
+ghost use Rattle.silc_laws.specs.Forms.{IsCommandTo};
 ghost use Rattle.statuses.specs.declared.status.ImageFault.{ImageFault};
 ghost use Rattle.statuses.specs.declared.status.Status as of_status;
 
@@ -45,7 +46,7 @@ pub use streams::{evaluation_completes, run_completes};
 /// What the commands print, write and keep where they are done.
 pub fn silc_done<D: Desk>(alloc: Global, words: &[String], desk: &mut D, kept: &mut Kept) -> Status
     requires { kept.old ≡ Nothing }
-    ensures words { result ≢ Status.Words → IsCommand words.now }
+    ensures words { (result ≢ Status.Words) ↔ IsCommand words.now }
     ensures ending { (command : Command) → IsCommandIn words.now command
         → IsEnding command (D.view desk.old) (D.view desk.new) kept.new result }
 
@@ -76,7 +77,7 @@ pub fn silc_answers<D: Desk>(
     kept: &mut Kept,
 ) -> Status
     requires { kept.old ≡ Nothing }
-    ensures words { result ≢ Status.Words → IsCommand words.now }
+    ensures words { (result ≢ Status.Words) ↔ IsCommand words.now }
     ensures ending { (command : Command) → IsCommandIn words.now command
         → IsEnding command (D.view desk.old) (D.view desk.new) kept.new result }
 
@@ -106,18 +107,14 @@ pub fn silc_leaves<D: Desk>(
     kept: &mut Kept,
 ) -> Status
     requires { kept.old ≡ Nothing }
-    ensures words { result ≢ Status.Words → IsCommand words.now }
+    ensures words { (result ≢ Status.Words) ↔ IsCommand words.now }
     ensures ending { (command : Command) → IsCommandIn words.now command
         → IsEnding command (D.view desk.old) (D.view desk.new) kept.new result }
 
-    ensures only { (first second out : Name) → IsCommandOn words.now first second out
-        → UsesOnly first second out (D.view desk.old) (D.view desk.new) }
-    ensures run_only { (src datapath samples out : Name) → IsRun words.now src datapath samples out
-        → RunUsesOnly src datapath samples out (D.view desk.old) (D.view desk.new) }
-    ensures schedule_only { (src datapath : Name) → IsSchedule words.now src datapath
-        → ChangesNoFile src datapath (D.view desk.old) (D.view desk.new) }
-    ensures list_only { (mic : Name) → IsList words.now mic
-        → ChangesNoFile mic mic (D.view desk.old) (D.view desk.new) }
+    ensures only { (command : Command) (out : Name) → IsCommandIn words.now command → output_of command ≡ Some out
+        → UsesOnly (IsInputOf command (D.view desk.old)) out (D.view desk.old) (D.view desk.new) }
+    ensures prints_only { (command : Command) → IsCommandIn words.now command → output_of command ≡ None
+        → ChangesNoFile (IsInputOf command (D.view desk.old)) (D.view desk.old) (D.view desk.new) }
     ensures demo_only { (sections samples : ℕ) → IsDemo words.now sections samples
         → PrintsOnly (D.view desk.old) (D.view desk.new) }
     ensures compile_keeps_nothing { (src datapath out : Name) → IsCompile words.now src datapath out
@@ -132,7 +129,9 @@ pub fn silc_leaves<D: Desk>(
 /// Which faults let a command answer that a file fault ended it.
 pub fn silc_fails<D: Desk>(alloc: Global, words: &[String], desk: &mut D, kept: &mut Kept) -> Status
     requires { kept.old ≡ Nothing }
-    ensures words { result ≢ Status.Words → IsCommand words.now }
+    ensures words { (result ≢ Status.Words) ↔ IsCommand words.now }
+    ensures ending { (command : Command) → IsCommandIn words.now command
+        → IsEnding command (D.view desk.old) (D.view desk.new) kept.new result }
     ensures fault { result ≡ Status.Desk → (command : Command) → IsCommandIn words.now command
         → HasFaultRisen command (D.view desk.old) (D.view desk.new) }
 {
@@ -147,7 +146,10 @@ pub fn silc_never_fails(
     kept: &mut Kept,
 ) -> Status
     requires { kept.old ≡ Nothing }
-    ensures { result ≢ Status.Desk }
+    ensures words { (result ≢ Status.Words) ↔ IsCommand words.now }
+    ensures ending { (command : Command) → IsCommandIn words.now command
+        → IsEnding command (view_of desk.old) (view_of desk.new) kept.new result }
+    ensures never { result ≢ Status.Desk }
 {
     silc_fails(alloc, words, desk, kept)
 }
@@ -161,7 +163,7 @@ pub fn silc_completes<D: Desk>(
     kept: &mut Kept,
 ) -> Status
     requires { kept.old ≡ Nothing }
-    ensures words { result ≢ Status.Words → IsCommand words.now }
+    ensures words { (result ≢ Status.Words) ↔ IsCommand words.now }
     ensures ending { (command : Command) → IsCommandIn words.now command
         → IsEnding command (D.view desk.old) (D.view desk.new) kept.new result }
     ensures compiles { (src datapath out : Name) → IsCompile words.now src datapath out
@@ -201,7 +203,7 @@ pub fn silc_refuses<D: Desk>(
     kept: &mut Kept,
 ) -> Status
     requires { kept.old ≡ Nothing }
-    ensures words { result ≢ Status.Words → IsCommand words.now }
+    ensures words { (result ≢ Status.Words) ↔ IsCommand words.now }
     ensures ending { (command : Command) → IsCommandIn words.now command
         → IsEnding command (D.view desk.old) (D.view desk.new) kept.new result }
     ensures compile_refuses { (src datapath out : Name) → IsCompile words.now src datapath out
@@ -239,7 +241,7 @@ pub fn silc_refuses<D: Desk>(
 /// samples stop it, it answers why.
 pub fn silc_stops<D: Desk>(alloc: Global, words: &[String], desk: &mut D, kept: &mut Kept) -> Status
     requires { kept.old ≡ Nothing }
-    ensures words { result ≢ Status.Words → IsCommand words.now }
+    ensures words { (result ≢ Status.Words) ↔ IsCommand words.now }
     ensures ending { (command : Command) → IsCommandIn words.now command
         → IsEnding command (D.view desk.old) (D.view desk.new) kept.new result }
     ensures sim_ends { (mic samples out : Name) → IsSim words.now mic samples out

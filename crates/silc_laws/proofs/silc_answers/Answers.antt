@@ -35,3 +35,6 @@ pub returns-clause-run_answer : goal.returns-clause-run_answer
 returns-clause-run_answer g c =
     run_law c.args.words.now (g.D.Desk.view c.args.desk.now) (g.D.Desk.view c.silc.new.desk) c.silc.new.kept
     c.silc.result c.silc.ensures.ending
+
+pub returns-clause-words : goal.returns-clause-words
+returns-clause-words g c = (c.silc.ensures.words, c.silc.ensures.command)

@@ -36,3 +36,6 @@ pub returns-clause-closed : goal.returns-clause-closed
 returns-clause-closed g c =
     closed_law c.args.words.now (g.D.Desk.view c.args.desk.now) (g.D.Desk.view c.silc.new.desk) c.silc.new.kept
     c.silc.result c.silc.ensures.ending
+
+pub returns-clause-words : goal.returns-clause-words
+returns-clause-words g c = (c.silc.ensures.words, c.silc.ensures.command)

@@ -1,5 +1,5 @@
 use Rattle.command_words.specs.Command.{compile, schedule, list, eval}
-use Rattle.silc_laws.proofs.Laws.{only_law, run_only_law, schedule_only_law, list_only_law, demo_only_law}
+use Rattle.silc_laws.proofs.Laws.{only_law, prints_law, demo_only_law}
 use Rattle.silc_laws.proofs.silc_leaves.Goals as goal
 
 pub returns-clause-only : goal.returns-clause-only
@@ -7,19 +7,9 @@ returns-clause-only g c =
     only_law c.args.words.now (g.D.Desk.view c.args.desk.now) (g.D.Desk.view c.silc.new.desk) c.silc.new.kept
     c.silc.result c.silc.ensures.ending
 
-pub returns-clause-run_only : goal.returns-clause-run_only
-returns-clause-run_only g c =
-    run_only_law c.args.words.now (g.D.Desk.view c.args.desk.now) (g.D.Desk.view c.silc.new.desk) c.silc.new.kept
-    c.silc.result c.silc.ensures.ending
-
-pub returns-clause-schedule_only : goal.returns-clause-schedule_only
-returns-clause-schedule_only g c =
-    schedule_only_law c.args.words.now (g.D.Desk.view c.args.desk.now) (g.D.Desk.view c.silc.new.desk) c.silc.new.kept
-    c.silc.result c.silc.ensures.ending
-
-pub returns-clause-list_only : goal.returns-clause-list_only
-returns-clause-list_only g c =
-    list_only_law c.args.words.now (g.D.Desk.view c.args.desk.now) (g.D.Desk.view c.silc.new.desk) c.silc.new.kept
+pub returns-clause-prints_only : goal.returns-clause-prints_only
+returns-clause-prints_only g c =
+    prints_law c.args.words.now (g.D.Desk.view c.args.desk.now) (g.D.Desk.view c.silc.new.desk) c.silc.new.kept
     c.silc.result c.silc.ensures.ending
 
 pub returns-clause-demo_only : goal.returns-clause-demo_only
@@ -41,3 +31,6 @@ returns-clause-schedule_keeps_nothing g c = λ src datapath form. (c.silc.ensure
 
 pub returns-clause-list_keeps_nothing : goal.returns-clause-list_keeps_nothing
 returns-clause-list_keeps_nothing g c = λ mic form. (c.silc.ensures.ending (list mic) form).2
+
+pub returns-clause-words : goal.returns-clause-words
+returns-clause-words g c = (c.silc.ensures.words, c.silc.ensures.command)

@@ -36,3 +36,6 @@ pub returns-clause-run_refuses : goal.returns-clause-run_refuses
 returns-clause-run_refuses g c =
     run_refusal_law c.args.words.now (g.D.Desk.view c.args.desk.now) (g.D.Desk.view c.silc.new.desk) c.silc.new.kept
     c.silc.result c.silc.ensures.ending
+
+pub returns-clause-words : goal.returns-clause-words
+returns-clause-words g c = (c.silc.ensures.words, c.silc.ensures.command)

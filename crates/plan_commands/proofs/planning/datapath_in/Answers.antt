@@ -4,7 +4,7 @@ use Rattle.silc_files.specs.Reading.{IsInput}
 use Rattle.statuses.specs.Faults.{of_path}
 use Rattle.silc_files.specs.declared.files.Input.{Input}
 use Rattle.silc_files.specs.declared.files.Input.TheVariants.{Whole}
-use Rattle.plan_commands.proofs.PlanAnswers.{at_error}
+use Rattle.silc_files.proofs.Results.{at_error}
 use Rattle.plan_commands.proofs.Plans.{too_long_path, path_error}
 use Rattle.plan_commands.proofs.planning.datapath_in.Goals as goal
 

@@ -4,7 +4,8 @@ use Rattle.plan_commands.specs.Refusals.{IsNoPlan}
 use Rattle.statuses.specs.Faults.{of_front, of_path}
 use Rattle.plan_commands.proofs.Plans.{planned_over}
 use Rattle.plan_commands.proofs.PlanAnswers.{source_plan, source_refusal, datapath_plan, datapath_refusal, its_plan}
-use Rattle.plan_commands.proofs.PlanAnswers.{its_refusal, no_plan, refusal_is, at_error, no_path_plan}
+use Rattle.plan_commands.proofs.PlanAnswers.{its_refusal, no_plan, refusal_is, no_path_plan}
+use Rattle.silc_files.proofs.Results.{at_error}
 use Rattle.plan_commands.proofs.planning.plan_of.Goals as goal
 
 pub returns-clause-ok : goal.returns-clause-ok

@@ -2,7 +2,8 @@ use Rattle.std.proofs.Common.{ap, inl, ◌∙◌}
 use Rattle.std.proofs.lemmas.Result.{err_from_is_err_and}
 use Rattle.micro_file.proofs.Unique.{in_either}
 use Rattle.statuses.specs.declared.status.Ending.{Ending}
-use Rattle.run_command.proofs.Executing.{compiled_machine, only_memory}
+use Rattle.sample_commands.proofs.Simulating.{only_memory}
+use Rattle.run_command.proofs.Executing.{compiled_machine}
 use Rattle.run_command.proofs.runner.compiled_ready.Goals as goal
 
 pub returns-clause-machine : goal.returns-clause-machine

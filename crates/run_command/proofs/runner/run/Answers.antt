@@ -1,27 +1,65 @@
-use Rattle.std.proofs.Common.{sym, ap, subst}
-use Rattle.run_command.specs.Run.{IsRunAnswer}
+use Rattle.std.proofs.Common.{refl, inl, inr, [], ◌∷◌, None}
+use Rattle.silc_files.specs.Endings.{IsAmong}
+use Rattle.silc_files.proofs.Endings.{among_first, reads_wider, uses_none}
+use Rattle.silc_files.proofs.Results.{at_error}
+use Rattle.sample_commands.proofs.Opening.{streams_use}
+use Rattle.run_command.specs.Run.{IsRunError}
 use Rattle.statuses.specs.declared.status.Ending.{Ending}
-use Rattle.run_command.proofs.Executing.{run_answer, run_uses, no_plan}
+use Rattle.run_command.proofs.Executing.{run_done, run_error, no_plan}
 use Rattle.run_command.proofs.runner.run.Goals as goal
 
-pub returns-in-Ok-clause-answer : goal.returns-in-Ok-clause-answer
-returns-in-Ok-clause-answer g c =
-    subst (IsRunAnswer c.args.source.now c.args.datapath.now c.args.samples.now c.args.output.now
-    (g.D.Desk.view c.args.desk.now) (g.D.Desk.view c.run_ready.new.desk) c.run_ready.new.kept)
-    (sym (ap (λ (e : Ending). e.status) c.from.ensures))
-    (run_answer c.args.source.now c.args.datapath.now c.args.samples.now c.args.output.now
+pub returns-clause-ok : goal.returns-clause-ok
+returns-clause-ok g c =
+    run_done c.args.source.now c.args.datapath.now c.args.samples.now c.args.output.now
     (g.D.Desk.view c.args.desk.now) (g.D.Desk.view c.compiled_ready.new.desk) (g.D.Desk.view c.run_ready.new.desk)
-    c.in-Ok.ready.machine c.in-Ok.ensures.reads c.in-Ok.ensures.machine c.run_ready.new.kept c.run_ready.result
-    c.run_ready.ensures.over)
+    c.in_ok-ready.ready.machine c.in_ok-ready.ensures.reads c.in_ok-ready.ensures.machine
+    c.in_ok-run_ready.field-0 c.in_ok-run_ready.ensures.ok
 
-pub returns-in-Ok-clause-only : goal.returns-in-Ok-clause-only
-returns-in-Ok-clause-only g c =
-    run_uses c.args.source.now c.args.datapath.now c.args.samples.now c.args.output.now (g.D.Desk.view c.args.desk.now)
-    (g.D.Desk.view c.compiled_ready.new.desk) (g.D.Desk.view c.run_ready.new.desk)
-    c.in-Ok.ready.machine c.in-Ok.ensures.reads c.in-Ok.ensures.machine c.run_ready.ensures.only
+pub returns-clause-only : goal.returns-clause-only
+returns-clause-only g c =
+    streams_use (IsAmong (c.args.source.now ∷ c.args.datapath.now ∷ []))
+    (IsAmong (c.args.source.now ∷ c.args.datapath.now ∷ c.args.samples.now ∷ [])) c.args.samples.now c.args.output.now
+    (g.D.Desk.view c.args.desk.now) (g.D.Desk.view c.compiled_ready.new.desk) (g.D.Desk.view c.run_ready.new.desk)
+    (among_first (c.args.source.now ∷ c.args.datapath.now ∷ []) (c.args.samples.now ∷ [])) (inr (inr (inl refl)))
+    c.in_ok-ready.ensures.reads c.in_ok-run_ready.ensures.only
 
-pub returns-in-Err-clause-answer : goal.returns-in-Err-clause-answer
-returns-in-Err-clause-answer g c =
-    no_plan c.args.source.now c.args.datapath.now c.args.samples.now c.args.output.now (g.D.Desk.view c.args.desk.now)
-    (g.D.Desk.view c.compiled_ready.new.desk)
-    c.args.kept.now c.in-Err.ending.status c.in-Err.ensures.err
+pub returns-in_err-ready-clause-err : goal.returns-in_err-ready-clause-err
+returns-in_err-ready-clause-err g c =
+    at_error c.from_residual.result c.in_err-ready.field-0.0 c.from_residual.ensures.1
+    (λ (ending : Ending).
+    IsRunError c.args.source.now c.args.datapath.now c.args.samples.now c.args.output.now
+    (g.D.Desk.view c.args.desk.now) (g.D.Desk.view c.compiled_ready.new.desk) ending.status)
+    (no_plan c.args.source.now c.args.datapath.now c.args.samples.now c.args.output.now
+    (g.D.Desk.view c.args.desk.now) (g.D.Desk.view c.compiled_ready.new.desk) c.in_err-ready.field-0.0.status
+    c.in_err-ready.ensures.err)
+
+pub returns-in_err-ready-clause-only : goal.returns-in_err-ready-clause-only
+returns-in_err-ready-clause-only g c =
+    uses_none (IsAmong (c.args.source.now ∷ c.args.datapath.now ∷ c.args.samples.now ∷ [])) c.args.output.now
+    (g.D.Desk.view c.args.desk.now) (g.D.Desk.view c.compiled_ready.new.desk)
+    (reads_wider (IsAmong (c.args.source.now ∷ c.args.datapath.now ∷ []))
+    (IsAmong (c.args.source.now ∷ c.args.datapath.now ∷ c.args.samples.now ∷ []))
+    (g.D.Desk.view c.args.desk.now) (g.D.Desk.view c.compiled_ready.new.desk)
+    (among_first (c.args.source.now ∷ c.args.datapath.now ∷ []) (c.args.samples.now ∷ []))
+    c.in_err-ready.ensures.reads)
+
+pub returns-in_err-run_ready-clause-err : goal.returns-in_err-run_ready-clause-err
+returns-in_err-run_ready-clause-err g c =
+    at_error c.from_residual-in_err-run_ready.result
+    (record { status = c.in_err-run_ready.field-0.0; line = None; element = None; path = None })
+    c.from_residual-in_err-run_ready.ensures.1
+    (λ (ending : Ending).
+    IsRunError c.args.source.now c.args.datapath.now c.args.samples.now c.args.output.now
+    (g.D.Desk.view c.args.desk.now) (g.D.Desk.view c.run_ready.new.desk) ending.status)
+    (run_error c.args.source.now c.args.datapath.now c.args.samples.now c.args.output.now
+    (g.D.Desk.view c.args.desk.now) (g.D.Desk.view c.compiled_ready.new.desk) (g.D.Desk.view c.run_ready.new.desk)
+    c.in_ok-ready.ready.machine c.in_ok-ready.ensures.reads c.in_ok-ready.ensures.machine
+    c.in_err-run_ready.field-0.0 c.in_err-run_ready.ensures.err)
+
+pub returns-in_err-run_ready-clause-only : goal.returns-in_err-run_ready-clause-only
+returns-in_err-run_ready-clause-only g c =
+    streams_use (IsAmong (c.args.source.now ∷ c.args.datapath.now ∷ []))
+    (IsAmong (c.args.source.now ∷ c.args.datapath.now ∷ c.args.samples.now ∷ [])) c.args.samples.now c.args.output.now
+    (g.D.Desk.view c.args.desk.now) (g.D.Desk.view c.compiled_ready.new.desk) (g.D.Desk.view c.run_ready.new.desk)
+    (among_first (c.args.source.now ∷ c.args.datapath.now ∷ []) (c.args.samples.now ∷ [])) (inr (inr (inl refl)))
+    c.in_ok-ready.ensures.reads c.in_err-run_ready.ensures.only

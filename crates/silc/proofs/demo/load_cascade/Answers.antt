@@ -2,7 +2,7 @@ use Rattle.std.proofs.Common.{ap, inl, ◌∙◌}
 use Rattle.std.proofs.lemmas.Result.{err_from_is_err_and}
 use Rattle.micro_file.proofs.Unique.{in_either}
 use Rattle.statuses.specs.declared.status.Ending.{Ending}
-use Rattle.run_command.proofs.Executing.{only_memory}
+use Rattle.sample_commands.proofs.Simulating.{only_memory}
 use Rattle.silc.proofs.Demonstrating.{cascade_machine}
 use Rattle.silc.proofs.demo.load_cascade.Goals as goal
 
