@@ -154,7 +154,7 @@ module _ (mic samples out : Name) (old mid new : View) (machine : Snapshot)
     sim_stopped stream.TooLong h = record { image = loaded.image; specified = loaded.specified; ended = h }
     sim_stopped (stream.Conflict conflict) h = record { image = loaded.image; specified = loaded.specified; ended = h }
 
-    its_channels : List Channel
+    abbrev its_channels : List Channel
     its_channels = channels_of (inputs_of machine.code)
 
     sim_through :
