@@ -1,4 +1,5 @@
 use Rattle.std.proofs.Common.{refl, inl, inr, [], ◌∷◌, None}
+use Rattle.desk_core.proofs.DeskLemmas.{never_fall_trans}
 use Rattle.silc_files.specs.Endings.{IsAmong}
 use Rattle.silc_files.proofs.Endings.{among_first, reads_wider, uses_none}
 use Rattle.silc_files.proofs.Results.{at_error}
@@ -7,6 +8,11 @@ use Rattle.run_command.specs.Run.{IsRunError}
 use Rattle.statuses.specs.declared.status.Ending.{Ending}
 use Rattle.run_command.proofs.Executing.{run_done, run_error, no_plan}
 use Rattle.run_command.proofs.runner.run.Goals as goal
+
+pub returns-clause-faults : goal.returns-clause-faults
+returns-clause-faults g c =
+    never_fall_trans (g.D.Desk.view c.args.desk.now) (g.D.Desk.view c.compiled_ready.new.desk)
+    (g.D.Desk.view c.run_ready.new.desk) c.in_ok-ready.ensures.reads.never_fall c.in_ok-run_ready.ensures.faults
 
 pub returns-clause-ok : goal.returns-clause-ok
 returns-clause-ok g c =
