@@ -1,7 +1,7 @@
 pub mod Listing
 pub mod MachineSamples
 pub mod Demonstrating
-mod Kept
+mod Keeping
 pub mod Endings
 pub mod Reports
 pub mod Complete

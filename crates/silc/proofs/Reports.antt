@@ -14,7 +14,7 @@ use Rattle.silc.specs.declared.kept.Kept.{Kept}
 use Rattle.silc.specs.Endings.{IsEnding}
 use Rattle.silc.proofs.Demonstrating.{demo_reported, prints_still}
 use Rattle.silc.proofs.Listing.{list_reported}
-use Rattle.silc.proofs.Kept.{ends_still}
+use Rattle.silc.proofs.Keeping.{ends_still}
 use Rattle.silc_files.specs.Endings.{IsAmong}
 use Rattle.silc_files.proofs.Endings.{uses_still, changes_still}
 use Rattle.statuses.specs.declared.status.Status.{Status}

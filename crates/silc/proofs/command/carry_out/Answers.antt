@@ -4,7 +4,7 @@ use Rattle.command_words.specs.declared.forms.Command.{Command}
 use Rattle.run_command.specs.Run.{IsExecuted, IsRunError}
 use Rattle.sample_commands.specs.Sim.{IsSimulated, IsSimError}
 use Rattle.silc.specs.Endings.{IsEnding}
-use Rattle.silc.proofs.Kept.{kept_ending}
+use Rattle.silc.proofs.Keeping.{kept_ending}
 use Rattle.silc.proofs.command.carry_out.Goals as goal
 
 pub returns-in-Sim-clause-ending : goal.returns-in-Sim-clause-ending
