@@ -10,9 +10,9 @@ use Rattle.plan_core.specs.Hardware.{latency_on, port_of}
 use Rattle.plan_core.specs.Operands.{Reads}
 use Rattle.plan_core.specs.Assigned.{unit_in}
 use Rattle.plan_core.specs.Heights.{ReadsNow, latency_of, AreHeights, IsPlacedBefore}
-use Rattle.plan_core.specs.Reservations.{result_on, IsFreeRoute, Fits, IsFirstBus}
+use Rattle.plan_core.specs.Reservations.{result_on, IsFreeRouteOver, FitsOver, IsFirstBusOver, IsGapApart, IsOneCycle}
 use Rattle.plan_core.specs.ListSchedule.{slot_of, cycle_of, ends, IsDestination, IsPortBefore, AreDestinations}
-use Rattle.plan_core.specs.ListSchedule.{IsEarlier, IsTakenBefore, CanIssue, IsPlaced}
+use Rattle.plan_core.specs.ListSchedule.{IsEarlier, IsTakenBefore, CanIssueOver, IsPlacedOver, AnyCycle}
 use Rattle.plan_core.specs.declared.schedule.Assigned.{Assigned}
 use Rattle.plan_core.specs.declared.schedule.Transfer.{Transfer}
 use Rattle.plan_core.specs.declared.schedule.Slot.{Slot}
@@ -81,23 +81,6 @@ module _ (a : Assigned) where
       (cases_lt (h v) (h u)))
       (cases_lt (h u) (h v))
 
--- the place of node v, as its slot says it
-pub record IsPlacedIn (d : Datapath) (a : Assigned) (z : Schedule) (h : ℕ → ℕ) (v : ℕ) (slot : Slot) : Type 0 where
-  pub can : CanIssue d a z h v slot.cycle
-  pub least : (t : ℕ) → t < slot.cycle → CanIssue d a z h v t → ⊥
-  pub destinations : AreDestinations a v (map (λ (transfer : Transfer). transfer.port) slot.transfers)
-  pub buses :
-      All (IsFirstBus d (IsTakenBefore a z h v) (unit_in a.units v) (result_on d (unit_in a.units v) slot.cycle))
-      slot.transfers
-
-pub placed_in : (d : Datapath) (a : Assigned) (z : Schedule) (h : ℕ → ℕ) (v : ℕ) (slot : Slot)
-    → slot ≡ slot_of z v
-    → IsPlacedIn d a z h v slot
-    → IsPlaced d a z h v
-placed_in d a z h v slot same p =
-    let k = subst (IsPlacedIn d a z h v) same p in
-    record { can = k.can; least = k.least; destinations = k.destinations; buses = k.buses }
-
 module _ (d : Datapath) (a : Assigned) (live : (u : ℕ) → 1 ≤ latency_on d u) where
   -- node u is placed before node v by the one heights where it is by the others
   pub earlier_same : (g h : ℕ → ℕ)
@@ -126,184 +109,237 @@ module _ (d : Datapath) (a : Assigned) (live : (u : ℕ) → 1 ≤ latency_on d 
       let above = (hs x there).above v q r in let positive = live (unit_in a.units x) in
       record { node = there; before = inl (omega arith) }
 
-  module _ (inside : (v q x : ℕ) → Reads a.lowered.nodes v q x → x < length a.lowered.nodes) (s z : Schedule)
-      (g h : ℕ → ℕ) (gs : AreHeights d a g) (hs : AreHeights d a h) (v : ℕ) (there : v < length a.lowered.nodes)
-      (agree : (u : ℕ) → IsEarlier a h v u → slot_of s u ≡ slot_of z u) where
-    -- what is taken in the second schedule is taken in the first one
-    taken-back : (u : ℕ) (slot : Slot) → IsTakenBefore a z h v u slot → IsTakenBefore a s g v u slot
-    taken-back u slot t = record {
-      x = t.x;
-      earlier = earlier_same g h gs hs v t.x there t.earlier;
-      unit = t.unit;
-      its_slot = agree t.x t.earlier ∙ t.its_slot;
-    }
+-- The rules of the reservation table, the cycle before which operations end, and what else a node asks of its cycle.
+module _ (IsAway : (gap t u : ℕ) → Type 0) (IsSame : (w x : ℕ) → Type 0) (end : ℕ)
+    (Allows : Schedule → (height : ℕ → ℕ) → (v t : ℕ) → Type 0) (d : Datapath) (a : Assigned) where
+  abbrev Free : (IsTaken : (unit : ℕ) → Slot → Type 0) → (u w : ℕ) → PortRef → (b : ℕ) → Type 0
+  Free IsTaken u w port b = IsFreeRouteOver IsAway IsSame d IsTaken u w port b
 
-    pub free_same : (u w : ℕ) (port : PortRef) (b : ℕ)
-        → IsFreeRoute d (IsTakenBefore a s g v) u w port b
-        → IsFreeRoute d (IsTakenBefore a z h v) u w port b
-    free_same u w port b f = record { route = f.route; free = λ x slot t. f.free x slot (taken-back x slot t) }
+  abbrev Fitting : (IsTaken : (unit : ℕ) → Slot → Type 0) → (PortRef → Type 0) → (u t : ℕ) → Type 0
+  Fitting IsTaken IsTo u t = FitsOver IsAway IsSame d IsTaken end IsTo u t
 
-    fits-same : (u t : ℕ)
-        → Fits d (IsTakenBefore a s g v) (IsDestination a v) u t
-        → Fits d (IsTakenBefore a z h v) (IsDestination a v) u t
-    fits-same u t f = record {
-      period = f.period;
-      unit = λ slot x. f.unit slot (taken-back u slot x);
-      files = λ port dest w slot x. f.files port dest w slot (taken-back w slot x);
-      buses = λ port dest. let x = f.buses port dest in (x.0, free_same u (result_on d u t) port x.0 x.1);
-    }
+  abbrev First : (IsTaken : (unit : ℕ) → Slot → Type 0) → (u w : ℕ) → Transfer → Type 0
+  First IsTaken u w transfer = IsFirstBusOver IsAway IsSame d IsTaken u w transfer
 
-    pub can_same : (t : ℕ) → CanIssue d a s g v t → CanIssue d a z h v t
-    can_same t c = record {
-      operands = λ q x r.
-          subst (λ (slot : Slot). slot.cycle + latency_of d a x ≤ t)
-          (agree x (operand_earlier h hs v q x (inside v q x r.reads) r)) (c.operands q x r);
-      fits = fits-same (unit_in a.units v) t c.fits;
-      allows = c.allows;
-    }
+  abbrev Can : Schedule → (height : ℕ → ℕ) → (v t : ℕ) → Type 0
+  Can s h v t = CanIssueOver IsAway IsSame end Allows d a s h v t
 
-  -- a node keeps its place in a schedule that agrees up to it
-  module _ (inside : (v q x : ℕ) → Reads a.lowered.nodes v q x → x < length a.lowered.nodes) (s z : Schedule)
-      (h : ℕ → ℕ) (hs : AreHeights d a h) (v : ℕ) (there : v < length a.lowered.nodes)
-      (agree : (u : ℕ) → IsEarlier a h v u → slot_of s u ≡ slot_of z u) where
-    agree-back : (u : ℕ) → IsEarlier a h v u → slot_of z u ≡ slot_of s u
-    agree-back u r = sym (agree u r)
+  abbrev Placed : Schedule → (height : ℕ → ℕ) → (v : ℕ) → Type 0
+  Placed s h v = IsPlacedOver IsAway IsSame end Allows d a s h v
 
-    bus-kept : (x : Transfer)
-        → IsFirstBus d (IsTakenBefore a s h v) (unit_in a.units v) (ends d a s v) x
-        → IsFirstBus d (IsTakenBefore a z h v) (unit_in a.units v) (ends d a s v) x
-    bus-kept x f = record {
-      route = free_same inside s z h h hs hs v there agree (unit_in a.units v) (ends d a s v) x.port x.bus f.route;
-      first = λ b less r. f.first b less
-          (free_same inside z s h h hs hs v there agree-back (unit_in a.units v) (ends d a s v) x.port b r);
-    }
+  -- What else a node asks is the same in schedules that agree on the nodes that are placed before it.
+  abbrev pub AllowsAlike : Type 0
+  AllowsAlike =
+      (s z : Schedule) (g h : ℕ → ℕ)
+      → AreHeights d a g
+      → AreHeights d a h
+      → (v : ℕ)
+      → v < length a.lowered.nodes
+      → ((u : ℕ) → IsEarlier a h v u → slot_of s u ≡ slot_of z u)
+      → (t : ℕ)
+      → Allows s g v t
+      → Allows z h v t
 
-    kept-in : IsPlaced d a s h v → IsPlacedIn d a z h v (slot_of s v)
-    kept-in p = record {
-      can = can_same inside s z h h hs hs v there agree (cycle_of s v) p.can;
-      least = λ t less c. p.least t less (can_same inside z s h h hs hs v there agree-back t c);
-      destinations = p.destinations;
-      buses = λ i x less. bus-kept _ (p.buses i x less);
-    }
+  -- the place of node v, as its slot says it
+  pub record IsPlacedIn (z : Schedule) (h : ℕ → ℕ) (v : ℕ) (slot : Slot) : Type 0 where
+    pub can : Can z h v slot.cycle
+    pub least : (t : ℕ) → t < slot.cycle → Can z h v t → ⊥
+    pub destinations : AreDestinations a v (map (λ (transfer : Transfer). transfer.port) slot.transfers)
+    pub buses :
+        All (First (IsTakenBefore a z h v) (unit_in a.units v) (result_on d (unit_in a.units v) slot.cycle))
+        slot.transfers
 
-    pub placed_same : slot_of s v ≡ slot_of z v → IsPlaced d a s h v → IsPlaced d a z h v
-    placed_same same p = placed_in d a z h v (slot_of s v) same (kept-in p)
+  pub placed_in : (z : Schedule) (h : ℕ → ℕ) (v : ℕ) (slot : Slot)
+      → slot ≡ slot_of z v
+      → IsPlacedIn z h v slot
+      → Placed z h v
+  placed_in z h v slot same p =
+      let k = subst (IsPlacedIn z h v) same p in
+      record { can = k.can; least = k.least; destinations = k.destinations; buses = k.buses }
 
-  dest-in : (v : ℕ) (ps qs : List PortRef)
-      → AreDestinations a v ps
-      → AreDestinations a v qs
-      → (p : PortRef)
-      → Contains ps p
-      → Contains qs p
-  dest-in v ps qs x y p (i, less, is) =
-      let dest = subst (λ (r : PortRef). IsDestination a v r) is (x.read i p less) in
-      subst (λ (u : ℕ). Contains qs (port_of u p.port)) dest.unit (y.every dest.consumer p.port dest.reads)
+  module _ (live : (u : ℕ) → 1 ≤ latency_on d u) (alike : AllowsAlike) where
+    module _ (inside : (v q x : ℕ) → Reads a.lowered.nodes v q x → x < length a.lowered.nodes) (s z : Schedule)
+        (g h : ℕ → ℕ) (gs : AreHeights d a g) (hs : AreHeights d a h) (v : ℕ) (there : v < length a.lowered.nodes)
+        (agree : (u : ℕ) → IsEarlier a h v u → slot_of s u ≡ slot_of z u) where
+      -- what is taken in the second schedule is taken in the first one
+      taken-back : (u : ℕ) (slot : Slot) → IsTakenBefore a z h v u slot → IsTakenBefore a s g v u slot
+      taken-back u slot t = record {
+        x = t.x;
+        earlier = earlier_same d a live g h gs hs v t.x there t.earlier;
+        unit = t.unit;
+        its_slot = agree t.x t.earlier ∙ t.its_slot;
+      }
 
-  pub one_destinations : (v : ℕ) (ps qs : List PortRef) → AreDestinations a v ps → AreDestinations a v qs → ps ≡ qs
-  one_destinations v ps qs x y =
-      same_order IsPortBefore ports_one_way ps qs x.order y.order (λ p. dest-in v ps qs x y p)
-      (λ p. dest-in v qs ps y x p)
+      pub free_same : (u w : ℕ) (port : PortRef) (b : ℕ)
+          → Free (IsTakenBefore a s g v) u w port b
+          → Free (IsTakenBefore a z h v) u w port b
+      free_same u w port b f = record { route = f.route; free = λ x slot t. f.free x slot (taken-back x slot t) }
 
-  -- of nodes that have their places in both schedules, where those before them have theirs too
-  module _ (inside : (v q x : ℕ) → Reads a.lowered.nodes v q x → x < length a.lowered.nodes) (s z : Schedule)
-      (g h : ℕ → ℕ) (gs : AreHeights d a g) (hs : AreHeights d a h) (Has : ℕ → Type 0)
-      (closed : (v u : ℕ) → Has v → IsEarlier a g v u → Has u)
-      (placed_s : (v : ℕ) → v < length a.lowered.nodes → Has v → IsPlaced d a s g v)
-      (placed_z : (v : ℕ) → v < length a.lowered.nodes → Has v → IsPlaced d a z h v) where
-    abbrev First_s : ℕ → ℕ → Transfer → Type 0
-    First_s v w x = IsFirstBus d (IsTakenBefore a s g v) (unit_in a.units v) w x
+      fits-same : (u t : ℕ)
+          → Fitting (IsTakenBefore a s g v) (IsDestination a v) u t
+          → Fitting (IsTakenBefore a z h v) (IsDestination a v) u t
+      fits-same u t f = record {
+        period = f.period;
+        unit = λ slot x. f.unit slot (taken-back u slot x);
+        files = λ port dest w slot x. f.files port dest w slot (taken-back w slot x);
+        buses = λ port dest. let x = f.buses port dest in (x.0, free_same u (result_on d u t) port x.0 x.1);
+      }
 
-    abbrev First_z : ℕ → ℕ → Transfer → Type 0
-    First_z v w x = IsFirstBus d (IsTakenBefore a z h v) (unit_in a.units v) w x
+      pub can_same : (t : ℕ) → Can s g v t → Can z h v t
+      can_same t c = record {
+        operands = λ q x r.
+            subst (λ (slot : Slot). slot.cycle + latency_of d a x ≤ t)
+            (agree x (operand_earlier d a live h hs v q x (inside v q x r.reads) r)) (c.operands q x r);
+        fits = fits-same (unit_in a.units v) t c.fits;
+        allows = alike s z g h gs hs v there agree t c.allows;
+      }
 
-    slot-same : (v : ℕ)
-        → v < length a.lowered.nodes
-        → Has v
-        → ((u : ℕ) → IsEarlier a g v u → slot_of s u ≡ slot_of z u)
-        → slot_of s v ≡ slot_of z v
-    slot-same v there has agree =
-        let ps = placed_s v there has in let pz = placed_z v there has in
-        let to = λ (t : ℕ) (c : CanIssue d a s g v t). can_same inside s z g h gs hs v there agree_h t c in
-        let from = λ (t : ℕ) (c : CanIssue d a z h v t). can_same inside z s h g hs gs v there agree_back t c in
-        let cycle = neither_less (cycle_of s v) (cycle_of z v)
-        (λ less. pz.least (cycle_of s v) less (to (cycle_of s v) ps.can))
-        (λ less. ps.least (cycle_of z v) less (from (cycle_of z v) pz.can)) in
-        let ports = one_destinations v (map (λ (t : Transfer). t.port) (slot_of s v).transfers)
-        (map (λ (t : Transfer). t.port) (slot_of z v).transfers) ps.destinations pz.destinations in
-        let end = ap (λ (t : ℕ). result_on d (unit_in a.units v) t) cycle in
-        let transfers =
-        same_by_key (λ (t : Transfer). t.port) (First_s v (ends d a s v)) (First_z v (ends d a z v))
-        (bus-same (ends d a s v) (ends d a z v) end)
-        (slot_of s v).transfers (slot_of z v).transfers ports ps.buses pz.buses in
-        ap₂ (λ (c : ℕ) (ts : List Transfer). record { cycle = c; transfers = ts }) cycle transfers
-      where
-        agree_h : (u : ℕ) → IsEarlier a h v u → slot_of s u ≡ slot_of z u
-        agree_h u r = agree u (earlier_same g h gs hs v u there r)
+    -- a node keeps its place in a schedule that agrees up to it
+    module _ (inside : (v q x : ℕ) → Reads a.lowered.nodes v q x → x < length a.lowered.nodes) (s z : Schedule)
+        (h : ℕ → ℕ) (hs : AreHeights d a h) (v : ℕ) (there : v < length a.lowered.nodes)
+        (agree : (u : ℕ) → IsEarlier a h v u → slot_of s u ≡ slot_of z u) where
+      agree-back : (u : ℕ) → IsEarlier a h v u → slot_of z u ≡ slot_of s u
+      agree-back u r = sym (agree u r)
 
-        agree_back : (u : ℕ) → IsEarlier a g v u → slot_of z u ≡ slot_of s u
-        agree_back u r = sym (agree u r)
+      bus-kept : (x : Transfer)
+          → First (IsTakenBefore a s h v) (unit_in a.units v) (ends d a s v) x
+          → First (IsTakenBefore a z h v) (unit_in a.units v) (ends d a s v) x
+      bus-kept x f = record {
+        route = free_same inside s z h h hs hs v there agree (unit_in a.units v) (ends d a s v) x.port x.bus f.route;
+        first = λ b less r. f.first b less
+            (free_same inside z s h h hs hs v there agree-back (unit_in a.units v) (ends d a s v) x.port b r);
+      }
 
-        forth : (w x : ℕ) (p q : PortRef) (b : ℕ)
-            → w ≡ x
-            → p ≡ q
-            → IsFreeRoute d (IsTakenBefore a s g v) (unit_in a.units v) w p b
-            → IsFreeRoute d (IsTakenBefore a z h v) (unit_in a.units v) x q b
-        forth w x p q b ew ep f =
-            subst₂ (λ (y : ℕ) (r : PortRef). IsFreeRoute d (IsTakenBefore a z h v) (unit_in a.units v) y r b) ew ep
-            (free_same inside s z g h gs hs v there agree_h (unit_in a.units v) w p b f)
+      kept-in : Placed s h v → IsPlacedIn z h v (slot_of s v)
+      kept-in p = record {
+        can = can_same inside s z h h hs hs v there agree (cycle_of s v) p.can;
+        least = λ t less c. p.least t less (can_same inside z s h h hs hs v there agree-back t c);
+        destinations = p.destinations;
+        buses = λ i x less. bus-kept _ (p.buses i x less);
+      }
 
-        back : (w x : ℕ) (p q : PortRef) (b : ℕ)
-            → w ≡ x
-            → p ≡ q
-            → IsFreeRoute d (IsTakenBefore a z h v) (unit_in a.units v) w p b
-            → IsFreeRoute d (IsTakenBefore a s g v) (unit_in a.units v) x q b
-        back w x p q b ew ep f =
-            subst₂ (λ (y : ℕ) (r : PortRef). IsFreeRoute d (IsTakenBefore a s g v) (unit_in a.units v) y r b) ew ep
-            (free_same inside z s h g hs gs v there agree_back (unit_in a.units v) w p b f)
+      pub placed_same : slot_of s v ≡ slot_of z v → Placed s h v → Placed z h v
+      placed_same same p = placed_in z h v (slot_of s v) same (kept-in p)
 
-        bus-same : (w e : ℕ) → w ≡ e → (x y : Transfer) → x.port ≡ y.port → First_s v w x → First_z v e y → x ≡ y
-        bus-same w e end x y port fx fy =
-            let bus = neither_less x.bus y.bus
-            (λ less. fy.first x.bus less (forth w e x.port y.port x.bus end port fx.route))
-            (λ less. fx.first y.bus less (back e w y.port x.port y.bus (sym end) (sym port) fy.route)) in
-            ap₂ (λ (p : PortRef) (b : ℕ). record { port = p; bus = b }) port bus
+    dest-in : (v : ℕ) (ps qs : List PortRef)
+        → AreDestinations a v ps
+        → AreDestinations a v qs
+        → (p : PortRef)
+        → Contains ps p
+        → Contains qs p
+    dest-in v ps qs x y p (i, less, is) =
+        let dest = subst (λ (r : PortRef). IsDestination a v r) is (x.read i p less) in
+        subst (λ (u : ℕ). Contains qs (port_of u p.port)) dest.unit (y.every dest.consumer p.port dest.reads)
 
-    -- by falling height, and at one height by number
-    inner : (b k : ℕ)
-        → ((u : ℕ) → u < length a.lowered.nodes → Has u → b < k + g u → slot_of s u ≡ slot_of z u)
-        → (m v : ℕ)
-        → v < m
-        → v < length a.lowered.nodes
-        → Has v
-        → b < suc k + g v
-        → slot_of s v ≡ slot_of z v
-    inner b k outer zero v less there has high = absurd (omega arith)
-    inner b k outer (suc m) v less there has high = slot-same v there has
-        (λ u r. by (λ w w_less w_there w_has w_high. inner b k outer m w w_less w_there w_has w_high) u r.node
-        (closed v u has r) r.before)
-      where
-        by : ((w : ℕ) → w < m → w < length a.lowered.nodes → Has w → b < suc k + g w → slot_of s w ≡ slot_of z w)
-            → (u : ℕ)
-            → u < length a.lowered.nodes
-            → Has u
-            → IsPlacedBefore g u v
-            → slot_of s u ≡ slot_of z u
-        by rest u u_there u_has (inl x) = outer u u_there u_has (omega arith)
-        by rest u u_there u_has (inr x) =
-            let e = x.0 in let lower = x.1 in rest u (omega arith) u_there u_has (omega arith)
+    pub one_destinations : (v : ℕ) (ps qs : List PortRef) → AreDestinations a v ps → AreDestinations a v qs → ps ≡ qs
+    one_destinations v ps qs x y =
+        same_order IsPortBefore ports_one_way ps qs x.order y.order (λ p. dest-in v ps qs x y p)
+        (λ p. dest-in v qs ps y x p)
 
-    level : (b : ℕ)
-        → ((v : ℕ) → v < length a.lowered.nodes → g v ≤ b)
-        → (k v : ℕ)
-        → v < length a.lowered.nodes
-        → Has v
-        → b < k + g v
-        → slot_of s v ≡ slot_of z v
-    level b most zero v there has high = let small = most v there in absurd (omega arith)
-    level b most (suc k) v there has high =
-        inner b k (λ u u_there u_has u_high. level b most k u u_there u_has u_high) (suc v) v
-        (omega arith) there has high
+    -- of nodes that have their places in both schedules, where those before them have theirs too
+    module _ (inside : (v q x : ℕ) → Reads a.lowered.nodes v q x → x < length a.lowered.nodes) (s z : Schedule)
+        (g h : ℕ → ℕ) (gs : AreHeights d a g) (hs : AreHeights d a h) (Has : ℕ → Type 0)
+        (closed : (v u : ℕ) → Has v → IsEarlier a g v u → Has u)
+        (placed_s : (v : ℕ) → v < length a.lowered.nodes → Has v → Placed s g v)
+        (placed_z : (v : ℕ) → v < length a.lowered.nodes → Has v → Placed z h v) where
+      abbrev First_s : ℕ → ℕ → Transfer → Type 0
+      First_s v w x = First (IsTakenBefore a s g v) (unit_in a.units v) w x
 
-    pub one_slot : (v : ℕ) → v < length a.lowered.nodes → Has v → slot_of s v ≡ slot_of z v
-    one_slot v there has =
-        let b = bounded (length a.lowered.nodes) g in level b.0 b.1 (suc b.0) v there has (omega arith)
+      abbrev First_z : ℕ → ℕ → Transfer → Type 0
+      First_z v w x = First (IsTakenBefore a z h v) (unit_in a.units v) w x
+
+      slot-same : (v : ℕ)
+          → v < length a.lowered.nodes
+          → Has v
+          → ((u : ℕ) → IsEarlier a g v u → slot_of s u ≡ slot_of z u)
+          → slot_of s v ≡ slot_of z v
+      slot-same v there has agree =
+          let ps = placed_s v there has in let pz = placed_z v there has in
+          let to = λ (t : ℕ) (c : Can s g v t). can_same inside s z g h gs hs v there agree_h t c in
+          let from = λ (t : ℕ) (c : Can z h v t). can_same inside z s h g hs gs v there agree_back t c in
+          let cycle = neither_less (cycle_of s v) (cycle_of z v)
+          (λ less. pz.least (cycle_of s v) less (to (cycle_of s v) ps.can))
+          (λ less. ps.least (cycle_of z v) less (from (cycle_of z v) pz.can)) in
+          let ports = one_destinations v (map (λ (t : Transfer). t.port) (slot_of s v).transfers)
+          (map (λ (t : Transfer). t.port) (slot_of z v).transfers) ps.destinations pz.destinations in
+          let end = ap (λ (t : ℕ). result_on d (unit_in a.units v) t) cycle in
+          let transfers =
+          same_by_key (λ (t : Transfer). t.port) (First_s v (ends d a s v)) (First_z v (ends d a z v))
+          (bus-same (ends d a s v) (ends d a z v) end)
+          (slot_of s v).transfers (slot_of z v).transfers ports ps.buses pz.buses in
+          ap₂ (λ (c : ℕ) (ts : List Transfer). record { cycle = c; transfers = ts }) cycle transfers
+        where
+          agree_h : (u : ℕ) → IsEarlier a h v u → slot_of s u ≡ slot_of z u
+          agree_h u r = agree u (earlier_same d a live g h gs hs v u there r)
+
+          agree_back : (u : ℕ) → IsEarlier a g v u → slot_of z u ≡ slot_of s u
+          agree_back u r = sym (agree u r)
+
+          forth : (w x : ℕ) (p q : PortRef) (b : ℕ)
+              → w ≡ x
+              → p ≡ q
+              → Free (IsTakenBefore a s g v) (unit_in a.units v) w p b
+              → Free (IsTakenBefore a z h v) (unit_in a.units v) x q b
+          forth w x p q b ew ep f =
+              subst₂ (λ (y : ℕ) (r : PortRef). Free (IsTakenBefore a z h v) (unit_in a.units v) y r b) ew ep
+              (free_same inside s z g h gs hs v there agree_h (unit_in a.units v) w p b f)
+
+          back : (w x : ℕ) (p q : PortRef) (b : ℕ)
+              → w ≡ x
+              → p ≡ q
+              → Free (IsTakenBefore a z h v) (unit_in a.units v) w p b
+              → Free (IsTakenBefore a s g v) (unit_in a.units v) x q b
+          back w x p q b ew ep f =
+              subst₂ (λ (y : ℕ) (r : PortRef). Free (IsTakenBefore a s g v) (unit_in a.units v) y r b) ew ep
+              (free_same inside z s h g hs gs v there agree_back (unit_in a.units v) w p b f)
+
+          bus-same : (w e : ℕ) → w ≡ e → (x y : Transfer) → x.port ≡ y.port → First_s v w x → First_z v e y → x ≡ y
+          bus-same w e end x y port fx fy =
+              let bus = neither_less x.bus y.bus
+              (λ less. fy.first x.bus less (forth w e x.port y.port x.bus end port fx.route))
+              (λ less. fx.first y.bus less (back e w y.port x.port y.bus (sym end) (sym port) fy.route)) in
+              ap₂ (λ (p : PortRef) (b : ℕ). record { port = p; bus = b }) port bus
+
+      -- by falling height, and at one height by number
+      inner : (b k : ℕ)
+          → ((u : ℕ) → u < length a.lowered.nodes → Has u → b < k + g u → slot_of s u ≡ slot_of z u)
+          → (m v : ℕ)
+          → v < m
+          → v < length a.lowered.nodes
+          → Has v
+          → b < suc k + g v
+          → slot_of s v ≡ slot_of z v
+      inner b k outer zero v less there has high = absurd (omega arith)
+      inner b k outer (suc m) v less there has high = slot-same v there has
+          (λ u r. by (λ w w_less w_there w_has w_high. inner b k outer m w w_less w_there w_has w_high) u r.node
+          (closed v u has r) r.before)
+        where
+          by : ((w : ℕ) → w < m → w < length a.lowered.nodes → Has w → b < suc k + g w → slot_of s w ≡ slot_of z w)
+              → (u : ℕ)
+              → u < length a.lowered.nodes
+              → Has u
+              → IsPlacedBefore g u v
+              → slot_of s u ≡ slot_of z u
+          by rest u u_there u_has (inl x) = outer u u_there u_has (omega arith)
+          by rest u u_there u_has (inr x) =
+              let e = x.0 in let lower = x.1 in rest u (omega arith) u_there u_has (omega arith)
+
+      level : (b : ℕ)
+          → ((v : ℕ) → v < length a.lowered.nodes → g v ≤ b)
+          → (k v : ℕ)
+          → v < length a.lowered.nodes
+          → Has v
+          → b < k + g v
+          → slot_of s v ≡ slot_of z v
+      level b most zero v there has high = let small = most v there in absurd (omega arith)
+      level b most (suc k) v there has high =
+          inner b k (λ u u_there u_has u_high. level b most k u u_there u_has u_high) (suc v) v
+          (omega arith) there has high
+
+      pub one_slot : (v : ℕ) → v < length a.lowered.nodes → Has v → slot_of s v ≡ slot_of z v
+      one_slot v there has =
+          let b = bounded (length a.lowered.nodes) g in level b.0 b.1 (suc b.0) v there has (omega arith)
+
+-- where nothing else is asked, that is so
+pub any_alike : (d : Datapath) (a : Assigned) → AllowsAlike IsGapApart IsOneCycle d.period AnyCycle d a
+any_alike d a s z g h gs hs v there agree t any = tt {0}

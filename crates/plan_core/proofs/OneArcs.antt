@@ -8,8 +8,8 @@ use Rattle.plan_core.specs.Hardware.{port_of}
 use Rattle.plan_core.specs.Operands.{Reads}
 use Rattle.plan_core.specs.Assigned.{unit_in}
 use Rattle.plan_core.specs.ListSchedule.{ends, IsPortBefore}
-use Rattle.plan_core.specs.Arcs.{no_arc, arc_of, ReadsArc, read_cycle, IsArc, IsWrittenBefore, IsArcBefore, IsArcs}
-use Rattle.plan_core.specs.Arcs.{IsUnroll}
+use Rattle.plan_core.specs.Arcs.{no_arc, arc_of, ReadsArc, read_cycle, IsArcOver, IsWrittenBefore, IsArcBefore}
+use Rattle.plan_core.specs.Arcs.{IsArcsOver, IsArcs, IsUnroll}
 use Rattle.plan_core.specs.declared.registers.Arc.{Arc}
 use Rattle.plan_core.specs.declared.schedule.Assigned.{Assigned}
 use Rattle.plan_core.specs.declared.schedule.Schedule.{Schedule}
@@ -45,7 +45,8 @@ arc_from x y node port w r copies =
     ∙ ap (λ (n : ℕ). record { node = y.node; port = y.port; w = y.w; r = n; copies = x.copies }) r
     ∙ ap (λ (n : ℕ). record { node = y.node; port = y.port; w = y.w; r = y.r; copies = n }) copies
 
-module _ (d : Datapath) (a : Assigned) (s : Schedule) where
+-- lifetimes by when words are written and read
+module _ (written_at : (v : ℕ) → ℕ) (read_at : (v c q : ℕ) → ℕ) (d : Datapath) (a : Assigned) where
   reads-same : (x y : Arc) (c : ℕ) → x.node ≡ y.node → x.port ≡ y.port → ReadsArc a x c → ReadsArc a y c
   reads-same x y c node port r = record {
     reads = subst (λ (p : PortRef). Reads a.lowered.nodes c p.port y.node) port
@@ -53,26 +54,27 @@ module _ (d : Datapath) (a : Assigned) (s : Schedule) where
     unit = r.unit ∙ ap (λ (p : PortRef). p.unit) port;
   }
 
-  last-below : (x y : Arc) → x.node ≡ y.node → x.port ≡ y.port → IsArc d a s x → IsArc d a s y → x.r ≤ y.r
+  last-below : (x y : Arc) → x.node ≡ y.node → x.port ≡ y.port → IsArcOver written_at read_at d a x → IsArcOver written_at read_at d a y → x.r ≤ y.r
   last-below x y node port h k =
       let c = h.read.0 in
-      subst (λ (n : ℕ). n ≤ y.r) (sym (h.read.2 ∙ ap (λ (p : PortRef). read_cycle d a s c p.port) port))
+      subst (λ (n : ℕ). n ≤ y.r)
+      (sym (h.read.2 ∙ ap (λ (p : PortRef). read_at x.node c p.port) port ∙ ap (λ (v : ℕ). read_at v c y.port.port) node))
       (k.last c (reads-same x y c node port h.read.1))
 
-  copies-below : (x y : Arc) → x.w ≡ y.w → x.r ≡ y.r → IsArc d a s x → IsArc d a s y → x.copies ≤ y.copies
+  copies-below : (x y : Arc) → x.w ≡ y.w → x.r ≡ y.r → IsArcOver written_at read_at d a x → IsArcOver written_at read_at d a y → x.copies ≤ y.copies
   copies-below x y w r h k =
       h.least y.copies k.count (subst₂ (λ (m n : ℕ). m ≤ n + y.copies * d.period) (sym r) (sym w) k.covered)
 
-  pub one_arc : (x y : Arc) → x.node ≡ y.node → x.port ≡ y.port → IsArc d a s x → IsArc d a s y → x ≡ y
+  one_arc : (x y : Arc) → x.node ≡ y.node → x.port ≡ y.port → IsArcOver written_at read_at d a x → IsArcOver written_at read_at d a y → x ≡ y
   one_arc x y node port h k =
-      let w = h.written ∙ ap (λ (n : ℕ). ends d a s n) node ∙ sym k.written in
+      let w = h.written ∙ ap written_at node ∙ sym k.written in
       let r = le_antisymm (last-below x y node port h k) (last-below y x (sym node) (sym port) k h) in
       let copies = le_antisymm (copies-below x y w r h k) (copies-below y x (sym w) (sym r) k h) in
       arc_from x y node port w r copies
 
-  arc-in : (xs ys : List Arc) → IsArcs d a s xs → IsArcs d a s ys → (x : Arc) → Contains xs x → Contains ys x
+  arc-in : (xs ys : List Arc) → IsArcsOver written_at read_at d a xs → IsArcsOver written_at read_at d a ys → (x : Arc) → Contains xs x → Contains ys x
   arc-in xs ys h k x (i, less, is) =
-      let at = subst (λ (z : Arc). IsArc d a s z) is (h.each i x less) in
+      let at = subst (λ (z : Arc). IsArcOver written_at read_at d a z) is (h.each i x less) in
       let reader = at.read.1 in
       let other = k.every at.read.0 x.port.port x.node reader.reads in
       let port : port_of (unit_in a.units at.read.0) x.port.port ≡ x.port = ap
@@ -81,9 +83,15 @@ module _ (d : Datapath) (a : Assigned) (s : Schedule) where
       (k.each other.0 no_arc other.1) at in
       (other.0, other.1, get_or_default ys other.0 x no_arc other.1 ∙ same)
 
-  pub one_arcs : (xs ys : List Arc) → IsArcs d a s xs → IsArcs d a s ys → xs ≡ ys
-  one_arcs xs ys h k =
+  pub one_arcs_over : (xs ys : List Arc) → IsArcsOver written_at read_at d a xs → IsArcsOver written_at read_at d a ys → xs ≡ ys
+  one_arcs_over xs ys h k =
       same_order IsArcBefore arcs_one_way xs ys h.order k.order (λ x. arc-in xs ys h k x) (λ x. arc-in ys xs k h x)
+
+pub one_arcs : (d : Datapath) (a : Assigned) (s : Schedule) (xs ys : List Arc)
+    → IsArcs d a s xs
+    → IsArcs d a s ys
+    → xs ≡ ys
+one_arcs d a s = one_arcs_over (ends d a s) (λ (v c q : ℕ). read_cycle d a s c q) d a
 
 unroll-below : (arcs : List Arc) (m n : ℕ) → IsUnroll arcs m → IsUnroll arcs n → m ≤ n
 unroll-below arcs m n h k = by h.reached

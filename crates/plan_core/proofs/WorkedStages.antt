@@ -18,8 +18,8 @@ use Rattle.plan_core.proofs.OperandTests.{is_acu_of}
 use Rattle.plan_core.proofs.AssignedTests.{is_assigned}
 use Rattle.plan_core.proofs.LoweredTests.{are_all_long, has_room, held_edge, loaded_edge}
 use Rattle.plan_core.proofs.RegisterTests.{is_unroll, is_first_fit}
-use Rattle.plan_core.proofs.StagedRules.{IsStageSchedule, staged, IsWithoutStage, without_stage, AreStageArcs}
-use Rattle.plan_core.proofs.StagedRules.{are_stage_arcs}
+use Rattle.plan_core.specs.Stages.{IsStageSchedule, IsWithoutStage, AreStageArcs}
+use Rattle.plan_core.proofs.StagedRules.{staged, without_stage, are_stage_arcs}
 use Rattle.plan_core.proofs.Rows.{plain_path, increment_plan}
 use Rattle.plan_core.proofs.Rows.{filter_path, byte, edge, heights, input_node, sum_node, output_node, at, over, life}
 
@@ -236,9 +236,9 @@ pub sums_assigned : IsAssigned sums_path sums_plan.assigned
 sums_assigned = passed (is_assigned sums_path sums_plan.assigned) refl
 
 -- each node has the least cycle by the rules of overlapped samples
-pub sums_scheduled : IsStageSchedule 2 sums_path sums_plan.assigned sums_plan.schedule
+pub sums_scheduled : IsStageSchedule 2 sums_delays sums_path sums_plan.assigned sums_plan.schedule
 sums_scheduled =
-    staged 2 sums_path sums_plan.assigned sums_plan.schedule
+    staged 2 sums_delays sums_path sums_plan.assigned sums_plan.schedule
     (heights (3 ∷ 2 ∷ 1 ∷ 6 ∷ 5 ∷ 4 ∷ 2 ∷ 1 ∷ 6 ∷ 5 ∷ 3 ∷ 2 ∷ 1 ∷ [])) refl refl refl
 
 pub sums_arcs : AreStageArcs sums_path sums_plan.assigned sums_plan.schedule sums_plan.arcs
@@ -361,9 +361,9 @@ pub delayed_assigned : IsAssigned held_path delayed_plan.assigned
 delayed_assigned = passed (is_assigned held_path delayed_plan.assigned) refl
 
 -- each node has the least cycle by the rules of overlapped samples
-pub delayed_scheduled : IsStageSchedule 2 held_path delayed_plan.assigned delayed_plan.schedule
+pub delayed_scheduled : IsStageSchedule 2 delayed_delays held_path delayed_plan.assigned delayed_plan.schedule
 delayed_scheduled =
-    staged 2 held_path delayed_plan.assigned delayed_plan.schedule
+    staged 2 delayed_delays held_path delayed_plan.assigned delayed_plan.schedule
     (heights (2 ∷ 2 ∷ 1 ∷ 4 ∷ 3 ∷ 2 ∷ 1 ∷ [])) refl refl refl
 
 pub delayed_arcs : AreStageArcs held_path delayed_plan.assigned delayed_plan.schedule delayed_plan.arcs
@@ -378,23 +378,26 @@ delayed_fitted =
 
 -- y = x + 1 in samples of three cycles: in two stages its four nodes keep their cycles, and in one the output has none
 
-abbrev three_cycles : Datapath
+abbrev pub increment_delays : List (List ℕ)
+increment_delays = [] ∷ [] ∷ [] ∷ [] ∷ []
+
+abbrev pub three_cycles : Datapath
 three_cycles = record (plain_path 0) { period = 3 }
 
-pub increment_scheduled : IsStageSchedule 2 three_cycles increment_plan.assigned increment_plan.schedule
+pub increment_scheduled : IsStageSchedule 2 increment_delays three_cycles increment_plan.assigned increment_plan.schedule
 increment_scheduled =
-    staged 2 three_cycles increment_plan.assigned increment_plan.schedule (heights (3 ∷ 3 ∷ 2 ∷ 1 ∷ [])) refl refl refl
+    staged 2 increment_delays three_cycles increment_plan.assigned increment_plan.schedule (heights (3 ∷ 3 ∷ 2 ∷ 1 ∷ [])) refl refl refl
 
-one_stage_short : IsWithoutStage 1 three_cycles increment_plan.assigned 3
+pub one_stage_short : IsWithoutStage 1 increment_delays three_cycles increment_plan.assigned 3
 one_stage_short =
-    without_stage 1 three_cycles increment_plan.assigned increment_plan.schedule (heights (3 ∷ 3 ∷ 2 ∷ 1 ∷ [])) 3
+    without_stage 1 increment_delays three_cycles increment_plan.assigned increment_plan.schedule (heights (3 ∷ 3 ∷ 2 ∷ 1 ∷ [])) 3
     (omega arith) (omega arith) refl refl refl
 
 -- in samples of two cycles the one bus has two cycles for three transfers, however many stages there are
-abbrev two_cycles : Datapath
+abbrev pub two_cycles : Datapath
 two_cycles = record (plain_path 0) { period = 2 }
 
-bus_bound : IsWithoutStage 4 two_cycles increment_plan.assigned 2
+pub bus_bound : IsWithoutStage 4 increment_delays two_cycles increment_plan.assigned 2
 bus_bound =
-    without_stage 4 two_cycles increment_plan.assigned increment_plan.schedule (heights (3 ∷ 3 ∷ 2 ∷ 1 ∷ [])) 2
+    without_stage 4 increment_delays two_cycles increment_plan.assigned increment_plan.schedule (heights (3 ∷ 3 ∷ 2 ∷ 1 ∷ [])) 2
     (omega arith) (omega arith) refl refl refl

@@ -10,3 +10,4 @@ pub mod Circle
 pub mod FirstFit
 pub mod IsPlan
 pub mod Refusals
+pub mod Stages
