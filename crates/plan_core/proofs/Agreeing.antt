@@ -12,7 +12,8 @@ use Rattle.plan_core.specs.Assigned.{unit_in}
 use Rattle.plan_core.specs.Heights.{ReadsNow, latency_of, AreHeights, IsPlacedBefore}
 use Rattle.plan_core.specs.Reservations.{result_on, IsFreeRouteOver, FitsOver, IsFirstBusOver, IsGapApart, IsOneCycle}
 use Rattle.plan_core.specs.ListSchedule.{slot_of, cycle_of, ends, IsDestination, IsPortBefore, AreDestinations}
-use Rattle.plan_core.specs.ListSchedule.{IsEarlier, IsTakenBefore, CanIssueOver, IsPlacedOver, AnyCycle}
+use Rattle.plan_core.specs.ListSchedule.{IsEarlier, IsTakenBefore, CanIssueOver, IsPlacedOver, AnyCycle, CanIssue}
+use Rattle.plan_core.specs.ListSchedule.{IsPlaced}
 use Rattle.plan_core.specs.declared.schedule.Assigned.{Assigned}
 use Rattle.plan_core.specs.declared.schedule.Transfer.{Transfer}
 use Rattle.plan_core.specs.declared.schedule.Slot.{Slot}
@@ -149,11 +150,11 @@ module _ (IsAway : (gap t u : ℕ) → Type 0) (IsSame : (w x : ℕ) → Type 0)
         All (First (IsTakenBefore a z h v) (unit_in a.units v) (result_on d (unit_in a.units v) slot.cycle))
         slot.transfers
 
-  pub placed_in : (z : Schedule) (h : ℕ → ℕ) (v : ℕ) (slot : Slot)
+  pub placed_in_over : (z : Schedule) (h : ℕ → ℕ) (v : ℕ) (slot : Slot)
       → slot ≡ slot_of z v
       → IsPlacedIn z h v slot
       → Placed z h v
-  placed_in z h v slot same p =
+  placed_in_over z h v slot same p =
       let k = subst (IsPlacedIn z h v) same p in
       record { can = k.can; least = k.least; destinations = k.destinations; buses = k.buses }
 
@@ -185,8 +186,8 @@ module _ (IsAway : (gap t u : ℕ) → Type 0) (IsSame : (w x : ℕ) → Type 0)
         buses = λ port dest. let x = f.buses port dest in (x.0, free_same u (result_on d u t) port x.0 x.1);
       }
 
-      pub can_same : (t : ℕ) → Can s g v t → Can z h v t
-      can_same t c = record {
+      pub can_same_over : (t : ℕ) → Can s g v t → Can z h v t
+      can_same_over t c = record {
         operands = λ q x r.
             subst (λ (slot : Slot). slot.cycle + latency_of d a x ≤ t)
             (agree x (operand_earlier d a live h hs v q x (inside v q x r.reads) r)) (c.operands q x r);
@@ -212,14 +213,14 @@ module _ (IsAway : (gap t u : ℕ) → Type 0) (IsSame : (w x : ℕ) → Type 0)
 
       kept-in : Placed s h v → IsPlacedIn z h v (slot_of s v)
       kept-in p = record {
-        can = can_same inside s z h h hs hs v there agree (cycle_of s v) p.can;
-        least = λ t less c. p.least t less (can_same inside z s h h hs hs v there agree-back t c);
+        can = can_same_over inside s z h h hs hs v there agree (cycle_of s v) p.can;
+        least = λ t less c. p.least t less (can_same_over inside z s h h hs hs v there agree-back t c);
         destinations = p.destinations;
         buses = λ i x less. bus-kept _ (p.buses i x less);
       }
 
-      pub placed_same : slot_of s v ≡ slot_of z v → Placed s h v → Placed z h v
-      placed_same same p = placed_in z h v (slot_of s v) same (kept-in p)
+      pub placed_same_over : slot_of s v ≡ slot_of z v → Placed s h v → Placed z h v
+      placed_same_over same p = placed_in_over z h v (slot_of s v) same (kept-in p)
 
     dest-in : (v : ℕ) (ps qs : List PortRef)
         → AreDestinations a v ps
@@ -255,8 +256,8 @@ module _ (IsAway : (gap t u : ℕ) → Type 0) (IsSame : (w x : ℕ) → Type 0)
           → slot_of s v ≡ slot_of z v
       slot-same v there has agree =
           let ps = placed_s v there has in let pz = placed_z v there has in
-          let to = λ (t : ℕ) (c : Can s g v t). can_same inside s z g h gs hs v there agree_h t c in
-          let from = λ (t : ℕ) (c : Can z h v t). can_same inside z s h g hs gs v there agree_back t c in
+          let to = λ (t : ℕ) (c : Can s g v t). can_same_over inside s z g h gs hs v there agree_h t c in
+          let from = λ (t : ℕ) (c : Can z h v t). can_same_over inside z s h g hs gs v there agree_back t c in
           let cycle = neither_less (cycle_of s v) (cycle_of z v)
           (λ less. pz.least (cycle_of s v) less (to (cycle_of s v) ps.can))
           (λ less. ps.least (cycle_of z v) less (from (cycle_of z v) pz.can)) in
@@ -336,10 +337,54 @@ module _ (IsAway : (gap t u : ℕ) → Type 0) (IsSame : (w x : ℕ) → Type 0)
           inner b k (λ u u_there u_has u_high. level b most k u u_there u_has u_high) (suc v) v
           (omega arith) there has high
 
-      pub one_slot : (v : ℕ) → v < length a.lowered.nodes → Has v → slot_of s v ≡ slot_of z v
-      one_slot v there has =
+      pub one_slot_over : (v : ℕ) → v < length a.lowered.nodes → Has v → slot_of s v ≡ slot_of z v
+      one_slot_over v there has =
           let b = bounded (length a.lowered.nodes) g in level b.0 b.1 (suc b.0) v there has (omega arith)
 
 -- where nothing else is asked, that is so
 pub any_alike : (d : Datapath) (a : Assigned) → AllowsAlike IsGapApart IsOneCycle d.period AnyCycle d a
 any_alike d a s z g h gs hs v there agree t any = tt {0}
+
+-- the same where one sample is in flight at a time
+module _ (d : Datapath) (a : Assigned) where
+  pub placed_in : (z : Schedule) (h : ℕ → ℕ) (v : ℕ) (slot : Slot)
+      → slot ≡ slot_of z v
+      → IsPlacedIn IsGapApart IsOneCycle d.period AnyCycle d a z h v slot
+      → IsPlaced d a z h v
+  placed_in z h v slot same p = placed_in_over IsGapApart IsOneCycle d.period AnyCycle d a z h v slot same p
+
+  module _ (live : (u : ℕ) → 1 ≤ latency_on d u)
+      (inside : (v q x : ℕ) → Reads a.lowered.nodes v q x → x < length a.lowered.nodes) (s z : Schedule) where
+    pub can_same : (g h : ℕ → ℕ)
+        → AreHeights d a g
+        → AreHeights d a h
+        → (v : ℕ)
+        → v < length a.lowered.nodes
+        → ((u : ℕ) → IsEarlier a h v u → slot_of s u ≡ slot_of z u)
+        → (t : ℕ)
+        → CanIssue d a s g v t
+        → CanIssue d a z h v t
+    can_same = can_same_over IsGapApart IsOneCycle d.period AnyCycle d a live (any_alike d a) inside s z
+
+    pub placed_same : (h : ℕ → ℕ)
+        → AreHeights d a h
+        → (v : ℕ)
+        → v < length a.lowered.nodes
+        → ((u : ℕ) → IsEarlier a h v u → slot_of s u ≡ slot_of z u)
+        → slot_of s v ≡ slot_of z v
+        → IsPlaced d a s h v
+        → IsPlaced d a z h v
+    placed_same = placed_same_over IsGapApart IsOneCycle d.period AnyCycle d a live (any_alike d a) inside s z
+
+    pub one_slot : (g h : ℕ → ℕ)
+        → AreHeights d a g
+        → AreHeights d a h
+        → (Has : ℕ → Type 0)
+        → ((v u : ℕ) → Has v → IsEarlier a g v u → Has u)
+        → ((v : ℕ) → v < length a.lowered.nodes → Has v → IsPlaced d a s g v)
+        → ((v : ℕ) → v < length a.lowered.nodes → Has v → IsPlaced d a z h v)
+        → (v : ℕ)
+        → v < length a.lowered.nodes
+        → Has v
+        → slot_of s v ≡ slot_of z v
+    one_slot = one_slot_over IsGapApart IsOneCycle d.period AnyCycle d a live (any_alike d a) inside s z

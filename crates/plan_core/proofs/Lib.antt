@@ -10,8 +10,9 @@ pub mod PlanTests
 pub mod StagedRules
 pub mod WorkedPlans
 pub mod WorkedStages
-mod WorkedRefusals
+pub mod WorkedRefusals
 mod WrongPlans
+pub mod Distances
 pub mod Samples
 pub mod Sorted
 pub mod OneAssigned

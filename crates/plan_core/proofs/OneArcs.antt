@@ -54,25 +54,46 @@ module _ (written_at : (v : ℕ) → ℕ) (read_at : (v c q : ℕ) → ℕ) (d :
     unit = r.unit ∙ ap (λ (p : PortRef). p.unit) port;
   }
 
-  last-below : (x y : Arc) → x.node ≡ y.node → x.port ≡ y.port → IsArcOver written_at read_at d a x → IsArcOver written_at read_at d a y → x.r ≤ y.r
+  last-below : (x y : Arc)
+      → x.node ≡ y.node
+      → x.port ≡ y.port
+      → IsArcOver written_at read_at d a x
+      → IsArcOver written_at read_at d a y
+      → x.r ≤ y.r
   last-below x y node port h k =
       let c = h.read.0 in
       subst (λ (n : ℕ). n ≤ y.r)
-      (sym (h.read.2 ∙ ap (λ (p : PortRef). read_at x.node c p.port) port ∙ ap (λ (v : ℕ). read_at v c y.port.port) node))
+      (sym
+      (h.read.2 ∙ ap (λ (p : PortRef). read_at x.node c p.port) port ∙ ap (λ (v : ℕ). read_at v c y.port.port) node))
       (k.last c (reads-same x y c node port h.read.1))
 
-  copies-below : (x y : Arc) → x.w ≡ y.w → x.r ≡ y.r → IsArcOver written_at read_at d a x → IsArcOver written_at read_at d a y → x.copies ≤ y.copies
+  copies-below : (x y : Arc)
+      → x.w ≡ y.w
+      → x.r ≡ y.r
+      → IsArcOver written_at read_at d a x
+      → IsArcOver written_at read_at d a y
+      → x.copies ≤ y.copies
   copies-below x y w r h k =
       h.least y.copies k.count (subst₂ (λ (m n : ℕ). m ≤ n + y.copies * d.period) (sym r) (sym w) k.covered)
 
-  one_arc : (x y : Arc) → x.node ≡ y.node → x.port ≡ y.port → IsArcOver written_at read_at d a x → IsArcOver written_at read_at d a y → x ≡ y
+  one_arc : (x y : Arc)
+      → x.node ≡ y.node
+      → x.port ≡ y.port
+      → IsArcOver written_at read_at d a x
+      → IsArcOver written_at read_at d a y
+      → x ≡ y
   one_arc x y node port h k =
       let w = h.written ∙ ap written_at node ∙ sym k.written in
       let r = le_antisymm (last-below x y node port h k) (last-below y x (sym node) (sym port) k h) in
       let copies = le_antisymm (copies-below x y w r h k) (copies-below y x (sym w) (sym r) k h) in
       arc_from x y node port w r copies
 
-  arc-in : (xs ys : List Arc) → IsArcsOver written_at read_at d a xs → IsArcsOver written_at read_at d a ys → (x : Arc) → Contains xs x → Contains ys x
+  arc-in : (xs ys : List Arc)
+      → IsArcsOver written_at read_at d a xs
+      → IsArcsOver written_at read_at d a ys
+      → (x : Arc)
+      → Contains xs x
+      → Contains ys x
   arc-in xs ys h k x (i, less, is) =
       let at = subst (λ (z : Arc). IsArcOver written_at read_at d a z) is (h.each i x less) in
       let reader = at.read.1 in
@@ -83,7 +104,10 @@ module _ (written_at : (v : ℕ) → ℕ) (read_at : (v c q : ℕ) → ℕ) (d :
       (k.each other.0 no_arc other.1) at in
       (other.0, other.1, get_or_default ys other.0 x no_arc other.1 ∙ same)
 
-  pub one_arcs_over : (xs ys : List Arc) → IsArcsOver written_at read_at d a xs → IsArcsOver written_at read_at d a ys → xs ≡ ys
+  pub one_arcs_over : (xs ys : List Arc)
+      → IsArcsOver written_at read_at d a xs
+      → IsArcsOver written_at read_at d a ys
+      → xs ≡ ys
   one_arcs_over xs ys h k =
       same_order IsArcBefore arcs_one_way xs ys h.order k.order (λ x. arc-in xs ys h k x) (λ x. arc-in ys xs k h x)
 

@@ -8,7 +8,7 @@ use Rattle.plan_core.specs.Reservations.{IsGapApart, IsOneCycle}
 use Rattle.plan_core.specs.declared.schedule.Assigned.{Assigned}
 use Rattle.plan_core.specs.declared.schedule.Slot.{Slot}
 use Rattle.plan_core.specs.declared.schedule.Schedule.{Schedule}
-use Rattle.plan_core.proofs.Agreeing.{one_slot, AllowsAlike, any_alike}
+use Rattle.plan_core.proofs.Agreeing.{one_slot_over, AllowsAlike, any_alike}
 
 module _ (IsAway : (gap t u : ℕ) → Type 0) (IsSame : (w x : ℕ) → Type 0) (end : ℕ)
     (Allows : Schedule → (height : ℕ → ℕ) → (v t : ℕ) → Type 0) (d : Datapath) (a : Assigned)
@@ -21,7 +21,7 @@ module _ (IsAway : (gap t u : ℕ) → Type 0) (IsSame : (w x : ℕ) → Type 0)
   one_schedule_over inside s z x y =
       let count = x.count in
       let slots = ext_get_or no_slot s.slots z.slots (x.count ∙ sym y.count)
-      (λ v less. one_slot IsAway IsSame end Allows d a live alike inside s z x.height y.height x.heights y.heights
+      (λ v less. one_slot_over IsAway IsSame end Allows d a live alike inside s z x.height y.height x.heights y.heights
       (λ _. Unit) (λ v u has r. tt) (λ v there has. x.placed v there) (λ v there has. y.placed v there) v
       (omega arith) tt) in
       ap (λ (xs : List Slot). record { slots = xs }) slots

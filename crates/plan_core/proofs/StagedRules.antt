@@ -201,8 +201,7 @@ module _ (stages : ℕ) (delays : List (List ℕ)) (d : Datapath) (a : Assigned)
       scheduled_over (gap_around d.period) (same_around d.period) (stages * d.period) is_in_stage d a s height e are f
 
   abbrev pub are_staged_before : (s : Schedule) (height : ℕ → ℕ) (v : ℕ)
-      → Test ((u : ℕ) → u < count → IsPlacedBefore height u v
-      → IsPlacedInStage stages (IsLoadOf delays) d a s height u)
+      → Test ((u : ℕ) → u < count → IsPlacedBefore height u v → IsPlacedInStage stages (IsLoadOf delays) d a s height u)
   are_staged_before s height v =
       below count (λ u. implies (placed_before height u v) (λ z.
       is_placed_over (gap_around d.period) (same_around d.period) (stages * d.period) is_in_stage d a s height u))

@@ -63,7 +63,7 @@ no_cells = record {
 }
 
 -- the ram has four cells, and two samples are in flight at once
-no_spare_cell : IsWithoutCells 0 2 line_cells (filter_path 32 4) 0
+pub no_spare_cell : IsWithoutCells 0 2 line_cells (filter_path 32 4) 0
 no_spare_cell = record {
   lines = [];
   cells = 5;

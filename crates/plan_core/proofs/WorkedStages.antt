@@ -119,14 +119,14 @@ sums_plan = record {
 abbrev sums_delays : List (List ℕ)
 sums_delays = (1 ∷ []) ∷ (1 ∷ []) ∷ [] ∷ [] ∷ [] ∷ []
 
--- the line is the first one of a ram of the path, for the one delay of its node
-next_of : (d : Datapath) (delays : List (List ℕ)) (lines : List Line) (v : ℕ) (line : Line)
-    → IsNextLine 2 d delays lines v (1 ∷ []) line
-    → (w : ℕ) (long : List ℕ)
-    → ◌≡◌ {A = Option (ℕ × List ℕ)} (Some (v, 1 ∷ [])) (Some (w, long))
-    → IsNextLine 2 d delays lines w long line
-next_of d delays lines v line next w long is =
-    subst (λ (x : ℕ × List ℕ). IsNextLine 2 d delays lines x.0 x.1 line) (some_is (v, 1 ∷ []) (w, long) is) next
+-- the line is the next one for what is stored next
+pub next_of : (d : Datapath) (delays : List (List ℕ)) (lines : List Line) (v : ℕ) (long : List ℕ) (line : Line)
+    → IsNextLine 2 d delays lines v long line
+    → (w : ℕ) (other : List ℕ)
+    → ◌≡◌ {A = Option (ℕ × List ℕ)} (Some (v, long)) (Some (w, other))
+    → IsNextLine 2 d delays lines w other line
+next_of d delays lines v long line next w other is =
+    subst (λ (x : ℕ × List ℕ). IsNextLine 2 d delays lines x.0 x.1 line) (some_is (v, long) (w, other) is) next
 
 x_next : IsNextLine 2 sums_path sums_delays [] 0 (1 ∷ []) x_line
 x_next = record {
@@ -151,8 +151,8 @@ v_next = record {
 }
 
 sums_lines : AreLines 2 sums_path sums_delays (x_line ∷ v_line ∷ [])
-sums_lines zero v long less is = next_of sums_path sums_delays [] 0 x_line x_next v long is
-sums_lines (suc zero) v long less is = next_of sums_path sums_delays (x_line ∷ []) 1 v_line v_next v long is
+sums_lines zero v long less is = next_of sums_path sums_delays [] 0 (1 ∷ []) x_line x_next v long is
+sums_lines (suc zero) v long less is = next_of sums_path sums_delays (x_line ∷ []) 1 (1 ∷ []) v_line v_next v long is
 sums_lines (suc (suc i)) v long less is = absurd (omega (arith, less))
 
 x_is : IsLineOf sums sums_path sums_lowered sums_delays 0 x_line
@@ -314,7 +314,7 @@ delayed_next = record {
 }
 
 delayed_lines : AreLines 2 held_path delayed_delays (x_line ∷ [])
-delayed_lines zero v long less is = next_of held_path delayed_delays [] 0 x_line delayed_next v long is
+delayed_lines zero v long less is = next_of held_path delayed_delays [] 0 (1 ∷ []) x_line delayed_next v long is
 delayed_lines (suc i) v long less is = absurd (omega (arith, less))
 
 delayed_is : IsLineOf delayed held_path delayed_lowered delayed_delays 0 x_line
@@ -384,13 +384,16 @@ increment_delays = [] ∷ [] ∷ [] ∷ [] ∷ []
 abbrev pub three_cycles : Datapath
 three_cycles = record (plain_path 0) { period = 3 }
 
-pub increment_scheduled : IsStageSchedule 2 increment_delays three_cycles increment_plan.assigned increment_plan.schedule
+pub increment_scheduled :
+    IsStageSchedule 2 increment_delays three_cycles increment_plan.assigned increment_plan.schedule
 increment_scheduled =
-    staged 2 increment_delays three_cycles increment_plan.assigned increment_plan.schedule (heights (3 ∷ 3 ∷ 2 ∷ 1 ∷ [])) refl refl refl
+    staged 2 increment_delays three_cycles increment_plan.assigned increment_plan.schedule
+    (heights (3 ∷ 3 ∷ 2 ∷ 1 ∷ [])) refl refl refl
 
 pub one_stage_short : IsWithoutStage 1 increment_delays three_cycles increment_plan.assigned 3
 one_stage_short =
-    without_stage 1 increment_delays three_cycles increment_plan.assigned increment_plan.schedule (heights (3 ∷ 3 ∷ 2 ∷ 1 ∷ [])) 3
+    without_stage 1 increment_delays three_cycles increment_plan.assigned increment_plan.schedule
+    (heights (3 ∷ 3 ∷ 2 ∷ 1 ∷ [])) 3
     (omega arith) (omega arith) refl refl refl
 
 -- in samples of two cycles the one bus has two cycles for three transfers, however many stages there are
@@ -399,5 +402,6 @@ two_cycles = record (plain_path 0) { period = 2 }
 
 pub bus_bound : IsWithoutStage 4 increment_delays two_cycles increment_plan.assigned 2
 bus_bound =
-    without_stage 4 increment_delays two_cycles increment_plan.assigned increment_plan.schedule (heights (3 ∷ 3 ∷ 2 ∷ 1 ∷ [])) 2
+    without_stage 4 increment_delays two_cycles increment_plan.assigned increment_plan.schedule
+    (heights (3 ∷ 3 ∷ 2 ∷ 1 ∷ [])) 2
     (omega arith) (omega arith) refl refl refl

@@ -1,0 +1,2 @@
+pub mod IsStagePlan
+pub mod Faults
