@@ -13,7 +13,7 @@ use Rattle.bit_sets.specs.Bits.{Has}
 use Rattle.bus_alloc.specs.Private.Rows.{LeadsTo, file_row, no_unit_row, no_file_row}
 use Rattle.bus_alloc.specs.Private.Fresh.{IsFreshUnit, IsFreshFile, AreFreshUnits, AreFreshFiles, AreFresh}
 use Rattle.bus_alloc.specs.Table.{IsTaken}
-use Rattle.bus_alloc.specs.Private.Stands.{Stands}
+use Rattle.bus_alloc.specs.Private.Stands.{StandsOver}
 use Rattle.bus_alloc.specs.declared.rows.UnitRow.{UnitRow}
 use Rattle.bus_alloc.specs.declared.rows.FileRow.{FileRow}
 use Rattle.bus_alloc.specs.declared.rows.Rows.{Rows}
@@ -65,9 +65,14 @@ files_more buses n rows new row so_far pushed here = record {
   each = each_more (IsFreshFile buses) rows new row no_file_row n so_far.count_is so_far.each pushed here;
 }
 
--- a fresh table stands for no operations
-pub stands_fresh : (d : Datapath) (rows : Rows) → IsDatapath d → AreFresh d rows → Stands d [] rows
-stands_fresh d rows path fresh = record {
+-- a fresh table stands for no operations, by any rules
+pub stands_fresh :
+    {IsAway : (gap t u : ℕ) → Type 0} {IsSame : (w x : ℕ) → Type 0} {place : ℕ → ℕ} {IsKept : ℕ → Type 0} (d : Datapath)
+    (rows : Rows)
+    → IsDatapath d
+    → AreFresh d rows
+    → StandsOver IsAway IsSame place IsKept d [] rows
+stands_fresh {place} d rows path fresh = record {
   path = path;
   period = fresh.period;
   units = fresh.units.count_is;
@@ -77,7 +82,7 @@ stands_fresh d rows path fresh = record {
         latency = row.latency;
         gap = row.gap;
         drives = row.drives;
-        busy = λ t ends. (λ zero slot taken. none slot u taken, λ free. row.busy _);
+        busy = λ t kept. (λ zero slot taken. none slot u taken, λ free. row.busy _);
       };
   file = λ u q within port_within.
       let row = fresh.files.each (3 * u + q) (omega arith) in
@@ -88,9 +93,9 @@ stands_fresh d rows path fresh = record {
             (port_of v q) b) unit_is
             (subst (λ (p : ℕ). Has (file_row rows (port_of u q)).sources.bits b ↔ LeadsTo d.buses (port_of ((3 *
             u + q) / 3) p) b) port_is (row.sources b));
-        written = λ w before. (λ zero v slot taken. none slot v taken, λ free. row.written w);
+        written = λ w kept. (λ zero v slot taken. none slot v taken, λ free. row.written (place w));
       };
-  bus = λ b w number before. (λ zero v slot taken. none slot v taken, λ free. fresh.buses.each b number w);
+  bus = λ b w number kept. (λ zero v slot taken. none slot v taken, λ free. fresh.buses.each b number (place w));
 }
   where
     none : {P : Type 0} (slot : Slot) (v : ℕ) → IsTaken [] v slot → P

@@ -7,5 +7,7 @@ pub mod FirstRoutes
 pub mod Taken
 pub mod Standing
 pub mod Growing
+pub mod Apart
 pub mod Tables
+pub mod Around
 pub mod FreshRows

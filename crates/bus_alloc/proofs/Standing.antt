@@ -6,25 +6,27 @@ use Rattle.std.proofs.lemmas.List.Elements.{All-contains, Contains-get_or}
 use Rattle.operations.specs.declared.units.PortRef.{PortRef}
 use Rattle.datapath.specs.declared.types.Datapath.{Datapath}
 use Rattle.plan_core.specs.Hardware.{latency_on, no_unit, IsRoute}
-use Rattle.plan_core.specs.Reservations.{result_on, IsFreeRoute, Fits, IsFirstBus}
+use Rattle.plan_core.specs.Reservations.{result_on, IsFreeRouteOver, FitsOver, IsFirstBusOver}
 use Rattle.plan_core.specs.declared.schedule.Transfer.{Transfer}
 use Rattle.bit_sets.specs.Bits.{Has}
 use Rattle.bus_alloc.specs.Sets.{mark}
 use Rattle.bus_alloc.specs.Private.Rows.{IsPortIn, IsPortOpen, IsOpen, unit_row, file_row, bus_words}
 use Rattle.bus_alloc.specs.Private.Taking.{IsRouteFree, IsFirstTransfer}
 use Rattle.bus_alloc.specs.Table.{Placed, IsTaken}
-use Rattle.bus_alloc.specs.Private.Stands.{IsFileRow, Stands}
+use Rattle.bus_alloc.specs.Private.Stands.{IsFileRowOver, StandsOver}
 use Rattle.bus_alloc.specs.declared.rows.Rows.{Rows}
 
-module _ (d : Datapath) (placed : List Placed) (rows : Rows) (s : Stands d placed rows) where
+-- an operation that ends in the period has its result there in it
+pub ends_in : (d : Datapath) (u t : ℕ) → 1 ≤ latency_on d u → t + latency_on d u ≤ d.period → result_on d u t < d.period
+ends_in d u t some fits = omega (arith, some, fits)
+
+module _ {IsAway : (gap t u : ℕ) → Type 0} {IsSame : (w x : ℕ) → Type 0} {place : ℕ → ℕ} {IsKept : ℕ → Type 0}
+    (d : Datapath) (placed : List Placed) (rows : Rows) (s : StandsOver IsAway IsSame place IsKept d placed rows) where
   -- an operation takes 1 to 8 cycles, and the next may begin after 1 to as many
   pub latency_some : (u : ℕ) → u < length rows.units → 1 ≤ latency_on d u
   latency_some u within = let h : u < length d.units = omega (arith, s.units) in (s.path.units u no_unit h).latency.0
 
-  pub ends_in : (u t : ℕ) → u < length rows.units → t + latency_on d u ≤ d.period → result_on d u t < d.period
-  ends_in u t within fits = omega (arith, latency_some u within)
-
-  file_at : (port : PortRef) → IsPortIn rows port → IsFileRow d placed port (file_row rows port)
+  file_at : (port : PortRef) → IsPortIn rows port → IsFileRowOver IsAway IsSame place IsKept d placed port (file_row rows port)
   file_at port is_in = let h : port.unit < length d.units = omega (arith, s.units, is_in.0) in s.file port.unit
       port.port h is_in.1
 
@@ -48,12 +50,12 @@ module _ (d : Datapath) (placed : List Placed) (rows : Rows) (s : Stands d place
 
     free_route : (port : PortRef) (w b : ℕ)
         → IsPortIn rows port
-        → w < d.period
+        → IsKept w
         → b < 32
         → Has (unit_row rows u).drives.bits b
         → Has (file_row rows port).sources.bits b
-        → mark (bus_words rows b) w ≡ 0
-        → IsFreeRoute d (IsTaken placed) u w port b
+        → mark (bus_words rows b) (place w) ≡ 0
+        → IsFreeRouteOver IsAway IsSame d (IsTaken placed) u w port b
     free_route port w b is_in before number drive source free = record {
       route = route_of port b is_in drive source;
       free = (s.bus b w number before).0 free;
@@ -61,9 +63,9 @@ module _ (d : Datapath) (placed : List Placed) (rows : Rows) (s : Stands d place
 
     route_free : (port : PortRef) (w b : ℕ)
         → IsPortIn rows port
-        → w < d.period
-        → IsFreeRoute d (IsTaken placed) u w port b
-        → IsRouteFree rows u port w b
+        → IsKept w
+        → IsFreeRouteOver IsAway IsSame d (IsTaken placed) u w port b
+        → IsRouteFree rows u port (place w) b
     route_free port w b is_in before free = record {
       number = few_buses b free.route.there;
       drive = ((s.unit u unit_within).drives b).1 (record { there = free.route.there; driver = free.route.driver });
@@ -73,64 +75,59 @@ module _ (d : Datapath) (placed : List Placed) (rows : Rows) (s : Stands d place
 
     pub first_bus_of : (w : ℕ) (transfer : Transfer)
         → IsPortIn rows transfer.port
-        → w < d.period
-        → IsFirstTransfer rows u w transfer
-        → IsFirstBus d (IsTaken placed) u w transfer
+        → IsKept w
+        → IsFirstTransfer rows u (place w) transfer
+        → IsFirstBusOver IsAway IsSame d (IsTaken placed) u w transfer
     first_bus_of w transfer is_in before is = record {
       route = free_route transfer.port w transfer.bus is_in before is.route.number is.route.drive is.route.source
           is.route.free;
       first = λ b less free. is.first b less (route_free transfer.port w b is_in before free);
     }
 
-    module _ (t : ℕ) (dests : List PortRef) (ports : All (IsPortIn rows) dests) where
-      pub open_fits : t + latency_on d u ≤ d.period
-          → IsOpen rows u dests (result_on d u t)
-          → Fits d (IsTaken placed) (Contains dests) u t
+    module _ (end t : ℕ) (dests : List PortRef) (ports : All (IsPortIn rows) dests)
+        (kept : IsKept (result_on d u t)) where
+      abbrev w : ℕ
+      w = result_on d u t
+
+      abbrev x : ℕ
+      x = place (result_on d u t)
+
+      pub open_fits : t + latency_on d u ≤ end
+          → IsOpen rows u dests (place (result_on d u t))
+          → FitsOver IsAway IsSame d (IsTaken placed) end (Contains dests) u t
       open_fits ends is_open = record {
         period = ends;
-        unit = ((s.unit u unit_within).busy t ends).0 is_open.unit;
-        files = λ port is_to. ((file_at port (is_in port is_to)).written w before).0 (at port is_to).file;
+        unit = ((s.unit u unit_within).busy t kept).0 is_open.unit;
+        files = λ port is_to. ((file_at port (is_in port is_to)).written w kept).0 (at port is_to).file;
         buses = λ port is_to.
             let bus = (at port is_to).bus in
-            (bus.b, free_route port w bus.b (is_in port is_to) before bus.number bus.drive bus.source bus.open_bit);
+            (bus.b, free_route port w bus.b (is_in port is_to) kept bus.number bus.drive bus.source bus.open_bit);
       }
         where
-          w : ℕ
-          w = result_on d u t
-
-          before : w < d.period
-          before = ends_in u t within ends
-
           is_in : (port : PortRef) → Contains dests port → IsPortIn rows port
           is_in port is_to = All-contains (IsPortIn rows) dests port ports is_to
 
-          at : (port : PortRef) → Contains dests port → IsPortOpen rows u port (w / 64) (w % 64)
-          at port is_to = All-contains (λ p. IsPortOpen rows u p (w / 64) (w % 64)) dests port is_open.ports is_to
+          at : (port : PortRef) → Contains dests port → IsPortOpen rows u port (x / 64) (x % 64)
+          at port is_to = All-contains (λ p. IsPortOpen rows u p (x / 64) (x % 64)) dests port is_open.ports is_to
 
-      pub fits_open : Fits d (IsTaken placed) (Contains dests) u t → IsOpen rows u dests (result_on d u t)
+      pub fits_open : FitsOver IsAway IsSame d (IsTaken placed) end (Contains dests) u t
+          → IsOpen rows u dests (place (result_on d u t))
       fits_open fits = record {
-        unit = ((s.unit u unit_within).busy t fits.period).1 fits.unit;
+        unit = ((s.unit u unit_within).busy t kept).1 fits.unit;
         ports = λ k p less. at (get_or dests k p) (Contains-get_or dests k p less) (ports k p less);
       }
         where
-          w : ℕ
-          w = result_on d u t
-
-          before : w < d.period
-          before = ends_in u t within fits.period
-
-          at : (port : PortRef) → Contains dests port → IsPortIn rows port → IsPortOpen rows u port (w / 64) (w % 64)
+          at : (port : PortRef) → Contains dests port → IsPortIn rows port → IsPortOpen rows u port (x / 64) (x % 64)
           at port is_to is_in =
               let route = fits.buses port is_to in
-              let free = route_free port w route.0 is_in before route.1 in
+              let free = route_free port w route.0 is_in kept route.1 in
               record {
-                file = ((file_at port is_in).written w before).1 (fits.files port is_to);
+                file = ((file_at port is_in).written w kept).1 (fits.files port is_to);
                 bus = record {
                   b = route.0;
                   number = free.number;
                   drive = free.drive;
                   source = free.source;
-                  open_bit
-                      = free.free;
+                  open_bit = free.free;
                 };
               }

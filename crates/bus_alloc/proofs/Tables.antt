@@ -13,7 +13,8 @@ use Rattle.bus_alloc.specs.Private.Stands.{AreRowsOf}
 use Rattle.bus_alloc.specs.Private.Taking.{IsFirstTransfer, IsTransferIn, TakesAll}
 use Rattle.bus_alloc.specs.declared.rows.Rows.{Rows}
 use Rattle.bus_alloc.proofs.Standing.{latency_some, ends_in, open_fits, fits_open, first_bus_of}
-use Rattle.bus_alloc.proofs.Growing.{takes_rows, stands_grown}
+use Rattle.bus_alloc.proofs.Growing.{changes_of, takes_rows}
+use Rattle.bus_alloc.proofs.Apart.{stands_apart}
 
 module _ (r : Reservations) (rows : Rows) (is : AreRowsOf r rows) (u : ℕ) (there : u < length r.datapath.units) where
   unit_in : u < length rows.units
@@ -34,7 +35,8 @@ module _ (r : Reservations) (rows : Rows) (is : AreRowsOf r rows) (u : ℕ) (the
     fits_at t end ends fits =
         let at : result_on r.datapath u t ≡ end = omega (arith, ends, latency_is) in
         subst (IsOpen rows u dests) at
-        (fits_open r.datapath r.placed rows is.stands u unit_in t dests ports_in fits)
+        (fits_open r.datapath r.placed rows is.stands u unit_in r.datapath.period t dests ports_in
+        (ends_in r.datapath u t live fits.period) fits)
 
     pub answer_fits : (t end : ℕ) (answer : Bool)
         → t + (unit_row rows u).latency ≤ rows.period
@@ -45,7 +47,8 @@ module _ (r : Reservations) (rows : Rows) (is : AreRowsOf r rows) (u : ℕ) (the
         let at : end ≡ result_on r.datapath u t = omega (arith, ends, latency_is) in
         let before : t + latency_on r.datapath u ≤ r.datapath.period =
         omega (arith, in_period, latency_is, is.stands.period) in (
-          λ yes. open_fits r.datapath r.placed rows is.stands u unit_in t dests ports_in before
+          λ yes. open_fits r.datapath r.placed rows is.stands u unit_in r.datapath.period t dests ports_in
+              (ends_in r.datapath u t live before) before
               (subst (IsOpen rows u dests) at (answers.0 yes)),
           λ fits. answers.1 (fits_at t end ends fits),
         )
@@ -59,7 +62,7 @@ module _ (r : Reservations) (rows : Rows) (is : AreRowsOf r rows) (u : ℕ) (the
         → FitsAt r u t dests
         → (from + later ≤ t + later) × (t + later < rows.period) × IsOpen rows u dests (t + later)
     open_at from later t later_is after fits =
-        let before = ends_in r.datapath r.placed rows is.stands u t unit_in fits.period in
+        let before = ends_in r.datapath u t live fits.period in
         let at : t + later ≡ t + ((unit_row rows u).latency - 1) = omega (arith, later_is) in
         (omega arith, omega (arith, later_is, latency_is, before, is.stands.period), fits_at t (t + later) at fits)
 
@@ -81,7 +84,8 @@ module _ (r : Reservations) (rows : Rows) (is : AreRowsOf r rows) (u : ℕ) (the
         let at : end ≡ result_on r.datapath u (end - later) = omega (arith, later_is, latency_is, after) in
         record {
           after = omega (arith, after);
-          fits = open_fits r.datapath r.placed rows is.stands u unit_in (end - later) dests ports_in
+          fits = open_fits r.datapath r.placed rows is.stands u unit_in r.datapath.period (end - later) dests ports_in
+              (omega (arith, later_is, latency_is, after, live, first.period, is.stands.period))
               (omega (arith, later_is, latency_is, after, live, first.period, is.stands.period))
               (subst (IsOpen rows u dests) at first.is_open);
           first = λ t from_on less fits.
@@ -129,7 +133,8 @@ module _ (r : Reservations) (rows : Rows) (is : AreRowsOf r rows) (u : ℕ) (the
 
         pub rows_with : (new : Rows) → TakesAll rows u end transfers new → AreRowsOf (with_placed r u t transfers) new
         rows_with new takes = record {
-          are = takes_rows rows u end transfers new is.are takes;
-          stands = stands_grown r.datapath r.placed u t end transfers rows new is.are is.stands unit_in
+          are = takes_rows rows u end transfers takes.between new is.are (changes_of rows u end takes.between takes.unit)
+              takes.transfers_of;
+          stands = stands_apart r.datapath r.placed u t end transfers rows new is.stands unit_in
               (omega (arith, ends_here, is.stands.period, latency_is)) result_at takes;
         }

@@ -1,10 +1,11 @@
 -- The value of a reservation table: the operations that are placed so far on the units of a datapath, each with its
 -- cycle and its transfers.
-use Rattle.std.specs.Prelude.{◌≡◌, ℕ, ◌<◌, ◌≤◌, List, [], ◌∷◌, ◌++◌, length, map, Option, Some, None, Contains}
+use Rattle.std.specs.Prelude.{◌≡◌, ℕ, ◌+◌, ◌<◌, ◌≤◌, List, [], ◌∷◌, ◌++◌, length, map, Option, Some, None, Contains}
 use Rattle.std.specs.List.{All}
 use Rattle.operations.specs.declared.units.PortRef.{PortRef}
 use Rattle.datapath.specs.declared.types.Datapath.{Datapath}
-use Rattle.plan_core.specs.Reservations.{result_on, Fits, IsFirstBus}
+use Rattle.plan_core.specs.Reservations.{result_on, FitsOver, IsFirstBusOver, IsGapApart, IsOneCycle}
+use Rattle.plan_core.specs.Stages.{IsGapAround, IsSameAround}
 use Rattle.plan_core.specs.declared.schedule.Transfer.{Transfer}
 use Rattle.plan_core.specs.declared.schedule.Slot.{Slot}
 
@@ -36,22 +37,53 @@ with_placed r u t transfers = record {
 abbrev pub HasPort : Datapath → PortRef → Type 0
 HasPort d port = (port.unit < length d.units) × (port.port < 3)
 
-module _ (r : Reservations) where
+-- by the rules of a table, for operations that end before this cycle
+module _ (IsAway : (gap t u : ℕ) → Type 0) (IsSame : (w x : ℕ) → Type 0) (end : ℕ) (r : Reservations) where
   -- an operation fits on unit u at cycle t, with its result going to these ports
-  abbrev pub FitsAt : (u t : ℕ) → List PortRef → Type 0
-  FitsAt u t dests = Fits r.datapath (IsTaken r.placed) (Contains dests) u t
+  abbrev pub FitsAtOver : (u t : ℕ) → List PortRef → Type 0
+  FitsAtOver u t dests = FitsOver IsAway IsSame r.datapath (IsTaken r.placed) end (Contains dests) u t
 
   -- t is the first cycle from this one on at which it fits
-  pub record IsFirstFitAt (u from : ℕ) (dests : List PortRef) (t : ℕ) : Type 0 where
+  pub record IsFirstFitAtOver (u from : ℕ) (dests : List PortRef) (t : ℕ) : Type 0 where
     pub after : from ≤ t
-    pub fits : FitsAt u t dests
-    pub first : (earlier : ℕ) → from ≤ earlier → earlier < t → FitsAt u earlier dests → ⊥
+    pub fits : FitsAtOver u t dests
+    pub first : (earlier : ℕ) → from ≤ earlier → earlier < t → FitsAtOver u earlier dests → ⊥
+
+  abbrev pub IsFirstFitOver : (u from : ℕ) → List PortRef → Option ℕ → Type 0
+  IsFirstFitOver u from dests None = (t : ℕ) → from ≤ t → FitsAtOver u t dests → ⊥
+  IsFirstFitOver u from dests (Some t) = IsFirstFitAtOver u from dests t
+
+-- the transfers of the operation, one to each port, each over the first free bus
+module _ (IsAway : (gap t u : ℕ) → Type 0) (IsSame : (w x : ℕ) → Type 0) (r : Reservations) where
+  pub record AreTransfersOver (u t : ℕ) (dests : List PortRef) (transfers : List Transfer) : Type 0 where
+    pub ports : map (λ (transfer : Transfer). transfer.port) transfers ≡ dests
+    pub buses :
+        All (IsFirstBusOver IsAway IsSame r.datapath (IsTaken r.placed) u (result_on r.datapath u t)) transfers
+
+-- the same where one sample is in flight at a time: operations end in the period
+module _ (r : Reservations) where
+  abbrev pub FitsAt : (u t : ℕ) → List PortRef → Type 0
+  FitsAt u t dests = FitsAtOver IsGapApart IsOneCycle r.datapath.period r u t dests
+
+  abbrev pub IsFirstFitAt : (u from : ℕ) → List PortRef → (t : ℕ) → Type 0
+  IsFirstFitAt u from dests t = IsFirstFitAtOver IsGapApart IsOneCycle r.datapath.period r u from dests t
 
   abbrev pub IsFirstFit : (u from : ℕ) → List PortRef → Option ℕ → Type 0
-  IsFirstFit u from dests None = (t : ℕ) → from ≤ t → FitsAt u t dests → ⊥
-  IsFirstFit u from dests (Some t) = IsFirstFitAt u from dests t
+  IsFirstFit u from dests answer = IsFirstFitOver IsGapApart IsOneCycle r.datapath.period r u from dests answer
 
-  -- the transfers of the operation, one to each port, each over the first free bus
-  pub record AreTransfers (u t : ℕ) (dests : List PortRef) (transfers : List Transfer) : Type 0 where
-    pub ports : map (λ (transfer : Transfer). transfer.port) transfers ≡ dests
-    pub buses : All (IsFirstBus r.datapath (IsTaken r.placed) u (result_on r.datapath u t)) transfers
+  abbrev pub AreTransfers : (u t : ℕ) → List PortRef → List Transfer → Type 0
+  AreTransfers u t dests transfers = AreTransfersOver IsGapApart IsOneCycle r u t dests transfers
+
+-- the same around the period, where samples overlap: operations end before this cycle
+module _ (end : ℕ) (r : Reservations) where
+  abbrev pub FitsAround : (u t : ℕ) → List PortRef → Type 0
+  FitsAround u t dests =
+      FitsAtOver (IsGapAround r.datapath.period) (IsSameAround r.datapath.period) end r u t dests
+
+  abbrev pub IsFirstFitAround : (u from : ℕ) → List PortRef → Option ℕ → Type 0
+  IsFirstFitAround u from dests answer =
+      IsFirstFitOver (IsGapAround r.datapath.period) (IsSameAround r.datapath.period) end r u from dests answer
+
+abbrev pub AreTransfersAround : Reservations → (u t : ℕ) → List PortRef → List Transfer → Type 0
+AreTransfersAround r u t dests transfers =
+    AreTransfersOver (IsGapAround r.datapath.period) (IsSameAround r.datapath.period) r u t dests transfers

@@ -1,6 +1,7 @@
 //! Sets of cycles of a sample.
 
 ghost use Rattle.std.specs.Prelude.{◌≡◌, ◌≢◌, ◌<◌, ◌≤◌, ◌⊎◌, ◌*◌, ◌/◌, ℕ, length, min, slice_index, IsTrue, ◌↔◌};
+ghost use Rattle.plan_core.specs.Stages.{IsGapAround};
 ghost use Rattle.bus_alloc.specs.Sets.{mark};
 
 /// A period has at most this many cycles.
@@ -72,6 +73,21 @@ impl CycleSet {
     {
         for cycle in first..end {
             self.insert(cycle);
+        }
+    }
+
+    /// Inserts the cycles of a period that are less than the gap from this one, on either side around the period.
+    pub fn insert_around(&mut self, cycle: u16, gap: u16, period: u16)
+        requires period { period ≤ 4096 }
+        requires cycle { cycle < period }
+        requires gap { gap ≤ period }
+        ensures near { (c : ℕ) → c < period → ¬ IsGapAround period gap cycle c → mark self.new.words c ≡ 1 }
+        ensures far { (c : ℕ) → c < period → IsGapAround period gap cycle c
+            → mark self.new.words c ≡ mark self.old.words c }
+    {
+        for away in 0..gap {
+            self.insert((cycle + away) % period);
+            self.insert((cycle + period - away) % period);
         }
     }
 }

@@ -1,13 +1,16 @@
-//! The reservation table of a schedule: which units, register files and buses are taken in which cycle of the sample.
+//! The reservation tables of schedules: which units, register files and buses are taken in which cycle of the sample,
+//! or of the period where samples overlap.
 //! Page `docs/PLANNING.md`, "Cycles".
 #![tactic(auto)]
 
 mod cycles;
 mod fresh;
 mod history;
+mod modulo;
 mod reserve;
 mod routes;
 mod rows;
 mod table;
 
+pub use modulo::ModuloTable;
 pub use table::{Table, TableFault};

@@ -3,7 +3,7 @@
 ghost use Rattle.std.specs.Prelude.{◌≡◌, ◌+◌, ◌<◌, ◌≤◌, ◌/◌, ◌%◌, length, map, IfOk};
 ghost use Rattle.std.specs.List.{All};
 ghost use Rattle.bus_alloc.specs.Private.Rows.{AreRows, IsPortIn, IsPortOpen, IsOpen, unit_row};
-ghost use Rattle.bus_alloc.specs.Private.Taking.{IsFirstRoute, IsFirstTransfer, IsTransferIn, TakesUnit, TakesTransfer, TakesTransfers, TakesAll};
+ghost use Rattle.bus_alloc.specs.Private.Taking.{IsFirstRoute, IsFirstTransfer, IsTransferIn, TakesUnit, TakesTransfer, TakesTransfers, TakesAll, TakesUnitAround, TakesAllAround};
 
 use crate::cycles::MOST_CYCLES;
 use crate::rows::{Rows, file_number};
@@ -104,6 +104,32 @@ impl Rows {
         ensures { TakesAll self.old unit cycle transfers.now self.new }
     {
         self.take_unit(unit, cycle);
+        self.take_transfers(transfers, cycle);
+    }
+
+    /// Takes the unit for an operation that ends in the cycle, in each period.
+    fn take_unit_around(&mut self, unit: u8, cycle: u16)
+        requires rows { AreRows self.old }
+        requires unit { unit < length self.old.units }
+        requires cycle { cycle < self.old.period }
+        requires gap { (unit_row self.old unit).gap ≤ self.old.period }
+        ensures { TakesUnitAround self.old unit cycle self.new }
+    {
+        let period = self.period;
+        let row = &mut self.units[unit as usize];
+        row.busy.insert_around(cycle, u16::from(row.gap), period);
+    }
+
+    /// Takes all that an operation needs that ends in the cycle, in each period.
+    pub fn reserve_around(&mut self, unit: u8, cycle: u16, transfers: &[Transfer])
+        requires rows { AreRows self.old }
+        requires unit { unit < length self.old.units }
+        requires cycle { cycle < self.old.period }
+        requires gap { (unit_row self.old unit).gap ≤ self.old.period }
+        requires transfers { All (IsTransferIn self.old) transfers.now }
+        ensures { TakesAllAround self.old unit cycle transfers.now self.new }
+    {
+        self.take_unit_around(unit, cycle);
         self.take_transfers(transfers, cycle);
     }
 }

@@ -6,7 +6,7 @@
 ghost use Rattle.std.specs.Prelude.{◌≡◌, ◌<◌, ◌≤◌, ◌↔◌, ◌+◌, ◌*◌, ◌/◌, ℕ, length, slice_index, IsTrue, MatchOption};
 ghost use Rattle.std.specs.List.{All};
 ghost use Rattle.std.specs.Int.{bit_at};
-ghost use Rattle.bus_alloc.specs.Private.Rows.{AreRows, IsPortIn, IsBusOpen, IsPortOpen, IsOpenIn, IsFirstZero, IsOpen, IsFirstOpen, IsResultCycle, unit_row};
+ghost use Rattle.bus_alloc.specs.Private.Rows.{AreRows, IsPortIn, IsBusOpen, IsPortOpen, IsOpenIn, IsFirstZero, IsOpen, IsFirstOpen, IsFirstOpenAround, IsResultCycle, unit_row};
 
 use crate::cycles::{CycleSet, WORD_CYCLES};
 use bit_sets::Set32;
@@ -182,5 +182,23 @@ impl Rows {
             }
         }
         None
+    }
+
+    /// How many cycles it is from this one, around the period, to the first in which an operation on the unit can end,
+    /// with its result going to these ports.
+    pub fn first_open_around(&self, unit: u8, dests: &[PortRef], from: u16) -> Option<u16>
+        requires rows { AreRows self.now }
+        requires unit { unit < length self.now.units }
+        requires ports { All (IsPortIn self.now) dests.now }
+        requires from { from < self.now.period }
+        ensures { IsFirstOpenAround self.now unit dests.now from result }
+    {
+        if let Some(cycle) = self.first_open(unit, dests, from) {
+            return Some(cycle - from);
+        }
+        match self.first_open(unit, dests, 0) {
+            Some(cycle) => Some(cycle + self.period - from),
+            None => None,
+        }
     }
 }

@@ -4,8 +4,9 @@ use Rattle.datapath.specs.declared.types.Datapath.{Datapath}
 use Rattle.plan_core.specs.Hardware.{latency_on}
 use Rattle.plan_core.specs.Operands.{Reads}
 use Rattle.plan_core.specs.Heights.{AreHeights}
-use Rattle.plan_core.specs.ListSchedule.{cycle_of, IsEarlier, IsPlaced, IsListSchedule}
-use Rattle.plan_core.specs.Refusals.{IsWithoutCycle}
+use Rattle.plan_core.specs.Reservations.{IsGapApart, IsOneCycle}
+use Rattle.plan_core.specs.ListSchedule.{cycle_of, IsEarlier, IsPlacedOver, IsListScheduleOver, IsListSchedule, AnyCycle}
+use Rattle.plan_core.specs.Refusals.{IsWithoutCycleOver}
 use Rattle.plan_core.specs.declared.schedule.Assigned.{Assigned}
 use Rattle.plan_core.specs.declared.schedule.Schedule.{Schedule}
 use Rattle.plan_core.proofs.OneHeight.{live_of}
@@ -14,10 +15,19 @@ use Rattle.schedule_priority.specs.Problem.{IsProblem}
 use Rattle.list_schedule.specs.Faults.{IsPeriodFault}
 use Rattle.list_schedule.specs.declared.fault.PeriodFault.{PeriodFault}
 use Rattle.list_schedule.specs.declared.fault.PeriodFault.TheVariants.{Period, Memory}
-use Rattle.plan_core.proofs.Agreeing.{earlier_trans, one_first, earlier_same, can_same, one_slot}
+use Rattle.plan_core.proofs.Agreeing.{earlier_trans, one_first, earlier_same, can_same_over, one_slot_over, AllowsAlike, any_alike}
 use Rattle.schedule_priority.proofs.Problems.{operand_in}
 
-module _ (d : Datapath) (a : Assigned) (is : IsProblem d a) where
+-- by any rules of the table, where what else is asked of a cycle depends on earlier nodes alone
+module _ (IsAway : (gap t u : ℕ) → Type 0) (IsSame : (w x : ℕ) → Type 0) (end : ℕ)
+    (Allows : Schedule → (height : ℕ → ℕ) → (v t : ℕ) → Type 0) (d : Datapath) (a : Assigned) (is : IsProblem d a)
+    (alike : AllowsAlike IsAway IsSame end Allows d a) where
+  abbrev Placed : Schedule → (height : ℕ → ℕ) → (v : ℕ) → Type 0
+  Placed z h v = IsPlacedOver IsAway IsSame end Allows d a z h v
+
+  abbrev Without : ℕ → Type 0
+  Without v = IsWithoutCycleOver IsAway IsSame end Allows d a v
+
   live : (u : ℕ) → 1 ≤ latency_on d u
   live u = live_of d is.path u
 
@@ -26,28 +36,31 @@ module _ (d : Datapath) (a : Assigned) (is : IsProblem d a) where
 
   -- the node without a cycle has no place in another schedule in which the nodes before it have theirs
   refuted : (v : ℕ)
-      → IsWithoutCycle d a v
+      → Without v
       → (z : Schedule) (h : ℕ → ℕ)
       → AreHeights d a h
-      → ((u : ℕ) → IsEarlier a h v u → IsPlaced d a z h u)
-      → IsPlaced d a z h v
+      → ((u : ℕ) → IsEarlier a h v u → Placed z h u)
+      → Placed z h v
       → ⊥
   refuted v w z h hs before here =
       let agree = λ (u : ℕ) (r : IsEarlier a h v u).
-      one_slot d a live inside z w.schedule h w.height hs w.heights (IsEarlier a h v)
+      one_slot_over IsAway IsSame end Allows d a live alike inside z w.schedule h w.height hs w.heights (IsEarlier a h v)
       (λ x y has e. earlier_trans a h v x y has e) (λ x there has. before x has)
       (λ x there has. w.before x (earlier_same d a live w.height h w.heights hs v x w.there has)) u r.node r in
       w.none (cycle_of z v)
-      (can_same d a live inside z w.schedule h w.height hs w.heights v w.there
+      (can_same_over IsAway IsSame end Allows d a live alike inside z w.schedule h w.height hs w.heights v w.there
       (λ u r. agree u (earlier_same d a live h w.height hs w.heights v u w.there r)) (cycle_of z v) here.can)
 
-  pub scheduled_or_not : (s : Schedule) → IsListSchedule d a s → (fault : PeriodFault) → IsPeriodFault d a fault → ⊥
-  scheduled_or_not s x (Period v) w =
+  pub scheduled_not : (s : Schedule)
+      → IsListScheduleOver IsAway IsSame end Allows d a s
+      → (v : ℕ)
+      → Without v
+      → ⊥
+  scheduled_not s x v w =
       refuted v w s x.height x.heights (λ u r. x.placed u r.node) (x.placed v w.there)
-  scheduled_or_not s x Memory w = w
 
-  same-node : (v u : ℕ) → IsWithoutCycle d a v → IsWithoutCycle d a u → v ≡ u
-  same-node v u x y =
+  pub one_without : (v u : ℕ) → Without v → Without u → v ≡ u
+  one_without v u x y =
       ⊎_elim (λ first. absurd (earlier-refuted v u x y (record { node = x.there; before = first })))
       (λ rest. ⊎_elim (λ same. same)
       (λ second. absurd (earlier-refuted u v y x
@@ -55,13 +68,20 @@ module _ (d : Datapath) (a : Assigned) (is : IsProblem d a) where
       (record { node = y.there; before = second })))) rest)
       (one_first a y.height v u)
     where
-      earlier-refuted : (v u : ℕ) → IsWithoutCycle d a v → (y : IsWithoutCycle d a u) → IsEarlier a y.height u v → ⊥
+      earlier-refuted : (v u : ℕ) → Without v → (y : Without u) → IsEarlier a y.height u v → ⊥
       earlier-refuted v u x y r =
           refuted v x y.schedule y.height y.heights (λ w e. y.before w (earlier_trans a y.height u v w r e))
           (y.before v r)
 
+-- where one sample is in flight at a time
+module _ (d : Datapath) (a : Assigned) (is : IsProblem d a) where
+  pub scheduled_or_not : (s : Schedule) → IsListSchedule d a s → (fault : PeriodFault) → IsPeriodFault d a fault → ⊥
+  scheduled_or_not s x (Period v) w =
+      scheduled_not IsGapApart IsOneCycle d.period AnyCycle d a is (any_alike d a) s x v w
+  scheduled_or_not s x Memory w = w
+
   pub one_fault : (f g : PeriodFault) → IsPeriodFault d a f → IsPeriodFault d a g → f ≡ g
-  one_fault (Period v) (Period u) x y = ap Period (same-node v u x y)
+  one_fault (Period v) (Period u) x y = ap Period (one_without IsGapApart IsOneCycle d.period AnyCycle d a is (any_alike d a) v u x y)
   one_fault (Period v) Memory x y = absurd y
   one_fault Memory g x y = absurd x
 
@@ -73,7 +93,7 @@ module _ (d : Datapath) (a : Assigned) (is : IsProblem d a) where
         → IsListSchedule d a z
         → (r ≡ Ok z) ⊎ (r ≡ Err Memory)
     ok_found s same s_is z z_is =
-        inl (same ∙ ap (λ (x : Schedule). Ok x) (one_schedule d a live inside s z s_is z_is))
+        inl (same ∙ ap (λ (x : Schedule). Ok x) (one_schedule d a (live_of d is.path) (operand_in d a is) s z s_is z_is))
 
     pub ok_refused : (s : Schedule)
         → IsListSchedule d a s

@@ -7,4 +7,5 @@ mod placing;
 mod scheduler;
 
 pub use fault::PeriodFault;
+pub use placing::{no_slots, ready};
 pub use scheduler::schedule;

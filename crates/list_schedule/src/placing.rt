@@ -5,7 +5,8 @@ ghost use Rattle.plan_core.specs.ListSchedule.{no_slot, AreDestinations, IsListS
 ghost use Rattle.list_schedule.specs.Faults.{IsPeriodFault};
 ghost use Rattle.schedule_priority.specs.Parts.{nodes_of, IsSound};
 ghost use Rattle.schedule_priority.specs.Order.{IsOrderOf};
-ghost use Rattle.list_schedule.specs.Private.Placing.{slot_at, of_slots, IsFirstReady, HasTable, IsFirstOpen, Places, HasNoCycle, ArePlaced};
+ghost use Rattle.list_schedule.specs.Placing.{slot_at, of_slots, last_cycle, IsFirstReady};
+ghost use Rattle.list_schedule.specs.Private.Placing.{HasTable, IsFirstOpen, Places, HasNoCycle, ArePlaced};
 ghost use Rattle.list_schedule.specs.declared.fault.PeriodFault.TheVariants.{Period, Memory};
 
 use crate::fault::PeriodFault;
@@ -23,12 +24,13 @@ pub(crate) struct Placing {
     pub table: Table,
 }
 
-/// The first cycle at which the operands of node v of the same sample are there.
-fn ready(problem: &Problem, v: usize, slots: &List<Slot>) -> u16
+/// The first cycle at which the operands of node v of the same sample are there, where these are the slots of the nodes
+/// that are placed.
+pub fn ready(problem: &Problem, v: usize, slots: &List<Slot>) -> u16
     requires problem { IsSound problem.now }
     requires node { v < length (nodes_of problem.now) }
     requires count { length slots.now ≡ length (nodes_of problem.now) }
-    requires early { (x : ℕ) → (slot_at slots.now x).cycle ≤ 4096 }
+    requires early { (x : ℕ) → (slot_at slots.now x).cycle ≤ last_cycle }
     ensures { IsFirstReady problem.now.datapath.now problem.now.assigned.now slots.now v result }
 {
     let mut ready = 0;
@@ -127,7 +129,7 @@ fn place_all(
 }
 
 /// As many empty slots.
-fn no_slots(alloc: Global, count: usize) -> Result<List<Slot>, AllocError>
+pub fn no_slots(alloc: Global, count: usize) -> Result<List<Slot>, AllocError>
     ensures { IfOk result (λ slots. slots ≡ replicate count no_slot) }
 {
     let mut slots = List::with_capacity(alloc, count)?;

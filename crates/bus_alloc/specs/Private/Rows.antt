@@ -107,6 +107,16 @@ module _ (rows : Rows) where
   IsFirstOpen u dests from None = (c : ℕ) → from ≤ c → c < rows.period → IsOpen u dests c → ⊥
   IsFirstOpen u dests from (Some cycle) = IsFirstOpenAt u dests from cycle
 
+  -- how many cycles from this one on, around the period, it is to the first such cycle
+  pub record IsFirstOpenAfter (u : ℕ) (dests : List PortRef) (from away : ℕ) : Type 0 where
+    pub within : away < rows.period
+    pub is_open : IsOpen u dests ((from + away) % rows.period)
+    pub first : (c : ℕ) → c < away → IsOpen u dests ((from + c) % rows.period) → ⊥
+
+  abbrev pub IsFirstOpenAround : (u : ℕ) → List PortRef → (from : ℕ) → Option ℕ → Type 0
+  IsFirstOpenAround u dests from None = (c : ℕ) → c < rows.period → IsOpen u dests c → ⊥
+  IsFirstOpenAround u dests from (Some away) = IsFirstOpenAfter u dests from away
+
 -- the first bit that is 0
 pub record IsFirstZero (word k : ℕ) : Type 0 where
   pub within : k < 64

@@ -2,6 +2,7 @@
 use Rattle.std.specs.Prelude.{◌≡◌, ◌≢◌, ℕ, ◌+◌, ◌<◌, ◌≤◌, ◌⊎◌, ◌↔◌, List, length}
 use Rattle.std.specs.List.{All}
 use Rattle.operations.specs.declared.units.PortRef.{PortRef}
+use Rattle.plan_core.specs.Stages.{IsGapAround}
 use Rattle.plan_core.specs.declared.schedule.Transfer.{Transfer}
 use Rattle.bit_sets.specs.Bits.{Has}
 use Rattle.bus_alloc.specs.Sets.{mark}
@@ -26,6 +27,17 @@ pub record IsTransferIn (rows : Rows) (transfer : Transfer) : Type 0 where
   pub port : IsPortIn rows transfer.port
   pub bus : transfer.bus < 32
 
+-- only the bits of the unit's cycles change
+pub record ChangesUnit (old : Rows) (u : ℕ) (new : Rows) : Type 0 where
+  pub period : new.period ≡ old.period
+  pub files : new.files ≡ old.files
+  pub buses : new.buses ≡ old.buses
+  pub count : length new.units ≡ length old.units
+  pub others : (v : ℕ) → v ≢ u → unit_row new v ≡ unit_row old v
+  pub latency : (unit_row new u).latency ≡ (unit_row old u).latency
+  pub gap : (unit_row new u).gap ≡ (unit_row old u).gap
+  pub drives : (unit_row new u).drives ≡ (unit_row old u).drives
+
 -- the bits of the unit's cycles that are less than its gap away are set
 pub record TakesUnit (old : Rows) (u cycle : ℕ) (new : Rows) : Type 0 where
   pub period : new.period ≡ old.period
@@ -44,6 +56,18 @@ pub record TakesUnit (old : Rows) (u cycle : ℕ) (new : Rows) : Type 0 where
   pub far : (w : ℕ)
       → w < 4096
       → (cycle + (unit_row old u).gap ≤ w) ⊎ (w + (unit_row old u).gap ≤ cycle)
+      → mark (unit_row new u).busy.words w ≡ mark (unit_row old u).busy.words w
+
+-- the same around the period
+pub record TakesUnitAround (old : Rows) (u cycle : ℕ) (new : Rows) : Type 0 where
+  pub changes : ChangesUnit old u new
+  pub near : (w : ℕ)
+      → w < old.period
+      → (IsGapAround old.period (unit_row old u).gap cycle w → ⊥)
+      → mark (unit_row new u).busy.words w ≡ 1
+  pub far : (w : ℕ)
+      → w < old.period
+      → IsGapAround old.period (unit_row old u).gap cycle w
       → mark (unit_row new u).busy.words w ≡ mark (unit_row old u).busy.words w
 
 -- the bits of the cycle are set for the register file and the bus of the transfer
@@ -81,4 +105,9 @@ pub record TakesTransfers (old : Rows) (transfers : List Transfer) (cycle : ℕ)
 pub record TakesAll (old : Rows) (u cycle : ℕ) (transfers : List Transfer) (new : Rows) : Type 0 where
   pub between : Rows
   pub unit : TakesUnit old u cycle between
+  pub transfers_of : TakesTransfers between transfers cycle new
+
+pub record TakesAllAround (old : Rows) (u cycle : ℕ) (transfers : List Transfer) (new : Rows) : Type 0 where
+  pub between : Rows
+  pub unit : TakesUnitAround old u cycle between
   pub transfers_of : TakesTransfers between transfers cycle new

@@ -1,6 +1,8 @@
 use Rattle.std.proofs.Common.{◌≡◌, ◌<◌, ℕ, length, refl, sym, subst, inr}
 use Rattle.datapath.specs.declared.types.Datapath.{Datapath}
-use Rattle.bus_alloc.specs.Table.{with_placed, FitsAt, AreTransfers}
+use Rattle.plan_core.specs.Assigned.{unit_in}
+use Rattle.plan_core.specs.Reservations.{IsGapApart, IsOneCycle}
+use Rattle.bus_alloc.specs.Table.{with_placed, FitsAtOver, FitsAt, AreTransfers}
 use Rattle.list_schedule.proofs.Placings.{ports_known}
 use Rattle.list_schedule.proofs.placing.issue.Goals as goal
 
@@ -15,12 +17,15 @@ take-requires-clause-unit c =
 pub take-requires-clause-ports : goal.take-requires-clause-ports
 take-requires-clause-ports c =
     ports_known c.args.problem.now.datapath.now c.args.problem.now.assigned.now c.requires.problem c.args.v
-    c.requires.node c.args.ports.now c.requires.ports c.args.placing.now c.requires.table
+    c.requires.node c.args.ports.now c.requires.ports c.args.placing.now.slots c.args.placing.now.table c.requires.table
 
 pub take-requires-clause-fits : goal.take-requires-clause-fits
 take-requires-clause-fits c =
-    subst (λ (u : ℕ). FitsAt c.args.placing.now.table u c.in-Some.cycle c.args.ports.now) (sym c.unit-unit.ensures.unit)
-    c.in-Some.ensures.is_open.fits
+    let table = c.args.placing.now.table in
+    let fits = subst (λ (x : Datapath). FitsAtOver IsGapApart IsOneCycle x.period table
+    (unit_in c.args.problem.now.assigned.now.units c.args.v) c.in-Some.cycle c.args.ports.now)
+    (sym c.requires.table.path) c.in-Some.ensures.is_open.fits in
+    subst (λ (u : ℕ). FitsAt table u c.in-Some.cycle c.args.ports.now) (sym c.unit-unit.ensures.unit) fits
 
 pub returns-clause-placed : goal.returns-clause-placed
 returns-clause-placed c = record {
@@ -32,5 +37,5 @@ returns-clause-placed c = record {
       c.in_ok-transfers.transfers) c.unit-unit.ensures.unit c.in_ok-transfers.ensures.transfers;
   taken = subst (λ (u : ℕ). c.take.new.self ≡ with_placed c.args.placing.now.table u c.in-Some.cycle
       c.in_ok-transfers.transfers) c.unit-unit.ensures.unit c.in_ok-transfers.ensures.taken;
-  slots = c.replace.ensures.after;
+  slots_are = c.replace.ensures.after;
 }

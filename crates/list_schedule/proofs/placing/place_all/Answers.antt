@@ -1,7 +1,7 @@
 use Rattle.std.proofs.Common.{◌≡◌, ◌⊎◌, arith, rules, Err}
 use Rattle.list_schedule.specs.Faults.{IsPeriodFault}
 use Rattle.list_schedule.specs.declared.fault.PeriodFault.TheVariants.{Memory}
-use Rattle.list_schedule.proofs.Placings.{goes_on, stops}
+use Rattle.list_schedule.proofs.OneByOne.{goes_on, stops}
 use Rattle.list_schedule.proofs.placing.place_all.Goals as goal
 
 pub returns-in_err-place-clause-fault : goal.returns-in_err-place-clause-fault

@@ -5,7 +5,7 @@ use Rattle.plan_core.specs.Operands.{no_edge}
 use Rattle.plan_core.specs.Heights.{latency_of}
 use Rattle.plan_core.specs.ListSchedule.{no_slot}
 use Rattle.plan_core.specs.declared.schedule.Slot.{Slot}
-use Rattle.list_schedule.specs.Private.Placing.{slot_at}
+use Rattle.list_schedule.specs.Placing.{slot_at}
 use Rattle.schedule_priority.proofs.Problems.{read_now, not_now, operand_in, short}
 use Rattle.schedule_priority.proofs.Greater.{greater}
 use Rattle.list_schedule.proofs.Placings.{IsReadyUpTo, ready_more, ready_past}

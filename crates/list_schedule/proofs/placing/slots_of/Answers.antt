@@ -1,5 +1,5 @@
 use Rattle.std.proofs.Common.{arith, length}
-use Rattle.list_schedule.proofs.Placings.{all_placed}
+use Rattle.list_schedule.proofs.OneByOne.{all_placed}
 use Rattle.list_schedule.proofs.placing.slots_of.Goals as goal
 
 pub returns-clause-schedule : goal.returns-clause-schedule
