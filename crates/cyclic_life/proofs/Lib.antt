@@ -5,3 +5,4 @@ pub mod ReadOrder
 pub mod Placements
 pub mod Counts
 pub mod ArcsOfReads
+pub mod Around

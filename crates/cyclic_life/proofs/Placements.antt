@@ -1,10 +1,11 @@
 -- What is known of a schedule's nodes, and the reads of the first of them.
-use Rattle.std.proofs.Common.{◌≡◌, ◌⊎◌, ◌∙◌, sym, ap, subst, refl, arith, inl, inr, ⊎_elim, ℕ, ◌+◌, ◌<◌, ◌≤◌, List, []}
+use Rattle.std.proofs.Common.{◌≡◌, ◌⊎◌, ◌∙◌, sym, ap, subst, refl, arith, inl, inr, ⊎_elim, ℕ, ◌+◌, ◌*◌, ◌<◌, ◌≤◌, List, []}
 use Rattle.std.proofs.Common.{◌∷◌, ◌++◌, length, slice_index_or}
 use Rattle.std.specs.List.{Contains}
 use Rattle.std.proofs.lemmas.Bool.{cases_lt}
 use Rattle.std.proofs.lemmas.List.{get_or_read}
 use Rattle.std.proofs.lemmas.List.Elements.{All-get_or, All-push, Contains-push, Contains-append_left}
+use Rattle.std.proofs.Math.Nat.{mul-le-mul}
 use Rattle.operations.specs.Operations.{operands}
 use Rattle.datapath.specs.Allowed.{IsDatapath, IsUnit}
 use Rattle.datapath.specs.declared.types.Datapath.{Datapath}
@@ -14,12 +15,14 @@ use Rattle.signal_graph.specs.declared.graph.Node.{Node}
 use Rattle.plan_core.specs.Hardware.{no_unit, latency_on}
 use Rattle.plan_core.specs.Operands.{node_of, edge_of, no_edge, Reads}
 use Rattle.plan_core.specs.Assigned.{unit_in}
-use Rattle.plan_core.specs.ListSchedule.{IsListSchedule}
+use Rattle.plan_core.specs.Heights.{latency_of}
+use Rattle.plan_core.specs.ListSchedule.{cycle_of, IsListSchedule}
+use Rattle.plan_core.specs.Stages.{IsStageSchedule}
 use Rattle.plan_core.specs.declared.schedule.Assigned.{Assigned}
 use Rattle.plan_core.specs.declared.schedule.Schedule.{Schedule}
 use Rattle.plan_core.proofs.Readers.{operands_few, reader_there, edge_has}
 use Rattle.cyclic_life.specs.Held.{IsHeld}
-use Rattle.cyclic_life.specs.Private.Placed.{IsPlacement, read_of, IsRead, AreReadsBefore, AreReads}
+use Rattle.cyclic_life.specs.Private.Placed.{last_end, IsPlacement, read_of, IsRead, AreReadsBefore, AreReads}
 use Rattle.cyclic_life.specs.declared.read.Read.{Read}
 
 -- what the code reads as the edge at a port
@@ -46,12 +49,14 @@ port_count nodes c count n there n_is count_is =
 unit_latency : (d : Datapath) → IsDatapath d → (u : ℕ) → u < length d.units → 1 ≤ latency_on d u
 unit_latency d is u there = (All-get_or (IsUnit d.units) d.units u no_unit there is.units).latency.0
 
-pub placement : (d : Datapath) (a : Assigned) (s : Schedule)
+-- nodes that have their slots, in which they end in time
+pub placement_of : (d : Datapath) (a : Assigned) (s : Schedule)
     → IsDatapath d
     → IsHeld d a
-    → IsListSchedule d a s
+    → length s.slots ≡ length a.lowered.nodes
+    → ((v : ℕ) → v < length a.lowered.nodes → cycle_of s v + latency_of d a v ≤ last_end)
     → IsPlacement d a s
-placement d a s is held schedule =
+placement_of d a s is held slots within =
     let nodes = a.lowered.nodes in
     let unit : (v : ℕ) → v < length nodes → unit_in a.units v < length d.units =
     λ v there. (held.assigned.units v (let count = held.assigned.count in omega arith)).candidate.right.kind.there
@@ -60,10 +65,10 @@ placement d a s is held schedule =
       period = is.period.1;
       node_count = held.node_count;
       unit_count = held.assigned.count;
-      slot_count = schedule.count;
+      slot_count = slots;
       units = unit;
       latencies = λ v there. unit_latency d is (unit_in a.units v) (unit v there);
-      ends_within = λ v there. (schedule.placed v there).can.fits.period;
+      ends_within = within;
       ports = λ c there.
           let few = operands_few (node_of nodes c).op in
           let count =
@@ -74,6 +79,29 @@ placement d a s is held schedule =
           (edge_has (λ (edge : Edge). edge.node < length nodes) nodes held.edges c q v reads);
       delays = edge_has (λ (edge : Edge). edge.delay ≤ 3) nodes held.delays;
     }
+
+-- those of a schedule end in the period
+pub placement : (d : Datapath) (a : Assigned) (s : Schedule)
+    → IsDatapath d
+    → IsHeld d a
+    → IsListSchedule d a s
+    → IsPlacement d a s
+placement d a s is held schedule =
+    placement_of d a s is held schedule.count
+    (λ v there. omega (arith, (schedule.placed v there).can.fits.period, is.period.1))
+
+-- and those of a schedule over several stages in these
+pub stage_placement : (d : Datapath) (a : Assigned) (s : Schedule) (stages : ℕ) (delays : List (List ℕ))
+    → IsDatapath d
+    → IsHeld d a
+    → stages ≤ 4
+    → IsStageSchedule stages delays d a s
+    → IsPlacement d a s
+stage_placement d a s stages delays is held few schedule =
+    placement_of d a s is held schedule.count
+    (λ v there.
+    let most : stages * d.period ≤ 4 * 4096 = mul-le-mul few is.period.1 in
+    omega (arith, (schedule.placed v there).can.fits.period, most))
 
 module _ (d : Datapath) (a : Assigned) (s : Schedule) where
   -- the edge that the code reads leads to a node that is there, at most three samples ago

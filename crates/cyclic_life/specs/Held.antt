@@ -1,11 +1,13 @@
 -- What is asked of a graph whose words are held in registers.
-use Rattle.std.specs.Prelude.{◌≡◌, ◌^◌, ◌<◌, ◌≤◌, length, All}
+use Rattle.std.specs.Prelude.{◌≡◌, ℕ, ◌^◌, ◌<◌, ◌≤◌, List, length, All}
 use Rattle.operations.specs.Operations.{operands}
 use Rattle.datapath.specs.declared.types.Datapath.{Datapath}
 use Rattle.signal_graph.specs.declared.graph.Edge.{Edge}
 use Rattle.signal_graph.specs.declared.graph.Node.{Node}
 use Rattle.plan_core.specs.Assigned.{IsAssigned}
+use Rattle.plan_core.specs.Stages.{IsStageSchedule}
 use Rattle.plan_core.specs.declared.schedule.Assigned.{Assigned}
+use Rattle.plan_core.specs.declared.schedule.Schedule.{Schedule}
 
 -- The nodes can be numbered, each has an edge for each operand of its operation, to a node that is there and at most
 -- three samples ago, and each has its unit.
@@ -16,3 +18,14 @@ pub record IsHeld (d : Datapath) (a : Assigned) : Type 0 where
       All (λ (node : Node). All (λ (edge : Edge). edge.node < length a.lowered.nodes) node.edges) a.lowered.nodes
   pub delays : All (λ (node : Node). All (λ (edge : Edge). edge.delay ≤ 3) node.edges) a.lowered.nodes
   pub assigned : IsAssigned d a
+
+-- each word is read in the sample in which it is written
+abbrev pub AreReadNow : Assigned → Type 0
+AreReadNow a = All (λ (node : Node). All (λ (edge : Edge). edge.delay ≡ 0) node.edges) a.lowered.nodes
+
+-- the schedule is one over four stages at most
+pub record IsOverStages (d : Datapath) (a : Assigned) (s : Schedule) : Type 0 where
+  pub stages : ℕ
+  pub few : stages ≤ 4
+  pub delays : List (List ℕ)
+  pub schedule : IsStageSchedule stages delays d a s

@@ -10,4 +10,4 @@ mod placement;
 mod read;
 
 pub use fault::ArcFault;
-pub use life::arcs;
+pub use life::{arcs, stage_arcs};

@@ -3,7 +3,7 @@
 ghost use Rattle.std.specs.Prelude.{◌≡◌, ◌+◌, ◌<◌, length, IfOk, OnOk};
 ghost use Rattle.plan_core.specs.Operands.{node_of, edge_of};
 ghost use Rattle.plan_core.specs.ListSchedule.{cycle_of, ends as ends_in};
-ghost use Rattle.cyclic_life.specs.Private.Placed.{IsPlacement, read_of, AreReadsBefore, AreReads};
+ghost use Rattle.cyclic_life.specs.Private.Placed.{IsPlacement, read_of, AreReadsBefore, AreReads, AreReadLater, AreReadsAround};
 
 use crate::fault::ArcFault;
 use crate::read::Read;
@@ -81,6 +81,21 @@ impl Placement<'_> {
         let mut reads = Vec::with_capacity(alloc, self.assigned.lowered.nodes.len())?;
         for c in 0..self.assigned.lowered.nodes.len() {
             self.push_reads(c, &mut reads)?;
+        }
+        Ok(reads)
+    }
+
+    /// The reads of all nodes where samples overlap, each with its write in the period.
+    pub(crate) fn reads_around(&self, alloc: Global) -> Result<Vec<Read>, ArcFault>
+        requires placed { IsPlacement self.now.datapath.now self.now.assigned.now self.now.schedule.now }
+        requires some { 0 < self.now.datapath.now.period }
+        requires later { AreReadLater self.now.datapath.now self.now.assigned.now self.now.schedule.now }
+        ensures { IfOk result (λ reads.
+            AreReadsAround self.now.datapath.now self.now.assigned.now self.now.schedule.now reads.items) }
+    {
+        let mut reads = self.reads(alloc)?;
+        for k in 0..reads.len() {
+            reads[k] = reads[k].around(self.datapath.period);
         }
         Ok(reads)
     }

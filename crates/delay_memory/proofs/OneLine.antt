@@ -128,14 +128,14 @@ module _ (delays : List (List ℕ)) where
       )
 
   -- where an origin stands
-  record Found (o : Origin) (i : ℕ) : Type 0 where
-    v : ℕ
-    j : ℕ
-    less : v < length delays
-    part : slice_get (origins_of v (delays_at delays v)) j ≡ Some o
-    at : i ≡ first_of delays v + j
+  pub record Found (o : Origin) (i : ℕ) : Type 0 where
+    pub v : ℕ
+    pub j : ℕ
+    pub less : v < length delays
+    pub part : slice_get (origins_of v (delays_at delays v)) j ≡ Some o
+    pub at : i ≡ first_of delays v + j
 
-  found : (o : Origin) (i : ℕ) → IsNumber delays o i → Found o i
+  pub found : (o : Origin) (i : ℕ) → IsNumber delays o i → Found o i
   found o i is =
       let at = at_piece piece (enumerate_from 0 delays) i o is in
       let entry = entry_of at.i at.x at.whole in

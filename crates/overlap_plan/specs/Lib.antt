@@ -1,2 +1,3 @@
 pub mod IsStagePlan
 pub mod Faults
+pub mod Private

@@ -3,7 +3,12 @@
 #![tactic(auto)]
 
 mod fault;
+mod passes;
+mod placing;
 mod plan;
+mod scheduler;
+mod staged;
 
 pub use fault::StageFault;
+pub use passes::stage_plan;
 pub use plan::StagePlan;

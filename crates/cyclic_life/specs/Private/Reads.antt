@@ -1,5 +1,5 @@
 -- Reads of words in register files, and the last read of each lifetime.
-use Rattle.std.specs.Prelude.{◌≡◌, ℕ, ◌+◌, ◌*◌, ◌<◌, ◌==◌, ◌&&◌, ◌⊎◌, Bool, true, if◌then◌else◌, nat_le, List, [], ◌∷◌}
+use Rattle.std.specs.Prelude.{◌≡◌, ℕ, ◌+◌, ◌-◌, ◌*◌, ◌%◌, ◌<◌, ◌==◌, ◌&&◌, ◌⊎◌, Bool, true, if◌then◌else◌, nat_le, List, [], ◌∷◌}
 use Rattle.std.specs.Prelude.{All, Contains}
 use Rattle.plan_core.specs.Hardware.{port_of}
 use Rattle.plan_core.specs.declared.registers.Arc.{Arc}
@@ -45,6 +45,16 @@ lasts (x ∷ xs) = lasts_from x xs
 -- the least of 1, 2 and 4 samples after which a word is read no more
 abbrev pub copies_of : (period w r : ℕ) → ℕ
 copies_of period w r = if nat_le r (w + period) then 1 else if nat_le r (w + 2 * period) then 2 else 4
+
+-- the same read, with the write in the period
+abbrev pub around_of : (period : ℕ) → Read → Read
+around_of period x = record {
+  unit = x.unit;
+  port = x.port;
+  w = x.w % period;
+  node = x.node;
+  r = x.w % period + (x.r - x.w);
+}
 
 -- the lifetime that ends with the read
 abbrev pub arc_to : (period : ℕ) → Read → Arc

@@ -1,0 +1,4 @@
+pub mod Lines
+pub mod Staged
+pub mod Placing
+pub mod Errors
