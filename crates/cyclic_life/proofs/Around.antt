@@ -51,7 +51,7 @@ module _ (d : Datapath) (a : Assigned) (s : Schedule) where
         ap (λ (j : ℕ). slice_index_or (slice_set before k x) j y) same
         ∙ get_or-set_same before k x y (omega (arith, there, so_far.count))
         ∙ is
-        ∙ ap (around_of d.period) (so_far.left k x (omega arith) ∙ get_or_default reads k y x there)
+        ∙ ap (around_of d.period) (so_far.left k x (omega arith) ∙ get_or_default reads k x y there)
         ∙ ap (λ (j : ℕ). around_of d.period (slice_index_or reads j y)) (sym same))
         (λ other. get_or-set_other before k i x y other ∙ so_far.done i y (omega (arith, less, other)))
         (cases_eq i k);
