@@ -1,0 +1,7 @@
+pub mod Due
+pub mod Stages
+pub mod Words
+pub mod Guards
+pub mod GuardedExecutes
+pub mod GuardedRuns
+mod WorkedGuards
