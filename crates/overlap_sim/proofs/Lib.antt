@@ -5,3 +5,6 @@ pub mod Guards
 pub mod GuardedExecutes
 pub mod GuardedRuns
 mod WorkedGuards
+pub mod Rounds
+pub mod AnyRules
+pub mod StageFeasible
