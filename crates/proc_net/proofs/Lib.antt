@@ -1,0 +1,11 @@
+pub mod Keeping
+pub mod Writing
+pub mod Queues
+pub mod Standing
+pub mod Reading
+pub mod Turning
+pub mod Turned
+pub mod Loading
+pub mod Making
+pub mod Rounding
+pub mod Ending

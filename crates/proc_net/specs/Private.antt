@@ -1,0 +1,4 @@
+pub mod Reading
+pub mod Runs
+pub mod States
+pub mod Views
