@@ -1,6 +1,7 @@
 -- The commands, and which words are which.
 use Rattle.std.specs.Prelude.{◌≡◌, ◌≢◌, ◌≤◌, ⊤, IsTrue, ℕ, List, [], ◌∷◌, map, Option, Some, None, Bool, true, ◌&&◌}
-use Rattle.std.specs.Prelude.{not, if◌then◌else◌, nat_le, bytes_eq, codes, String, string_bytes}
+use Rattle.std.specs.Prelude.{not, if◌then◌else◌, nat_eq, nat_le, length, bytes_eq, codes}
+use Rattle.std.specs.Prelude.{String, string_bytes}
 use Rattle.std.specs.declared.alloc.Global.{Global}
 use Rattle.desk_core.specs.View.{Name}
 use Rattle.silage_lex.specs.Texts.{is_digits, decimal}
@@ -14,6 +15,8 @@ pub data Command : Type 0 where
   eval : (src samples out : Name) → Command
   run : (src datapath samples out : Name) → Command
   demo : (sections samples : ℕ) → Command
+  stages : (src datapath : Name) (stages : ℕ) → Command
+  pipe : (src datapath : Name) (stages : ℕ) (samples out : Name) → Command
 
 -- the text is decimal digits, which spell the number
 pub record IsNumeral (text : List ℕ) (number : ℕ) : Type 0 where
@@ -29,6 +32,8 @@ inputs_of (sim mic samples out) = mic ∷ samples ∷ []
 inputs_of (eval src samples out) = src ∷ samples ∷ []
 inputs_of (run src datapath samples out) = src ∷ datapath ∷ samples ∷ []
 inputs_of (demo sections samples) = []
+inputs_of (stages src datapath overlap) = src ∷ datapath ∷ []
+inputs_of (pipe src datapath overlap samples out) = src ∷ datapath ∷ samples ∷ []
 
 -- the file that a command writes; where there is none, it prints
 abbrev pub output_of : Command → Option Name
@@ -39,6 +44,8 @@ output_of (sim mic samples out) = Some out
 output_of (eval src samples out) = Some out
 output_of (run src datapath samples out) = Some out
 output_of (demo sections samples) = None
+output_of (stages src datapath overlap) = None
+output_of (pipe src datapath overlap samples out) = Some out
 
 -- the words as names
 abbrev pub names_of : List (String Global) → List Name
@@ -52,6 +59,10 @@ is_apart out (input ∷ inputs) = not (bytes_eq out input) && is_apart out input
 -- the text is decimal digits, which spell a number from 1 to the most
 abbrev pub is_count : (most : ℕ) → Name → Bool
 is_count most text = is_digits text && nat_le 1 (decimal text) && nat_le (decimal text) most
+
+-- the text is one decimal digit, which counts from 1 to the most
+abbrev pub is_digit_count : (most : ℕ) → Name → Bool
+is_digit_count most text = nat_eq (length text) 1 && is_count most text
 
 -- the command, where its condition holds
 abbrev pub only_if : Bool → Command → Option Command
@@ -89,6 +100,16 @@ demo_form (sections ∷ samples ∷ []) =
     only_if (is_count 32 sections && is_count 100000 samples) (demo (decimal sections) (decimal samples))
 demo_form _ = None
 
+abbrev pub stages_form : List Name → Option Command
+stages_form (src ∷ datapath ∷ overlap ∷ []) = only_if (is_digit_count 4 overlap) (stages src datapath (decimal overlap))
+stages_form _ = None
+
+abbrev pub pipe_form : List Name → Option Command
+pipe_form (src ∷ datapath ∷ overlap ∷ samples ∷ out ∷ []) =
+    only_if (is_digit_count 4 overlap && is_apart out (src ∷ datapath ∷ samples ∷ []))
+    (pipe src datapath (decimal overlap) samples out)
+pipe_form _ = None
+
 -- the form that goes with a verb
 abbrev pub form_of : (verb : Name) → List Name → Option Command
 form_of verb words =
@@ -99,6 +120,8 @@ form_of verb words =
     else if bytes_eq verb (codes "eval") then eval_form words
     else if bytes_eq verb (codes "run") then run_form words
     else if bytes_eq verb (codes "demo") then demo_form words
+    else if bytes_eq verb (codes "stages") then stages_form words
+    else if bytes_eq verb (codes "pipe") then pipe_form words
     else None
 
 -- the command that the words are
@@ -142,6 +165,14 @@ IsRun words src datapath samples out = IsCommandIn words (run src datapath sampl
 abbrev pub IsDemo : List (String Global) → ℕ → ℕ → Type 0
 IsDemo words sections samples = IsCommandIn words (demo sections samples)
 
+-- the words are `stages SRC DP S`, and S is the digit 1, 2, 3 or 4
+abbrev pub IsStages : List (String Global) → Name → Name → ℕ → Type 0
+IsStages words src datapath overlap = IsCommandIn words (stages src datapath overlap)
+
+-- the words are `pipe SRC DP S SAMPLES OUT`, S is the digit 1, 2, 3 or 4, and OUT is none of the inputs
+abbrev pub IsPipe : List (String Global) → Name → Name → ℕ → Name → Name → Type 0
+IsPipe words src datapath overlap samples out = IsCommandIn words (pipe src datapath overlap samples out)
+
 -- what holds of each command that words are: OUT is none of the inputs, and numbers are in their ranges
 abbrev pub IsAllowed : Command → Type 0
 IsAllowed (compile src datapath out) = (out ≢ src) × (out ≢ datapath)
@@ -151,3 +182,6 @@ IsAllowed (sim mic samples out) = (out ≢ mic) × (out ≢ samples)
 IsAllowed (eval src samples out) = (out ≢ src) × (out ≢ samples)
 IsAllowed (run src datapath samples out) = (out ≢ src) × (out ≢ datapath) × (out ≢ samples)
 IsAllowed (demo sections samples) = ((1 ≤ sections) × (sections ≤ 32)) × (1 ≤ samples) × (samples ≤ 100000)
+IsAllowed (stages src datapath overlap) = (1 ≤ overlap) × (overlap ≤ 4)
+IsAllowed (pipe src datapath overlap samples out) =
+    ((1 ≤ overlap) × (overlap ≤ 4)) × (out ≢ src) × (out ≢ datapath) × (out ≢ samples)

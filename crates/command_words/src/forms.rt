@@ -3,13 +3,16 @@ ghost use Rattle.std.specs.Prelude.{◌≡◌, ◌≢◌, true, not, bytes_eq, S
 ghost use Rattle.command_words.specs.Command as spec;
 ghost use Rattle.command_words.specs.Named.{named};
 
-use crate::numbers::number_in;
+use crate::numbers::{digit_in, number_in};
 
 /// The most sections of a cascade.
 const MOST_SECTIONS: u64 = 32;
 
 /// The most samples that it is run over.
 const MOST_SAMPLES: u64 = 100_000;
+
+/// The most samples that run at once.
+const MOST_STAGES: u8 = 4;
 
 /// A command, with its files and numbers.
 #[derive(Drop)]
@@ -45,6 +48,18 @@ pub enum Command<'a> {
     Demo {
         sections: u64,
         samples: u64,
+    },
+    Stages {
+        source: &'a str,
+        datapath: &'a str,
+        stages: u8,
+    },
+    Pipe {
+        source: &'a str,
+        datapath: &'a str,
+        stages: u8,
+        samples: &'a str,
+        output: &'a str,
     },
 }
 
@@ -180,6 +195,45 @@ fn demo_form(words: &[String]) -> Option<Command<'_>>
     }
 }
 
+/// The words of `stages`.
+fn stages_form(words: &[String]) -> Option<Command<'_>>
+    ensures form { MatchOption result (spec.stages_form (spec.names_of words.now) ≡ None)
+        (λ found. spec.stages_form (spec.names_of words.now) ≡ Some (named found)) }
+    ensures allowed { IfSome result (λ found. spec.IsAllowed (named found)) }
+{
+    match words {
+        [source, datapath, stages] => Some(Command::Stages {
+            source: source.as_str(),
+            datapath: datapath.as_str(),
+            stages: digit_in(stages.as_bytes(), MOST_STAGES)?,
+        }),
+        _ => None,
+    }
+}
+
+/// The words of `pipe`.
+fn pipe_form(words: &[String]) -> Option<Command<'_>>
+    ensures form { MatchOption result (spec.pipe_form (spec.names_of words.now) ≡ None)
+        (λ found. spec.pipe_form (spec.names_of words.now) ≡ Some (named found)) }
+    ensures allowed { IfSome result (λ found. spec.IsAllowed (named found)) }
+{
+    match words {
+        [source, datapath, stages, samples, output]
+            if differ(output.as_str(), source.as_str())
+                && differ(output.as_str(), datapath.as_str())
+                && differ(output.as_str(), samples.as_str()) => {
+            Some(Command::Pipe {
+                source: source.as_str(),
+                datapath: datapath.as_str(),
+                stages: digit_in(stages.as_bytes(), MOST_STAGES)?,
+                samples: samples.as_str(),
+                output: output.as_str(),
+            })
+        }
+        _ => None,
+    }
+}
+
 /// The command that the words are, or nothing where they are none.
 pub fn command_in(words: &[String]) -> Option<Command<'_>>
     ensures is { MatchOption result (spec.command_in (spec.names_of words.now) ≡ None)
@@ -195,6 +249,8 @@ pub fn command_in(words: &[String]) -> Option<Command<'_>>
         "eval" => eval_form(words),
         "run" => run_form(words),
         "demo" => demo_form(words),
+        "stages" => stages_form(words),
+        "pipe" => pipe_form(words),
         _ => None,
     }
 }

@@ -1,7 +1,8 @@
 //! Numbers in decimal.
-ghost use Rattle.std.specs.Prelude.{◌≡◌, ◌-◌, ◌<◌, ◌≤◌, ◌^◌, ℕ, true, false, MatchOption};
+ghost use Rattle.std.specs.Prelude.{◌≡◌, ◌-◌, ◌<◌, ◌≤◌, ◌^◌, ℕ, true, false, IfSome, MatchOption};
 ghost use Rattle.silage_lex.specs.Bytes.{is_digit};
-ghost use Rattle.command_words.specs.Command.{IsNumeral};
+ghost use Rattle.command_words.specs.Command.{IsNumeral, is_digit_count};
+ghost use Rattle.silage_lex.specs.Texts.{decimal};
 
 /// What a digit counts.
 fn digit_of(byte: u8) -> Option<u64>
@@ -28,4 +29,16 @@ pub(crate) fn number_in(text: &[u8], most: u64) -> Option<u64>
         }
     }
     if number == 0 { None } else { Some(number) }
+}
+
+/// The number from 1 to `most` that the text is the one digit of.
+pub(crate) fn digit_in(text: &[u8], most: u8) -> Option<u8>
+    ensures is { MatchOption result (is_digit_count most text.now ≡ false)
+        (λ n. (is_digit_count most text.now ≡ true) × (n ≡ decimal text.now)) }
+    ensures within { IfSome result (λ n. (1 ≤ n) × (n ≤ most)) }
+{
+    match text {
+        [byte @ b'1'..=b'9'] if byte - b'0' <= most => Some(byte - b'0'),
+        _ => None,
+    }
 }
