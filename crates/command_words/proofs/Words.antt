@@ -1,7 +1,7 @@
 -- Which words are which command, in worked values.
 use Rattle.std.proofs.Common.{◌≡◌, true, false, [], ◌∷◌, refl}
 use Rattle.std.specs.Prelude.{Some, None, codes}
-use Rattle.command_words.specs.Command.{stages, pipe, is_digit_count, command_in}
+use Rattle.command_words.specs.Command.{stages, pipe, net, is_digit_count, command_in}
 
 zero : is_digit_count 4 (codes "0") ≡ false
 zero = refl
@@ -31,3 +31,9 @@ pipe_of = refl
 pipe_into_its_samples :
     command_in (codes "pipe" ∷ codes "a" ∷ codes "b" ∷ codes "1" ∷ codes "c" ∷ codes "c" ∷ []) ≡ None
 pipe_into_its_samples = refl
+
+net_of : command_in (codes "net" ∷ codes "a" ∷ codes "b" ∷ codes "c" ∷ []) ≡ Some (net (codes "a") (codes "b") (codes "c"))
+net_of = refl
+
+net_into_itself : command_in (codes "net" ∷ codes "a" ∷ codes "b" ∷ codes "a" ∷ []) ≡ None
+net_into_itself = refl

@@ -17,6 +17,7 @@ pub data Command : Type 0 where
   demo : (sections samples : ℕ) → Command
   stages : (src datapath : Name) (stages : ℕ) → Command
   pipe : (src datapath : Name) (stages : ℕ) (samples out : Name) → Command
+  net : (net samples out : Name) → Command
 
 -- the text is decimal digits, which spell the number
 pub record IsNumeral (text : List ℕ) (number : ℕ) : Type 0 where
@@ -34,6 +35,7 @@ inputs_of (run src datapath samples out) = src ∷ datapath ∷ samples ∷ []
 inputs_of (demo sections samples) = []
 inputs_of (stages src datapath overlap) = src ∷ datapath ∷ []
 inputs_of (pipe src datapath overlap samples out) = src ∷ datapath ∷ samples ∷ []
+inputs_of (net joins samples out) = joins ∷ samples ∷ []
 
 -- the file that a command writes; where there is none, it prints
 abbrev pub output_of : Command → Option Name
@@ -46,6 +48,7 @@ output_of (run src datapath samples out) = Some out
 output_of (demo sections samples) = None
 output_of (stages src datapath overlap) = None
 output_of (pipe src datapath overlap samples out) = Some out
+output_of (net joins samples out) = Some out
 
 -- the words as names
 abbrev pub names_of : List (String Global) → List Name
@@ -110,6 +113,10 @@ pipe_form (src ∷ datapath ∷ overlap ∷ samples ∷ out ∷ []) =
     (pipe src datapath (decimal overlap) samples out)
 pipe_form _ = None
 
+abbrev pub net_form : List Name → Option Command
+net_form (joins ∷ samples ∷ out ∷ []) = only_if (is_apart out (joins ∷ samples ∷ [])) (net joins samples out)
+net_form _ = None
+
 -- the form that goes with a verb
 abbrev pub form_of : (verb : Name) → List Name → Option Command
 form_of verb words =
@@ -122,6 +129,7 @@ form_of verb words =
     else if bytes_eq verb (codes "demo") then demo_form words
     else if bytes_eq verb (codes "stages") then stages_form words
     else if bytes_eq verb (codes "pipe") then pipe_form words
+    else if bytes_eq verb (codes "net") then net_form words
     else None
 
 -- the command that the words are
@@ -173,6 +181,10 @@ IsStages words src datapath overlap = IsCommandIn words (stages src datapath ove
 abbrev pub IsPipe : List (String Global) → Name → Name → ℕ → Name → Name → Type 0
 IsPipe words src datapath overlap samples out = IsCommandIn words (pipe src datapath overlap samples out)
 
+-- the words are `net NET SAMPLES OUT`, and OUT is none of the inputs
+abbrev pub IsNet : List (String Global) → Name → Name → Name → Type 0
+IsNet words joins samples out = IsCommandIn words (net joins samples out)
+
 -- what holds of each command that words are: OUT is none of the inputs, and numbers are in their ranges
 abbrev pub IsAllowed : Command → Type 0
 IsAllowed (compile src datapath out) = (out ≢ src) × (out ≢ datapath)
@@ -185,3 +197,4 @@ IsAllowed (demo sections samples) = ((1 ≤ sections) × (sections ≤ 32)) × (
 IsAllowed (stages src datapath overlap) = (1 ≤ overlap) × (overlap ≤ 4)
 IsAllowed (pipe src datapath overlap samples out) =
     ((1 ≤ overlap) × (overlap ≤ 4)) × (out ≢ src) × (out ≢ datapath) × (out ≢ samples)
+IsAllowed (net joins samples out) = (out ≢ joins) × (out ≢ samples)

@@ -61,6 +61,11 @@ pub enum Command<'a> {
         samples: &'a str,
         output: &'a str,
     },
+    Net {
+        net: &'a str,
+        samples: &'a str,
+        output: &'a str,
+    },
 }
 
 /// Whether two names differ.
@@ -234,6 +239,26 @@ fn pipe_form(words: &[String]) -> Option<Command<'_>>
     }
 }
 
+/// The words of `net`.
+fn net_form(words: &[String]) -> Option<Command<'_>>
+    ensures form { MatchOption result (spec.net_form (spec.names_of words.now) ≡ None)
+        (λ found. spec.net_form (spec.names_of words.now) ≡ Some (named found)) }
+    ensures allowed { IfSome result (λ found. spec.IsAllowed (named found)) }
+{
+    match words {
+        [net, samples, output]
+            if differ(output.as_str(), net.as_str()) && differ(output.as_str(), samples.as_str()) =>
+            {
+                Some(Command::Net {
+                    net: net.as_str(),
+                    samples: samples.as_str(),
+                    output: output.as_str(),
+                })
+            }
+        _ => None,
+    }
+}
+
 /// The command that the words are, or nothing where they are none.
 pub fn command_in(words: &[String]) -> Option<Command<'_>>
     ensures is { MatchOption result (spec.command_in (spec.names_of words.now) ≡ None)
@@ -251,6 +276,7 @@ pub fn command_in(words: &[String]) -> Option<Command<'_>>
         "demo" => demo_form(words),
         "stages" => stages_form(words),
         "pipe" => pipe_form(words),
+        "net" => net_form(words),
         _ => None,
     }
 }
