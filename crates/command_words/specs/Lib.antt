@@ -1,2 +1,3 @@
 pub mod Command
 pub mod Named
+pub mod WordLists
