@@ -396,6 +396,23 @@ const KEEPING: [(&[&str], &[u8]); 3] = [
     ),
 ];
 
+/// How a command ends, and how many samples the machine has run that it keeps.
+fn samples_kept<D: Desk>(
+    alloc: Global,
+    words: &[&str],
+    desk: &mut D,
+) -> Result<(Status, Option<u64>), Fail> {
+    let words = list(alloc, words)?;
+    let mut kept = Kept::Nothing;
+    let status = silc(alloc, &words, desk, &mut kept);
+    let samples = match &kept {
+        Kept::One(machine) => Some(machine.samples()),
+        Kept::Staged(machine) => Some(machine.samples()),
+        Kept::Nothing => None,
+    };
+    Ok((status, samples))
+}
+
 #[test]
 fn a_run_keeps_the_machine_after_the_last_sample(rt: HostRuntime) -> Result<(), Fail> {
     let alloc = rt.alloc();
@@ -403,17 +420,10 @@ fn a_run_keeps_the_machine_after_the_last_sample(rt: HostRuntime) -> Result<(), 
         let mut desk = desk_with(alloc, 100, SOURCE)?;
         desk.put("SAMPLES", b"0\n127\n-128\n")?;
         assert_eq!(rt; carry_out(alloc, &COMPILE, &mut desk)?, Status::Done);
-        let words = list(alloc, words)?;
-        let mut kept = Kept::Nothing;
-        let status = silc(alloc, &words, &mut desk, &mut kept);
+        let (status, samples) = samples_kept(alloc, words, &mut desk)?;
         assert_eq!(rt; status, Status::Done);
-        assert_eq!(rt; desk.get("ROWS"), Some(rows));
-        let samples = match &kept {
-            Kept::One(machine) => Some(machine.samples()),
-            Kept::Staged(machine) => Some(machine.samples()),
-            Kept::Nothing => None,
-        };
         assert_eq!(rt; samples, Some(3));
+        assert_eq!(rt; desk.get("ROWS"), Some(rows));
     }
     Ok(())
 }
