@@ -39,7 +39,7 @@ from silc.linking.numbers import NoNumber
 from silc.linking.places import Unlinked, file_at
 from silc.linking.templates import template
 from silc.linking.trying import faults_of
-from silc.made_files import MadeFiles, NotMade, add_force
+from silc.made_files import MadeFiles, NotMade, add_force, put_whole
 
 STDOUT = "/dev/stdout"
 
@@ -142,15 +142,15 @@ def make_pages(options: argparse.Namespace, library: Library) -> None:
     others = {Path(pages.PICTURES) / name.name for name in Path(pages.PICTURES).glob("library_*.svg")} - set(made)
     if not options.check:
         for file, text in made.items():
-            file.write_text(text)
-        for file in others:
-            file.unlink()
+            put_whole(file, text.encode())
+        for file in sorted(others):
+            print(f"{file} is of no block: remove it", file=sys.stderr)
         return
     for file, text in made.items():
         if not file.is_file() or file.read_text() != text:
             raise Failed(f"{file} is not as it would be made; `tools/link --pages` makes it")
     for file in others:
-        raise Failed(f"{file} is of no block; `tools/link --pages` takes it away")
+        raise Failed(f"{file} is of no block: remove it")
 
 
 def run(options: argparse.Namespace) -> None:
