@@ -1,5 +1,7 @@
-"""Sources of 1 MiB that are mostly loops without turns: they count nothing of the load, and take the most of a compiler."""
+"""Sources of 1 MiB that are mostly loops without turns: they count nothing of the load, and take the most of a
+compiler."""
 import random
+from collections.abc import Iterable, Iterator, Sequence
 from itertools import pairwise, repeat
 
 SIZE = 1 << 20
@@ -8,7 +10,7 @@ TERMS = 250
 SEED = 1
 
 
-def filled(head, foot, lows, body):
+def filled(head: str, foot: str, lows: Iterable[str], body: str) -> str:
     """A source with loops with these bounds below 1 between head and foot, one after another, as many as fit."""
     parts, room = [head], SIZE - len(head) - len(foot)
     for low in lows:
@@ -20,13 +22,13 @@ def filled(head, foot, lows, body):
     return "".join(parts) + foot
 
 
-def empty_loops(loops, lows, body):
+def empty_loops(loops: Sequence[str], lows: Iterable[str], body: str) -> str:
     """A source of such loops inside the others."""
     head = "func main(x : bool) y : bool =\nbegin\ny = x;\n" + "".join(f"({loop}) ::\nbegin\n" for loop in loops)
     return filled(head, "end;\n" * (len(loops) + 1), lows, body)
 
 
-def called_loops(calls, turns, lows):
+def called_loops(calls: int, turns: int, lows: Iterable[str]) -> str:
     """A source whose main function calls another so often, with such loops in a loop of so many turns."""
     head = f"func f(x : bool) y : bool =\nbegin\ny = x;\n(i : 1 .. {turns}) ::\nbegin\n(k : i .. i) ::\nbegin\n"
     foot = (f"end;\nend;\nend;\nfunc main(x : bool) y : bool =\nbegin\nvar s[{calls + 1}] : bool;\ns[0] = x;\n"
@@ -34,13 +36,13 @@ def called_loops(calls, turns, lows):
     return filled(head, foot, lows, "")
 
 
-def nested(turns, depth):
+def nested(turns: int, depth: int) -> list[str]:
     """Loops inside one another, each of which has as many turns as the index of the one around it tells."""
     names = ["i", *(f"l{n}" for n in range(depth - 2)), "k"]
     return [f"i : 1 .. {turns}", *(f"{name} : 1 .. {around}" for around, name in pairwise(names))]
 
 
-def random_factor(choices):
+def random_factor(choices: random.Random) -> tuple[str, int]:
     """A random factor, and how many operators and parentheses it has."""
     left, op, right = choices.choice("ik7"), choices.choice("+-*"), choices.choice("ik7")
     return choices.choice(
@@ -55,7 +57,7 @@ def random_factor(choices):
     )
 
 
-def random_bound(choices):
+def random_bound(choices: random.Random) -> str:
     """A random sum over the indices i and k, which a term keeps above 0, with as many operators as a bound may have."""
     bound, weight = str(10**8), 0
     while weight < TERMS:
@@ -65,13 +67,13 @@ def random_bound(choices):
     return bound
 
 
-def random_bounds():
+def random_bounds() -> Iterator[str]:
     choices = random.Random(SEED)
     while True:
         yield random_bound(choices)
 
 
-def bounds_met_once(turns, loops):
+def bounds_met_once(turns: int, loops: int) -> Iterator[str]:
     """Bounds over the index k, one for each of so many loops, that are 0 at a k of their own and above 0 else."""
     for n in range(loops):
         away = f"(k-{1 + n * turns // loops})"
@@ -125,7 +127,7 @@ RANDOM = (
 CALLED = ((1000, 2), (30, 130))
 
 
-def sources():
+def sources() -> Iterator[tuple[str, str]]:
     """What each of the sources has, and its text."""
     for content, loops, lows, body in (
         *((content, loops, repeat(low), body) for content, loops, low, body in HOSTILE),

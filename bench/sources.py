@@ -1,7 +1,7 @@
 """Sources that several scripts measure."""
 
 
-def chain(load, delay=1):
+def chain(load: int, delay: int = 1) -> str:
     # A turn counts itself and 6 operators, and an element of the array.
     count = load // 8
     z = f"z@{delay}" if delay else "z"
@@ -14,7 +14,7 @@ def chain(load, delay=1):
     )
 
 
-def held(load):
+def held(load: int) -> str:
     """A chain, and at its end sums of its words of up to three samples ago. A turn counts 9."""
     count = load // 9
     return (
@@ -25,14 +25,14 @@ def held(load):
     )
 
 
-def taps(count):
+def taps(count: int) -> str:
     return (
         f"func main(x : fix<16,14>) y : fix<16,15> = begin\nvar s[{count + 1}] : fix<16,15>;\ns[0] = 0.0;\n"
         f"(i : 0 .. {count - 1}) :: begin s[i + 1] = s[i] + x * x@i; end;\ny = s[{count}];\nend;\n"
     )
 
 
-def filter16():
+def filter16() -> str:
     half = (0.00390625, -0.0078125, 0.015625, -0.03125, 0.0625, -0.125, 0.25, 0.5)
     coefficients = ", ".join(map(str, half + half[::-1]))
     return (
@@ -42,7 +42,7 @@ def filter16():
     )
 
 
-def cascade(equation, count):
+def cascade(equation: str, count: int) -> str:
     return (
         f"func section(x : fix<16,8>) y : fix<16,8> = begin\n{equation}\nend;\n"
         f"func main(x : fix<16,8>) y : fix<16,8> = begin\nvar s[{count + 1}] : fix<16,8>;\ns[0] = x;\n"
@@ -50,5 +50,5 @@ def cascade(equation, count):
     )
 
 
-def biquads(count):
+def biquads(count: int) -> str:
     return cascade("y = 0.5 * x + 0.25 * x@1 + 0.125 * x@2 - 0.25 * y@1 - 0.125 * y@2;", count)

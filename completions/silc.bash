@@ -1,7 +1,7 @@
 # Completion of `silc` for bash: source this file, or put it into a folder of bash-completion under the name `silc`.
 
 # made by tools/completions
-_silc_words='run eval compile sim schedule list demo stages pipe explain check draw design ranges values noise explore link rows assemble rom vcd verilog cosimulate synthesize fuzz show build help'
+_silc_words='run eval compile sim schedule list demo stages pipe frame net explain check draw design ranges values noise explore link rows batch assemble rom vcd verilog cosimulate synthesize board fuzz show build help'
 _silc_forms='run *.sil *.toml * *
 eval *.sil * *
 compile *.sil *.toml *
@@ -11,21 +11,29 @@ list *.mic
 demo - -
 stages *.sil *.toml -
 pipe *.sil *.toml - * *
-explain run|eval|compile|sim|schedule|list|demo|stages|pipe
+frame *.sil *.toml - - - *
+net *.toml * *
+explain run|eval|compile|sim|schedule|list|demo|stages|pipe|frame|net
 check *.sil
 draw datapath *.toml
 draw schedule * *.toml *.sil
+draw unfolded * *.toml
 draw lifetimes * *.toml
 draw response * - - ...
 draw words * - ...
 draw tradeoff *.csv
 draw crates *
+draw net *.toml
 draw docs
 design sos * ...
 design fir * ...
 design iir - - - - - ...
 design fir kaiser - - - ...
 design fir remez - - - - ...
+design bands ...
+design crossover - - - - ...
+design cic - -
+design halfband down up - -
 ranges *.sil *
 ranges *.sil
 values *.sil * - ...
@@ -38,39 +46,51 @@ link *
 link - ...
 rows from-wav *.wav -
 rows to-wav * - - *.wav
+batch *.sil / *
+batch *.mic / *
+batch *.toml / *
 assemble *.listing *
 rom *.mic
 vcd *.mic *.toml * * - -
 verilog *.mic /
+verilog *.sil *.toml /
+verilog *.toml /
 cosimulate *.mic *
+cosimulate *.sil *.toml *
+cosimulate *.toml *
 synthesize *.mic
+synthesize *.toml
+board - *.mic /
 fuzz sources|datapaths|microcode|samples|damaged|all - -
 show tokens|tree|text|names|elements|types|graph *.sil
 show origins *.sil *.toml
 show values *.sil *
 show manifests|words *
 show image *.mic
+show guarded *.sil *.toml -
 show trace *.mic * - - -
 show datapath *.toml
 show rows - *
 show repeat - - *
-show repeat assign|plan|allot|assemble - *.sil *.toml'
-_silc_options='explain --datapath=*.toml --edits --json --page --place=-
-check --all --warn
-draw --check --db=- --force --frequencies=- --out=*.svg --range=- --rate=-
-design --attenuation=- --force --form=df1|df2t|lattice --gains=- --input=- --norm=l1|l2|peak|none --order=up|down|given --out=* --rate=- --ripple=- --rounding=nearest|down|zero --seconds=- --shape=- --signal=- --single --taps=- --weights=- --width=-
+show repeat assign|plan|stages-S|allot|assemble - *.sil *.toml'
+_silc_options='explain --datapath=*.toml --edits --json --library=/ --page --place=-
+check --all --library=/ --warn
+draw --check --db=- --folder=/ --force --frequencies=- --library=/ --out=*.svg --range=- --rate=-
+design --attenuation=- --band=- --dither=- --edge=- --force --form=df1|df2t|lattice --gains=- --input=- --limit --norm=l1|l2|peak|none --order=up|down|given --out=* --rate=- --ripple=- --rounding=nearest|down|zero --seconds=- --shape=- --signal=- --single --stereo --taps=- --weights=- --width=-
 ranges --all --element=- --force --json --picture=* --seconds=- --worst --worst-input=* --wraps=-
 values --json
 noise --against=* --force --impulse=- --picture=* --zero-input=-
-explore --against=* --area=ice40|xilinx|ecp5 --best=- --dsp --force --jobs=- --json --out=- --pool --samples=* --sshlogin=-
-link --check=*.sil --force --library=/ --pages --template=*.sil --test --where=-
+explore --against=* --area=ice40|xilinx|ecp5 --best=- --clock=- --dsp --force --jobs=- --json --library=/ --out=- --pool --samples=* --sshlogin=- --stages=-
+link --check=*.sil --force --library=/ --pages --test --where=-
 rows --bits=16|24|32 --columns=- --force
+batch --force --jobs=- --sshlogin=-
 assemble --force --listing=*.mic --version=1|2
 rom --c --force --intel --map --name=- --out=* --readmemh
 vcd --force
-verilog --datapath=*.toml --force --full --name=-
-cosimulate --datapath=*.toml --force --full --vcd=* --wait=- --with=icarus|verilator
-synthesize --datapath=*.toml --dsp --for=ice40|xilinx|ecp5 --full --json --route
+verilog --datapath=*.toml --force --full --name=- --stages=-
+cosimulate --datapath=*.toml --force --full --stages=- --vcd=* --wait=- --with=icarus|verilator
+synthesize --datapath=*.toml --dsp --for=ice40|xilinx|ecp5 --full --json --part=up5k|hx8k --rate=- --route
+board --bits=- --build --datapath=*.toml --force --name=- --output=- --rate=- --samples=* --slave
 fuzz --all-or-none --case=- --jobs=-'
 # end
 
@@ -98,7 +118,7 @@ _silc_read() {
     for ((i = 2; i < COMP_CWORD; i++)); do
         if [[ -n $value ]]; then
             value=''
-        elif [[ ${COMP_WORDS[i]} == -* ]]; then
+        elif [[ ${COMP_WORDS[i]} == -?* ]]; then
             while read -r -a options; do
                 for option in "${options[@]}"; do
                     [[ ${options[0]} != "$command" || $option != "${COMP_WORDS[i]}="* ]] || value=${option#*=}

@@ -1,5 +1,5 @@
-"""Builds the wheel of the package: its files as they are, the parts of a core, and the proved programs where they are built.
-It needs nothing but the standard library, so `pip install ./python` fetches nothing."""
+"""Builds the wheel of the package: its files as they are, the parts of a core, and the proved programs where they are
+built. It needs nothing but the standard library, so `pip install ./python` fetches nothing."""
 from __future__ import annotations
 
 import base64
@@ -12,7 +12,7 @@ from typing import Any
 HERE = Path(__file__).resolve().parent
 TOP = HERE.parent
 PACKAGE = HERE / "silc"
-PARTS = TOP / "hardware" / "silc_parts.v"
+PARTS = [TOP / "hardware" / name for name in ("silc_parts.v", "silc_i2s.v")]
 # What the package takes beside its modules.
 ENDINGS = {".py", ".txt", ".typed"}
 EXECUTABLE, PLAIN = 0o755, 0o644
@@ -35,7 +35,8 @@ def metadata() -> str:
     """What is said of the package."""
     of = project()
     return (f"Metadata-Version: 2.1\nName: {of['name']}\nVersion: {of['version']}\nSummary: {of['description']}\n"
-            f"Requires-Python: {of['requires-python']}\nProvides-Extra: numpy\nRequires-Dist: numpy ; extra == 'numpy'\n")
+            f"Requires-Python: {of['requires-python']}\nProvides-Extra: numpy\nRequires-Dist: numpy ; extra == "
+            f"'numpy'\n")
 
 
 class Wheel:
@@ -60,8 +61,9 @@ class Wheel:
         """Adds what a wheel says of itself. Gives its name."""
         pure = str(self.tag.endswith("any")).lower()
         self.add(f"{self.info}/METADATA", metadata().encode())
-        self.add(f"{self.info}/WHEEL", f"Wheel-Version: 1.0\nGenerator: {Path(__file__).stem}\nRoot-Is-Purelib: {pure}\n"
-                                       f"Tag: {self.tag}\n".encode())
+        self.add(f"{self.info}/WHEEL",
+                 f"Wheel-Version: 1.0\nGenerator: {Path(__file__).stem}\nRoot-Is-Purelib: {pure}\n"
+                 f"Tag: {self.tag}\n".encode())
         self.add(f"{self.info}/RECORD", "".join(f"{row}\n" for row in [*self.rows, f"{self.info}/RECORD,,"]).encode())
         self.file.close()
         return self.name
@@ -74,8 +76,8 @@ def build_wheel(folder: str, config: object = None, metadata_folder: str | None 
     for file in sorted(PACKAGE.rglob("*")):
         if file.is_file() and file.suffix in ENDINGS:
             wheel.add(str(file.relative_to(HERE)), file.read_bytes())
-    if PARTS.is_file():
-        wheel.add(f"silc/hardware/{PARTS.name}", PARTS.read_bytes())
+    for part in filter(Path.is_file, PARTS):
+        wheel.add(f"silc/hardware/{part.name}", part.read_bytes())
     for place, program in binaries.items():
         wheel.add(place, program.read_bytes(), EXECUTABLE)
     return wheel.end()

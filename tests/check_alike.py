@@ -11,7 +11,7 @@ from antt.statements import statements_of
 HERE = Path(__file__).resolve().parent
 
 
-def form(text, room):
+def form(text: str, room: Path) -> tuple[str | int, ...]:
     """The form of the one declaration of a text."""
     (room / "text").write_text(text)
     found = statements_of(read("Rattle.tests.proofs.One", room / "text"))
@@ -19,14 +19,17 @@ def form(text, room):
     return found[0].form
 
 
-def main():
+def main() -> int:
     said = tomllib.loads((HERE / "alike_pairs.toml").read_text())
     failed = 0
     with tempfile.TemporaryDirectory() as room:
         for pair in said["pair"]:
-            first, second = (form(f"{said['imports']}\n{pair[which].strip()}\n", Path(room)) for which in ("first", "second"))
+            first, second = (form(f"{said['imports']}\n{pair[which].strip()}\n", Path(room))
+                             for which in ("first", "second"))
             if (first == second) != pair["alike"]:
-                print(f"{pair['name']}: {'taken as different' if pair['alike'] else 'taken as the same'}\n  {first}\n  {second}")
+                print(
+                    f"{pair['name']}: {'taken as different' if pair['alike'] else 'taken as the same'}\n  {first}\n  "
+                    f"{second}")
                 failed += 1
     print(f"{len(said['pair']) - failed} pairs as they should be, {failed} not")
     return 1 if failed else 0

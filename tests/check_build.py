@@ -1,6 +1,6 @@
 #!/usr/bin/env python3
-"""Whether tools/build and ./silc build a program exactly where that is to be done and was asked for: in a repository of three
-crates, with a toolchain that is played by a script and counts its builds.
+"""Whether tools/build and ./silc build a program exactly where that is to be done and was asked for: in a repository of
+three crates, with a toolchain that is played by a script and counts its builds.
 
 usage: tests/check_build.py
 """
@@ -22,7 +22,8 @@ lib) mkdir -p out/rlib && echo built >out/rlib/low.rlib ;;
 run) echo run >>"{kit}/runs"
     grep -q broken src/main.rt && exit 1
     program=out/$(basename "$PWD")
-    mkdir -p out && echo "#!/bin/sh" >$program && echo "echo $(cat "{kit}/line") $(cat src/main.rt) \\"\\$@\\"" >>$program
+    mkdir -p out && echo "#!/bin/sh" >$program
+    echo "echo $(cat "{kit}/line") $(cat src/main.rt) \\"\\$@\\"" >>$program
     chmod +x $program ;;
 esac
 """
@@ -32,7 +33,7 @@ LONG_AGO = time.time() - 10**6
 class Room:
     """A repository whose `silc` is built by the script, and what has been seen to be wrong there."""
 
-    def __init__(self, folder):
+    def __init__(self, folder: Path) -> None:
         self.kit, self.top, self.faults = folder / "kit", folder / "top", []
         # Whether each call of ./silc is to build what is old, and what the last one said.
         self.is_asked, self.said = False, ""
@@ -53,38 +54,41 @@ class Room:
             (self.kit / name).write_text(text)
         (self.kit / "rt").chmod(0o755)
 
-    def run(self, *words):
+    def run(self, *words: str | Path) -> tuple[int, str]:
         path = f"{self.kit}:{Path(sys.executable).parent}:/usr/bin:/bin"
         asked = {"SILC_BUILD": "1" if self.is_asked else ""}
-        done = subprocess.run(words, env=os.environ | asked | {"PATH": path}, stdin=subprocess.DEVNULL, capture_output=True, text=True)
+        done = subprocess.run(words, env=os.environ | asked | {"PATH": path}, stdin=subprocess.DEVNULL,
+                              capture_output=True, text=True)
         self.said = done.stderr
         return done.returncode, done.stdout.strip()
 
-    def builds(self):
+    def builds(self) -> int:
         runs = self.kit / "runs"
         return runs.read_text().count("run") if runs.exists() else 0
 
-    def expect(self, what, said, more, *words, status=0):
+    def expect(self, what: str, said: str, more: int, *words: str | Path, status: int = 0) -> None:
         """Runs the words, or ./silc, which are to end so, print so, and build so many times."""
         before = self.builds()
         ended = self.run(*(words or (self.top / "silc", "list", "b")))
         if ended != (status, said) or self.builds() - before != more:
-            self.faults.append(f"{what}: {ended}, {self.builds() - before} builds, in the place of {(status, said)}, {more}")
+            self.faults.append(
+                f"{what}: {ended}, {self.builds() - before} builds, in the place of {(status, said)}, {more}")
 
-
-    def expect_refusal(self, what, *said):
+    def expect_refusal(self, what: str, *said: str) -> None:
         """Runs ./silc, which is to build nothing, and to say what would be built and how."""
         self.expect(what, "", 0, status=69)
         lines = self.said.splitlines()
-        if len(lines) != 2 or not lines[0].startswith("build: silc_main: ") or f"'{self.top}/silc build'" not in lines[1] or \
+        if len(lines) != 2 or not lines[0].startswith("build: silc_main: ") or f"'{self.top}/silc build'" not in lines[
+                1] or \
                 any(text not in self.said for text in said):
             self.faults.append(f"{what}: it says {self.said!r}")
 
 
-def check_unasked(room):
+def check_unasked(room: Room) -> None:
     """Nothing is built that was not asked for."""
     silc = room.top / "silc"
-    room.expect_refusal("nothing is built, and nothing was asked for", "2 crates are to be proved and built", " min or so")
+    room.expect_refusal("nothing is built, and nothing was asked for", "2 crates are to be proved and built",
+                        " min or so")
     room.expect("what is asked for", "", 2, silc, "build")
     room.expect("once more", "", 0, silc, "build")
     room.expect("it is built", "kit-1 first list b", 0)
@@ -105,7 +109,7 @@ def check_unasked(room):
         shutil.rmtree(room.top / "crates" / name / "out")
 
 
-def check(room):
+def check(room: Room) -> None:
     room.is_asked = True
     room.expect("nothing is built", "kit-1 first list b", 1)
     room.expect("nothing has changed", "kit-1 first list b", 0)
@@ -137,7 +141,7 @@ def check(room):
     room.expect("no toolchain, and another source", "", 0, status=70)
 
 
-def main():
+def main() -> int:
     with tempfile.TemporaryDirectory(prefix="silc-build-test-") as folder:
         room = Room(Path(folder).resolve())
         check_unasked(room)

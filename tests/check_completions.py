@@ -9,6 +9,7 @@ import shutil
 import subprocess
 import sys
 import tempfile
+from collections.abc import Sequence
 from pathlib import Path
 
 ROOT = Path(__file__).resolve().parent.parent
@@ -34,8 +35,12 @@ CASES = [
     (["explain", "--datapath", ""], {"small.toml", "folder"}),
     (["explain", "--datapath", "small.toml", "sim", "f"], {"fir.mic", "folder"}),
     (["explain", "run", "fir.sil", "s"], {"small.toml"}),
+    (["frame", "fir.sil", "s"], {"small.toml"}),
+    (["frame", "fir.sil", "small.toml", "4", "0", ""], set()),
+    (["frame", "fir.sil", "small.toml", "4", "0", "-", "f"], {"fir.sil", "fir.mic", "front.csv", "folder"}),
+    (["explain", "fr"], {"frame"}),
     (["check", "f"], {"fir.sil", "folder"}),
-    (["check", "--"], {"--all", "--warn"}),
+    (["check", "--"], {"--all", "--library", "--warn"}),
     (["draw", "d"], {"datapath", "docs"}),
     (["draw", "datapath", ""], {"small.toml", "folder"}),
     (["draw", "schedule", "rows.txt", "s"], {"small.toml"}),
@@ -50,7 +55,7 @@ CASES = [
     (["rows", "to-wav", "--bits", "2"], {"24"}),
     (["explore", "--area", "i"], {"ice40"}),
     (["cosimulate", "--with", ""], {"icarus", "verilator"}),
-    (["verilog", "fir.mic", ""], {"folder"}),
+    (["verilog", "fir.mic", ""], {"folder", "small.toml"}),
     (["fuzz", "so"], {"sources"}),
     (["show", "tr"], {"tree", "trace"}),
     (["show", "graph", ""], {"fir.sil", "two words.sil", "folder"}),
@@ -71,7 +76,7 @@ _files() {
 file=$1; shift; words=(silc "$@"); CURRENT=$(($# + 1)); source $file"""
 
 
-def offered(shell, file, words, room):
+def offered(shell: tuple[list[str], str], file: Path, words: Sequence[str], room: Path) -> set[str]:
     program, script = shell
     done = subprocess.run([*program, "-c", script, "check", file, *words], cwd=room, stdin=subprocess.DEVNULL,
                           capture_output=True, text=True)
@@ -80,8 +85,9 @@ def offered(shell, file, words, room):
     return set(done.stdout.split("\n")) - {""}
 
 
-def main():
-    shells = {"bash": ((["bash", "--norc"], BASH), FOLDER / "silc.bash"), "zsh": ((["zsh", "-f"], ZSH), FOLDER / "_silc")}
+def main() -> int:
+    shells = {"bash": ((["bash", "--norc"], BASH), FOLDER / "silc.bash"),
+              "zsh": ((["zsh", "-f"], ZSH), FOLDER / "_silc")}
     faults = []
     with tempfile.TemporaryDirectory(prefix="silc-completions-") as folder:
         room = Path(folder)

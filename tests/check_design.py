@@ -10,10 +10,11 @@ import os
 import subprocess
 import sys
 import tempfile
+from collections.abc import Iterator, Sequence
 from pathlib import Path
 
 import check_tutorial
-from check_tutorial import BLOCK, BUILT, CONSOLE, ROOT, commands_in, page_with, run
+from check_tutorial import BLOCK, BUILT, CONSOLE, ROOT, Command, commands_in, page_with, run
 
 from silc.designing import scipy_designs
 
@@ -24,17 +25,17 @@ DRAWN = {"ranges.svg": "design_ranges.svg", "low_noise.svg": "design_noise.svg"}
 SECONDS, SKIPPED = 600, 77
 
 
-def drawn_in(folder):
+def drawn_in(folder: Path) -> dict[str, str]:
     return {shown: (folder / name).read_text() if (folder / name).is_file() else "" for name, shown in DRAWN.items()}
 
 
-def picture_faults(drawn):
+def picture_faults(drawn: dict[str, str]) -> Iterator[str]:
     for name, picture in drawn.items():
         if not (PICTURES / name).is_file() or (PICTURES / name).read_text() != picture:
             yield f"docs/pictures/{name} is not what the page draws; run tests/check_design.py --write"
 
 
-def faults_of(shown, outputs, drawn):
+def faults_of(shown: Sequence[Command], outputs: Sequence[str], drawn: dict[str, str]) -> Iterator[str]:
     for command, output in zip(shown, outputs):
         if command.output != output:
             yield f"docs/DESIGN.md: {command.words[0]} prints\n{output}in the place of\n{command.output}"
@@ -43,7 +44,7 @@ def faults_of(shown, outputs, drawn):
     yield from picture_faults(drawn)
 
 
-def is_lacking():
+def is_lacking() -> bool:
     """Whether SciPy is not there, which is said."""
     try:
         scipy_designs.designed(several=[])
@@ -53,7 +54,7 @@ def is_lacking():
     return False
 
 
-def main(words):
+def main(words: list[str]) -> int:
     if words not in ([], ["--write"]):
         print(__doc__, file=sys.stderr)
         return 2

@@ -1,6 +1,6 @@
 #!/usr/bin/env python3
-"""Whether the grammars in editor/ have the words and symbols of the language, and give each part of the examples a colour,
-and whether the problem matcher takes the lines of tools/check apart, as the cases in tests/check have them.
+"""Whether the grammars in editor/ have the words and symbols of the language, and give each part of the examples a
+colour, and whether the problem matcher takes the lines of tools/check apart, as the cases in tests/check have them.
 
 usage: tests/check_editor.py
 """
@@ -8,23 +8,30 @@ import json
 import re
 import sys
 import tomllib
+from collections.abc import Iterator
 from pathlib import Path
+from typing import Any, TypeAlias
+
+# Scopes with what they match.
+Patterns: TypeAlias = list[tuple[str, re.Pattern[str]]]
 
 ROOT = Path(__file__).resolve().parent.parent
 TEXTS = ROOT / "crates" / "silage_lex" / "specs" / "Texts.antt"
 VSCODE = ROOT / "editor" / "vscode"
 GRAMMAR = VSCODE / "syntaxes" / "silc.tmLanguage.json"
 CHECK_CASES = ROOT / "tests" / "check" / "cases.toml"
+# Sources, those that are to be linked, and blocks.
+SOURCES = ("examples/*/*.sil", "examples/*/*.blocks", "library/*.sil")
 VIM = ROOT / "editor" / "vim" / "syntax" / "silc.vim"
 
 
-def texts(name):
+def texts(name: str) -> list[str]:
     """A list of texts by its definition."""
     body = re.search(rf"\n{name} =\n(.*?)∷ \[\]", TEXTS.read_text(), re.S)[1]
     return re.findall(r'codes "([^"]+)"', body)
 
 
-def rules(grammar):
+def rules(grammar: dict[str, Any]) -> Patterns:
     """The patterns of a grammar in their order, as scopes with what they match."""
     waiting, made = list(grammar["patterns"]), []
     while waiting:
@@ -40,7 +47,7 @@ def rules(grammar):
     return made
 
 
-def coloured(text, patterns):
+def coloured(text: str, patterns: Patterns) -> list[tuple[str, str]]:
     """What the grammar makes of a text: scopes and parts, with an empty scope for a part that no pattern matches."""
     place, made = 0, []
     while place < len(text):
@@ -55,12 +62,12 @@ def coloured(text, patterns):
     return made
 
 
-def vim_words():
+def vim_words() -> set[str]:
     lines = re.findall(r"^syntax keyword (?!silcTodo)\S+ (.*)$", VIM.read_text(), re.M)
     return {word for line in lines for word in line.split()}
 
 
-def matcher_faults():
+def matcher_faults() -> Iterator[str]:
     """The lines of tools/check that the matcher, which the task names, takes apart otherwise."""
     (matcher,) = json.loads((VSCODE / "package.json").read_text())["contributes"]["problemMatchers"]
     (task,) = json.loads((VSCODE / "tasks.json").read_text())["tasks"]
@@ -80,7 +87,7 @@ def matcher_faults():
                 yield f"the problem matcher does not take {file}:{text} apart"
 
 
-def main():
+def main() -> int:
     words, symbols = texts("reserved_words"), texts("symbols")
     patterns = rules(json.loads(GRAMMAR.read_text()))
     faults = []
@@ -92,7 +99,7 @@ def main():
             faults.append(f"{symbol} is no symbol in the grammar")
     if vim_words() != set(words):
         faults.append(f"Vim's words differ: {sorted(vim_words() ^ set(words))}")
-    for source in sorted(ROOT.glob("examples/*/*.sil")):
+    for source in sorted(source for pattern in SOURCES for source in ROOT.glob(pattern)):
         for scope, part in coloured(source.read_text(), patterns):
             if scope in ("", "invalid.illegal.silc"):
                 faults.append(f"{source.name}: {part!r} has no colour")

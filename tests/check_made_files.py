@@ -1,5 +1,6 @@
 #!/usr/bin/env python3
-"""Whether tools keep inputs and files that no tool made, and make files whole or not at all (`python/silc/made_files.py`).
+"""Whether tools keep inputs and files that no tool made, and make files whole or not at all
+(`python/silc/made_files.py`).
 
 usage: tests/check_made_files.py
 """
@@ -26,7 +27,7 @@ def refused(act: Callable) -> str:
     return "done"
 
 
-def half(files: MadeFiles, name: str):
+def half(files: MadeFiles, name: str) -> None:
     try:
         with files.opened(name) as file:
             file.write(b"half")
@@ -41,7 +42,8 @@ def inputs() -> Iterator[tuple]:
     Path("in").write_text("kept")
     os.symlink("in", "link")
     os.link("in", "hard")
-    for name, more in (("in", ""), ("./in", " by another name"), ("link", " by another name"), ("hard", " by another name")):
+    for name, more in (("in", ""), ("./in", " by another name"), ("link", " by another name"),
+                       ("hard", " by another name")):
         files = MadeFiles(["in"], is_forced=True)
         yield f"write {name}", refused(lambda: files.write(name, "new")), f"{name} is the input in{more}"
         yield f"look at {name}", refused(lambda: files.look_at(name)), f"{name} is the input in{more}"
@@ -92,7 +94,8 @@ def whole() -> Iterator[tuple]:
 
 
 def folders() -> Iterator[tuple]:
-    """Of a folder all files are made, or none where one is not the tool's. One that holds what is to be written may stay."""
+    """Of a folder all files are made, or none where one is not the tool's. One that holds what is to be written may
+    stay."""
     contents = {"first": "1", "second": b"2"}
     os.makedirs("there")
     Path("there", "second").write_text("of the user")

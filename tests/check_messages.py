@@ -13,7 +13,12 @@ import sys
 import tempfile
 import threading
 import time
+from collections.abc import Callable, Iterator
 from pathlib import Path
+from typing import Any, TypeAlias
+
+# What an answer is, the answer, and what it has to be.
+Answers: TypeAlias = Iterator[tuple[str, Any, Any]]
 
 ROOT = Path(__file__).resolve().parent.parent
 SERVER = ROOT / "editor" / "lsp" / "silc-lsp"
@@ -52,29 +57,29 @@ to = []
 class Client:
     """An editor: it sends messages and keeps what comes back."""
 
-    def __init__(self):
+    def __init__(self) -> None:
         self.process = subprocess.Popen([sys.executable, SERVER], stdin=subprocess.PIPE, stdout=subprocess.PIPE)
         self.number, self.came, self.told = 0, queue.Queue(), []
         threading.Thread(target=self.listen, daemon=True).start()
 
-    def listen(self):
+    def listen(self) -> None:
         while header := self.process.stdout.readline():
             self.process.stdout.readline()
             body = self.process.stdout.read(int(header.split(b":")[1]))
             self.came.put((time.monotonic(), json.loads(body)))
 
-    def bytes(self, data: bytes):
+    def bytes(self, data: bytes) -> None:
         self.process.stdin.write(data)
         self.process.stdin.flush()
 
-    def send(self, **message):
+    def send(self, **message: Any) -> None:
         body = json.dumps({"jsonrpc": "2.0", **message}).encode()
         self.bytes(b"Content-Length: %d\r\n\r\n%s" % (len(body), body))
 
-    def tell(self, method: str, **params):
+    def tell(self, method: str, **params: Any) -> None:
         self.send(method=method, params=params)
 
-    def wait(self, is_it) -> tuple[float, dict]:
+    def wait(self, is_it: Callable[[dict[str, Any]], bool]) -> tuple[float, dict]:
         """The next message that is meant, with when it came. All that come before it are kept."""
         until = time.monotonic() + SECONDS
         while time.monotonic() < until and (self.process.poll() is None or not self.came.empty()):
@@ -87,18 +92,20 @@ class Client:
                 return at, message
         sys.exit(f"messages: the server {'does not answer' if self.process.poll() is None else 'has ended'}")
 
-    def ask(self, method: str, **params):
+    def ask(self, method: str, **params: Any) -> Any:
         self.number += 1
         number = self.number
         self.send(id=number, method=method, params=params)
         message = self.wait(lambda one: one.get("id") == number)[1]
         return message["result"] if "result" in message else message["error"]
 
-    def open(self, uri: str, text: str, version: int = 1):
-        self.tell("textDocument/didOpen", textDocument={"uri": uri, "languageId": "silc", "version": version, "text": text})
+    def open(self, uri: str, text: str, version: int = 1) -> None:
+        self.tell("textDocument/didOpen",
+                  textDocument={"uri": uri, "languageId": "silc", "version": version, "text": text})
 
-    def change(self, uri: str, text: str, version: int):
-        self.tell("textDocument/didChange", textDocument={"uri": uri, "version": version}, contentChanges=[{"text": text}])
+    def change(self, uri: str, text: str, version: int) -> None:
+        self.tell("textDocument/didChange", textDocument={"uri": uri, "version": version},
+                  contentChanges=[{"text": text}])
 
     def marks(self, uri: str, version: int | None = None) -> list[dict]:
         """The next marks of a document."""
@@ -127,9 +134,9 @@ def edited(text: str, edits: list[dict]) -> str:
     return text
 
 
-def wrong_messages(client: Client):
+def wrong_messages(client: Client) -> Answers:
     """What is no message is told as that, and the next one is answered."""
-    def code(message):
+    def code(message: dict[str, Any]) -> Any:
         return message.get("error", {}).get("code") if message.get("id") is None and "method" not in message else None
 
     for name, data, expected in (
@@ -149,8 +156,9 @@ def wrong_messages(client: Client):
     yield "a request after a change of nothing", client.ask("no/such")["code"], -32601
 
 
-def many_changes(client: Client, uri: str):
-    """Of changes in a row the newest is looked at, and requests between them are answered by the text that is there then."""
+def many_changes(client: Client, uri: str) -> Answers:
+    """Of changes in a row the newest is looked at, and requests between them are answered by the text that is there
+    then."""
     client.open(uri, f"{WORD} begin y = x; end;")
     yield "opened without a fault", client.marks(uri), []
     first, number = len(client.told), client.number + 1
@@ -169,7 +177,7 @@ def many_changes(client: Client, uri: str):
     yield "a question in between", inner, [f"v{CHANGES // 2}", "y"]
 
 
-def questions(client: Client, uri: str):
+def questions(client: Client, uri: str) -> Answers:
     """Layout, calls, numbers, faults and cures."""
     document = {"uri": uri}
     client.open(uri, SOURCE)
@@ -178,10 +186,11 @@ def questions(client: Client, uri: str):
     for name, words, after, active in (("first argument", "low(fix<", 4, 0), ("in a cast of it", "(x * 0.3)", 2, 0),
                                        ("second argument", ", 0.25)", 2, 1)):
         help_ = client.ask("textDocument/signatureHelp", textDocument=document, position=place(SOURCE, words, after))
-        label = "func low(x : fix<16,15>, gain : fix<16,15>) y : fix<16,15>"
-        yield f"parameters, {name}", help_, {"signatures": [{"label": label, "parameters": [
-            {"label": "x : fix<16,15>"}, {"label": "gain : fix<16,15>"}]}], "activeSignature": 0, "activeParameter": active}
-    yield "no call", client.ask("textDocument/signatureHelp", textDocument=document, position=place(SOURCE, "t + x")), None
+        signature = {"label": "func low(x : fix<16,15>, gain : fix<16,15>) y : fix<16,15>",
+                     "parameters": [{"label": "x : fix<16,15>"}, {"label": "gain : fix<16,15>"}]}
+        yield f"parameters, {name}", help_, {"signatures": [signature], "activeSignature": 0, "activeParameter": active}
+    yield "no call", client.ask("textDocument/signatureHelp", textDocument=document,
+                                position=place(SOURCE, "t + x")), None
     # 0.3 * 32768 = 9830.4; -9830.4 is nearest to -9830.
     for words, told in (("0.3)", "0.3 in fix<16,15>: the raw word 9830, which is 0.29998779296875"),
                         ("0.25)", "0.25 in fix<16,15>: the raw word 8192"),
@@ -191,7 +200,8 @@ def questions(client: Client, uri: str):
     client.change(uri, FAULTS, 2)
     yield "all faults", shown(client.marks(uri)), [
         (3, 6, 1, "nothing here is called `a`"), (4, 6 + 5, 1, "a `;` is missing after `b`"), ]
-    yield "a fault has no layout", client.ask("textDocument/formatting", textDocument=document, options={}).get("code"), -32803
+    yield "a fault has no layout", client.ask("textDocument/formatting", textDocument=document,
+                                              options={}).get("code"), -32803
     at = place(FAULTS, "\nend")
     actions = client.ask("textDocument/codeAction", textDocument=document, range={"start": at, "end": at}, context={})
     yield "the cure", [(one["title"], edited(FAULTS, one["edit"]["changes"][uri])) for one in actions], [
@@ -207,7 +217,7 @@ def questions(client: Client, uri: str):
         doubtful.replace("x@1;", "x@1; /* wraps */")]
 
 
-def in_the_midst(client: Client, room: Path):
+def in_the_midst(client: Client, room: Path) -> Answers:
     """A document that is closed before it is looked at, and one whose cures are asked for directly after a change."""
     uri, other = (room / "closed.sil").as_uri(), (room / "asked.sil").as_uri()
     first = len(client.told)
@@ -221,12 +231,13 @@ def in_the_midst(client: Client, room: Path):
     text = f"{WORD} begin y = x end;"
     client.change(other, text, 2)
     at = place(text, " end")
-    actions = client.ask("textDocument/codeAction", textDocument={"uri": other}, range={"start": at, "end": at}, context={})
+    actions = client.ask("textDocument/codeAction", textDocument={"uri": other}, range={"start": at, "end": at},
+                         context={})
     yield "the cure of the newest", [edited(text, one["edit"]["changes"][other]) for one in actions], [
         text.replace("x end", "x; end")]
 
 
-def datapaths(client: Client, room: Path):
+def datapaths(client: Client, room: Path) -> Answers:
     """The fault of a datapath file that a source names, saved or open, and of one that is open by itself."""
     room = room / "a b"
     room.mkdir()
@@ -245,14 +256,15 @@ def datapaths(client: Client, room: Path):
     yield "a file of something else", client.marks(alone), []
 
 
-def main():
+def main() -> int:
     answers = []
     with tempfile.TemporaryDirectory(prefix="silc-messages-") as folder:
         room = Path(folder).resolve()
         client = Client()
         client.ask("initialize", capabilities={})
         for part in (wrong_messages(client), many_changes(client, (room / "many.sil").as_uri()),
-                     questions(client, (room / "some.sil").as_uri()), in_the_midst(client, room), datapaths(client, room)):
+                     questions(client, (room / "some.sil").as_uri()), in_the_midst(client, room),
+                     datapaths(client, room)):
             answers += part
         client.ask("shutdown")
         client.tell("exit")

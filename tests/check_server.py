@@ -1,6 +1,7 @@
 #!/usr/bin/env python3
-"""Whether the language server answers a real client: headless Neovim opens a source, asks about its names, and changes it;
-and whether the lines for Neovim 0.7 in editor/README.md start it, and Vim's compiler takes the lines of tools/check apart.
+"""Whether the language server answers a real client: headless Neovim opens a source, asks about its names, and changes
+it; and whether the lines for Neovim 0.7 in editor/README.md start it, and Vim's compiler takes the lines of tools/check
+apart.
 
 usage: tests/check_server.py
 
@@ -14,6 +15,7 @@ import subprocess
 import sys
 import tempfile
 from pathlib import Path
+from typing import Any
 
 HERE = Path(__file__).resolve().parent
 ROOT = HERE.parent
@@ -52,10 +54,10 @@ QUESTIONS = {"hover_table": ("hover", 13, "h[k] *"), "hover_local": ("hover", 15
 EDITS = {"broken": (15, "y", "z"), "mended": (15, "z", "y"), "undefined": (15, "y = s[2];", "")}
 
 
-def asked(room):
+def asked(room: Path) -> dict[str, Any]:
     lines = SOURCE.splitlines()
 
-    def column(line, text):
+    def column(line: int, text: str) -> int:
         return len(lines[line][: lines[line].index(text)].encode("utf-16-le")) // 2
 
     questions = [{"name": name, "method": f"textDocument/{method}", "line": line, "column": column(line, text)}
@@ -65,19 +67,21 @@ def asked(room):
         start = lines[line].index(old)
         edits.append({"name": name, "line": line, "from": start, "to": start + len(old), "text": new})
         lines[line] = lines[line].replace(old, new, 1)
-    return {"command": [sys.executable, str(SERVER)], "source": str(room / "some.sil"), "options": {}, "questions": questions,
-            "edits": edits}
+    return {"command": [sys.executable, str(SERVER)], "source": str(room / "some.sil"), "options": {},
+            "questions": questions, "edits": edits}
 
 
-def answered(room, text, asked_for, configuration="NONE"):
+def answered(room: Path, text: str, asked_for: dict[str, Any], configuration: str | Path = "NONE") -> dict[str, Any]:
     """What the server answers in Neovim about a text."""
     (room / "some.sil").write_text(text)
     shutil.copy(DATAPATH, room / "plain.toml")
     (room / "asked.json").write_text(json.dumps(asked_for))
     (room / "answers.json").unlink(missing_ok=True)
-    environment = os.environ | {"ASKED": str(room / "asked.json"), "ANSWERS": str(room / "answers.json"), "HOME": str(room),
+    environment = os.environ | {"ASKED": str(room / "asked.json"), "ANSWERS": str(room / "answers.json"),
+                                "HOME": str(room),
                                 "XDG_STATE_HOME": str(room), "XDG_DATA_HOME": str(room), "XDG_CONFIG_HOME": str(room)}
-    words = ["nvim", "--headless", "-u", configuration, "-i", "NONE", "-n", "-c", f"luafile {HERE / 'check_server.lua'}"]
+    words = ["nvim", "--headless", "-u", configuration, "-i", "NONE", "-n", "-c",
+             f"luafile {HERE / 'check_server.lua'}"]
     done = subprocess.run(words, cwd=room, env=environment, stdin=subprocess.DEVNULL, capture_output=True, text=True,
                           timeout=SECONDS)
     if not (room / "answers.json").is_file():
@@ -85,7 +89,7 @@ def answered(room, text, asked_for, configuration="NONE"):
     return json.loads((room / "answers.json").read_text())
 
 
-def by_readme(room):
+def by_readme(room: Path) -> dict[str, Any]:
     """What Neovim 0.7 answers with the lines of editor/README.md and the package for Vim."""
     (block,) = re.findall(r"```lua\n( *-- 0\.7\n.*?)```", README.read_text(), re.S)
     lines = block.replace("REPOSITORY", str(ROOT)).replace("one_multiplier.toml", "plain.toml")
@@ -99,25 +103,25 @@ def by_readme(room):
             "make": answers["make"]}
 
 
-def told(answer):
+def told(answer: Any) -> str | None:
     return answer["contents"]["value"].removeprefix("```silc\n").removesuffix("\n```") if answer else None
 
 
-def places(answer):
+def places(answer: Any) -> list[tuple[int, int]]:
     """The lines and columns of places, from 0."""
     listed = answer if isinstance(answer, list) else [answer]
     return [(place["range"]["start"]["line"], place["range"]["start"]["character"]) for place in listed]
 
 
-def labels(answer):
+def labels(answer: Any) -> list[str]:
     return [item["label"] for item in answer]
 
 
-def outlined(answer):
+def outlined(answer: Any) -> dict[str, list[str]]:
     return {symbol["name"]: [inner["name"] for inner in symbol["children"]] for symbol in answer}
 
 
-def found(answers):
+def found(answers: dict[str, Any]) -> dict[str, Any]:
     """What is compared, by its name."""
     hovers = {name: told(answers[name]) for name in QUESTIONS if name.startswith("hover")}
     return hovers | {"definition": places(answers["definition"]), "definition_of_x": places(answers["definition_of_x"]),
@@ -132,8 +136,9 @@ def found(answers):
 
 PLANNED = (8, "over plain.toml: a period of 22 cycles, 13 nodes")
 # Of x = -1.0: -2.0 of `twice`, and 0.5 and 0.25 times x.
-WRAPPING = (13, "`s[k] + h[k] * x@k` reaches -2.75 with inputs at the ends of their ranges, where `k` = 1, and `fix<16,15>` "
-                "wraps below -1")
+WRAPPING = (13,
+            "`s[k] + h[k] * x@k` reaches -2.75 with inputs at the ends of their ranges, where `k` = 1, and "
+            "`fix<16,15>` wraps below -1")
 EXPECTED = {
     "hover_table": "h[2] : fix<16,15> (table, 2 elements)",
     "hover_local": "s[3] : fix<16,15> (local of main, 3 elements)",
@@ -159,7 +164,7 @@ EXPECTED = {
 }
 
 
-def main():
+def main() -> int:
     if not shutil.which("nvim"):
         print("lsp: Neovim is not there (apt-get install neovim): 1 session skipped")
         return SKIPPED

@@ -1,15 +1,15 @@
 #!/usr/bin/env python3
-"""Whether docs/TUTORIAL.md and docs/DESIGNING.md say what happens: the files of a page are made and its commands run, one
-after another, in one shell.
+"""Whether docs/TUTORIAL.md and docs/DESIGNING.md say what happens: the files of a page are made and its commands run,
+one after another, in one shell.
 
-usage: tests/check_tutorial.py [--silc PROGRAM]            ends with 1 where an output or the picture is another, and prints
-                                                           what differs
-       tests/check_tutorial.py [--silc PROGRAM] --write    writes what the commands print into the pages, and the picture
-                                                           that they draw
+usage: tests/check_tutorial.py [--silc PROGRAM]            ends with 1 where an output or the picture is another, and
+                                                           prints what differs
+       tests/check_tutorial.py [--silc PROGRAM] --write    writes what the commands print into the pages, and the
+                                                           picture that they draw
 
-A block of `console` has commands after `$ `, which go on after `> `, each with its output. A block with a second word after
-its language is the file of that name. It runs the built `silc`, or PROGRAM; what `SILC` names in the environment is not
-asked.
+A block of `console` has commands after `$ `, which go on after `> `, each with its output. A block with a second word
+after its language is the file of that name. It runs the built `silc`, or PROGRAM; what `SILC` names in the environment
+is not asked.
 """
 import os
 import re
@@ -17,7 +17,12 @@ import shutil
 import subprocess
 import sys
 import tempfile
+from collections.abc import Iterator, Sequence
 from pathlib import Path
+from typing import TypeAlias
+
+# The blocks of a page: the language, the name of a file where there is one, and the text.
+Blocks: TypeAlias = Sequence[tuple[str, ...]]
 
 ROOT = Path(__file__).resolve().parent.parent
 BUILT = ROOT / "crates" / "silc_main" / "out" / "silc_main"
@@ -32,11 +37,11 @@ SECONDS = 60
 class Command:
     """A command with the lines that show it, and what it prints."""
 
-    def __init__(self, line):
+    def __init__(self, line: str) -> None:
         self.shown, self.words, self.output = [line], [line[2:]], ""
 
 
-def commands_in(text):
+def commands_in(text: str) -> list[Command]:
     commands = []
     for line in text.splitlines():
         if line.startswith("$ "):
@@ -49,7 +54,7 @@ def commands_in(text):
     return commands
 
 
-def script_of(blocks):
+def script_of(blocks: Blocks) -> str:
     """The shell script of all blocks: after each command comes a line that marks its end."""
     lines = ["exec 2>&1"]
     for language, name, text in blocks:
@@ -61,7 +66,7 @@ def script_of(blocks):
     return "\n".join(lines) + "\n"
 
 
-def laid_out(room, silc):
+def laid_out(room: Path, silc: Path) -> Path:
     """A folder as the top of the repository, with the program in the place of the built one."""
     top = room / "top"
     made = top / "crates" / "silc_main" / "out"
@@ -74,7 +79,7 @@ def laid_out(room, silc):
     return top
 
 
-def carry_out(blocks, top, variables):
+def carry_out(blocks: Blocks, top: Path, variables: dict[str, str]) -> tuple[list[str], Path]:
     """What each command prints where the first one runs in the top folder, and the folder in which the last one ran."""
     done = subprocess.run(["bash", "-c", script_of(blocks) + "pwd"], cwd=top, stdin=subprocess.DEVNULL, timeout=SECONDS,
                           env=variables, stdout=subprocess.PIPE, text=True)
@@ -82,16 +87,16 @@ def carry_out(blocks, top, variables):
     return outputs, Path(folder.strip())
 
 
-def run(blocks, room, silc):
+def run(blocks: Blocks, room: Path, silc: Path) -> tuple[list[str], Path]:
     """The same at the top of a repository with this program, and with the tools of this one."""
     return carry_out(blocks, laid_out(room, silc), os.environ | {"TMPDIR": str(room), "SILC": str(silc)})
 
 
-def page_with(text, outputs):
+def page_with(text: str, outputs: Sequence[str]) -> str:
     """The page with these outputs in the place of its own."""
     outputs = iter(outputs)
 
-    def block(found):
+    def block(found: re.Match[str]) -> str:
         if found[1] != CONSOLE:
             return found[0]
         shown = ("\n".join(command.shown) + "\n" + next(outputs) for command in commands_in(found[3]))
@@ -100,7 +105,7 @@ def page_with(text, outputs):
     return BLOCK.sub(block, text)
 
 
-def carried_out(page, silc):
+def carried_out(page: Path, silc: Path) -> tuple[list[Command], list[str], dict[str, str]]:
     """The commands of a page, what each prints, and the pictures that they draw."""
     blocks = [found.groups() for found in BLOCK.finditer(page.read_text())]
     shown = [command for language, _, part in blocks if language == CONSOLE for command in commands_in(part)]
@@ -110,7 +115,7 @@ def carried_out(page, silc):
     return shown, outputs, drawn
 
 
-def write(page, shown, outputs, drawn):
+def write(page: Path, shown: Sequence[Command], outputs: Sequence[str], drawn: dict[str, str]) -> bool:
     """Writes what was printed and drawn, and tells whether all commands were carried out."""
     if len(outputs) != len(shown):
         return False
@@ -120,7 +125,7 @@ def write(page, shown, outputs, drawn):
     return True
 
 
-def faults_of(page, shown, outputs, drawn):
+def faults_of(page: Path, shown: Sequence[Command], outputs: Sequence[str], drawn: dict[str, str]) -> Iterator[str]:
     name = page.relative_to(ROOT)
     for command, output in zip(shown, outputs):
         if command.output != output:
@@ -132,7 +137,7 @@ def faults_of(page, shown, outputs, drawn):
             yield f"docs/pictures/{file} is not what {name} draws; run tests/check_tutorial.py --write"
 
 
-def main(words):
+def main(words: list[str]) -> int:
     silc = BUILT
     if words[:1] == ["--silc"] and len(words) > 1:
         silc, words = Path(words[1]).resolve(), words[2:]

@@ -38,7 +38,8 @@ def mark(place_: dict, message: str, severity: int) -> dict:
 
 
 # The editor counts severities from 0: a fault, a warning, information, a hint.
-DOUBT = mark(place(6, 6, 11), "`t + s` reaches -384 with inputs at the ends of their ranges, and `fix<8,0>` wraps below -128",
+DOUBT = mark(place(6, 6, 11),
+             "`t + s` reaches -384 with inputs at the ends of their ranges, and `fix<8,0>` wraps below -128",
              1)
 MEANT = {"range": place(6, 12, 12), "newText": " /* wraps */"}
 EXPECTED = {
@@ -50,10 +51,13 @@ EXPECTED = {
     "references": [{"uri": "some.sil", "range": place(5, 2, 3)}, {"uri": "some.sil", "range": place(6, 6, 7)}],
     "symbols": [("same", 11, ["x", "y"]), ("main", 11, ["x", "y", "t", "s"])],
     "completion": [("x", 5), ("y", 5)],
-    "signature": {"signatures": [{"label": "func same(x : fix<8,0>) y : fix<8,0>", "parameters": [{"label": "x : fix<8,0>"}]}],
+    "signature": {"signatures": [{"label": "func same(x : fix<8,0>) y : fix<8,0>",
+                                  "parameters": [{"label": "x : fix<8,0>"}]}],
                   "activeSignature": 0, "activeParameter": 0},
-    "layout": [{"range": {"start": {"line": 0, "character": 0}, "end": {"line": 8, "character": 0}}, "newText": LAID_OUT}],
-    "actions": [{"title": "write `/* wraps */` behind it where that is meant; or give it a type with more bits before the "
+    "layout": [{"range": {"start": {"line": 0, "character": 0}, "end": {"line": 8, "character": 0}},
+                "newText": LAID_OUT}],
+    "actions": [{"title": "write `/* wraps */` behind it where that is meant; or give it a type with more bits before "
+                          "the "
                           "point, or one that saturates", "kind": "quickfix", "edit": {"edits": {"some.sil": [MEANT]}},
                  "diagnostics": [DOUBT], "isPreferred": False}],
     "changed": [mark(place(6, 6, 7), "nothing here is called `u`", 0)],
@@ -73,7 +77,8 @@ def answered(room: Path) -> dict:
     if done.returncode or not done.stdout:
         sys.exit(f"vscode: the session did not end well: {done.stderr.strip()[-600:]}")
     got = json.loads(done.stdout)
-    got["symbols"] = [(one["name"], one["kind"], [inner["name"] for inner in one["children"]]) for one in got["symbols"]]
+    got["symbols"] = [(one["name"], one["kind"], [inner["name"] for inner in one["children"]])
+                      for one in got["symbols"]]
     got["completion"] = [(one["label"], one["kind"]) for one in got["completion"]]
     return got
 

@@ -3,8 +3,8 @@
 
 usage: tests/check_warnings.py
 
-Of each output that depends on no past of itself it compares the words at random inputs, half of them at the ends of their
-ranges. It runs the built `silc`, or the one that `SILC` names.
+Of each output that depends on no past of itself it compares the words at random inputs, half of them at the ends of
+their ranges. It runs the built `silc`, or the one that `SILC` names.
 """
 import random
 import subprocess
@@ -14,7 +14,7 @@ from pathlib import Path
 
 from silc.checking.elements import INPUT, Elements
 from silc.explaining.command import DEPTH
-from silc.explaining.grammar import Node
+from silc.explaining.grammar import Node, Type
 from silc.explaining.program import Source
 from silc.explaining.text import Text
 from silc.fuzzing.sources import Program
@@ -30,12 +30,12 @@ def rows_of(data: bytes, rows: list[list[int]]) -> list[list[int]]:
     with tempfile.TemporaryDirectory(prefix="silc-warnings-") as folder:
         Path(folder, "source").write_bytes(data)
         Path(folder, "rows").write_text("".join(",".join(map(str, row)) + "\n" for row in rows))
-        done = subprocess.run([SILC.found(), "eval", "source", "rows", "/dev/stdout"], cwd=folder, stdin=subprocess.DEVNULL,
-                              capture_output=True, text=True, timeout=SECONDS)
+        done = subprocess.run([SILC.found(), "eval", "source", "rows", "/dev/stdout"], cwd=folder,
+                              stdin=subprocess.DEVNULL, capture_output=True, text=True, timeout=SECONDS)
     return [[int(word) for word in row.split(",")] for row in done.stdout.splitlines()]
 
 
-def random_word(rng: random.Random, of) -> int:
+def random_word(rng: random.Random, of: Type) -> int:
     least, greatest = (0, 1) if of.width is None else (-(1 << (of.width - 1)), (1 << (of.width - 1)) - 1)
     return rng.choice((least, greatest, rng.randint(least, greatest), rng.randint(least, greatest)))
 
@@ -46,7 +46,7 @@ def compared(data: bytes, rng: random.Random) -> tuple[int, int]:
     inputs = [number for number, element in enumerate(elements.elements) if element.kind == INPUT]
     scope, cones = elements.main, {}
     for column, number in enumerate(elements.results):
-        name, place = next((name, number - span.start) for name, span in scope.signals.items() if number in span)
+        name, place = next((name, number - span[0]) for name, span in scope.signals.items() if number in span)
         dims = elements.source.decl(scope.func, name).dims
         places = [place] if len(dims) == 1 else [place // dims[1], place % dims[1]] if dims else []
         read = Node("read", 0, 0, 0, name, subs=[Node("whole", 0, 0, 0, value=one) for one in places])

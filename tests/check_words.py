@@ -1,10 +1,11 @@
 #!/usr/bin/env python3
-"""Whether `./silc` hands each word to the program or the tool that it names, with the words behind it, its streams and its
-exit status; whether `silc help` has all of them; and what it says of a word that is none.
+"""Whether `./silc` hands each word to the program or the tool that it names, with the words behind it, its streams and
+its exit status; whether `silc help` has all of them; and what it says of a word that is none.
 
 usage: tests/check_words.py
 
-It runs the script on a copy, over programs and tools that scripts play. The commands are those of tests/commands/help.txt.
+It runs the script on a copy, over programs and tools that scripts play. The commands are those of
+tests/commands/help.txt.
 """
 import os
 import re
@@ -12,7 +13,9 @@ import shutil
 import subprocess
 import sys
 import tempfile
+from collections.abc import Iterator
 from pathlib import Path
+from typing import Any
 
 ROOT = Path(__file__).resolve().parent.parent
 HELP = ROOT / "tests" / "commands" / "help.txt"
@@ -25,19 +28,19 @@ UNSAID = {"alike", "build", "calling", "completions", "crates", "layout", "prove
 OWN = {"show", "build", "help"}
 
 
-def commands():
+def commands() -> set[str]:
     """The commands that the program's own help has."""
     return set(re.findall(r"^(?:usage:|      ) silc ([a-z]+) ", HELP.read_text(), re.M))
 
 
-def tools():
+def tools() -> set[str]:
     return {path.name for path in (ROOT / "tools").iterdir() if path.is_file() and os.access(path, os.X_OK)} - UNSAID
 
 
 class Room:
     """A copy of the script with programs and tools that are played."""
 
-    def __init__(self, folder):
+    def __init__(self, folder: Path) -> None:
         self.top = folder / "top folder"
         for name in ("silc_main", "silc_show"):
             self.play(self.top / "crates" / name / "out" / name)
@@ -47,16 +50,17 @@ class Room:
         (self.top / "RELEASE").touch()
         shutil.copy2(ROOT / "silc", self.top)
 
-    def play(self, path):
+    def play(self, path: Path) -> None:
         path.parent.mkdir(parents=True, exist_ok=True)
         path.write_text(PLAYED)
         path.chmod(0o755)
 
-    def run(self, *words, **more):
-        return subprocess.run([self.top / "silc", *words], cwd=self.top, input="read", capture_output=True, text=True, **more)
+    def run(self, *words: str, **more: Any) -> subprocess.CompletedProcess[str]:
+        return subprocess.run([self.top / "silc", *words], cwd=self.top, input="read", capture_output=True, text=True,
+                              **more)
 
 
-def handed_faults(room):
+def handed_faults(room: Room) -> Iterator[str]:
     """Each word goes where it belongs, and what comes back is what was answered."""
     for word in sorted(commands() | tools() | {"show"}):
         program, *lead = ([word] if word in tools() else ["silc_show"] if word == "show" else ["silc_main", word])
@@ -69,7 +73,7 @@ def handed_faults(room):
             yield f"{word} is not handed to the program"
 
 
-def help_faults(room):
+def help_faults(room: Room) -> Iterator[str]:
     """`silc help` has every word, first those that are proved; and the help of a word is its own."""
     shown = room.run("help")
     heads = re.split(r"^(?=\w.*:\n)", shown.stdout, flags=re.M)
@@ -94,11 +98,11 @@ def help_faults(room):
             yield f"help {word}: {done.returncode} {done.stdout!r}"
 
 
-def near_faults(room):
+def near_faults(room: Room) -> Iterator[str]:
     """A word that is none is refused in a line, which has those that are near it."""
     for word, near in (("drwa", "draw"), ("scheduel", "schedule"), ("comp", "compile"), ("assembler", "assemble"),
-                       ("ex", "explain, explore"), ("evla", "eval"), ("xyzzy", ""), ("--frob", ""), ("draw explain", ""),
-                       ("design draw", ""), ("../tools/draw", ""), ("dra\\\\q\\n", "")):
+                       ("ex", "explain, explore"), ("evla", "eval"), ("xyzzy", ""), ("--frob", ""),
+                       ("draw explain", ""), ("design draw", ""), ("../tools/draw", ""), ("dra\\\\q\\n", "")):
         said = f"; near it: {near}" if near else ""
         expected = f"silc: there is no command {word}{said}; 'silc help' lists them\n"
         for words in ((word, "a"), ("help", word)):
@@ -108,7 +112,7 @@ def near_faults(room):
                 yield f"{words}: {done.returncode} {done.stderr!r} in the place of {expected!r}"
 
 
-def lacking_faults(room):
+def lacking_faults(room: Room) -> Iterator[str]:
     """Where a program is not there, tools run, and what needs it says so."""
     (room.top / "crates" / "silc_main" / "out" / "silc_main").unlink()
     (room.top / "crates" / "silc_show" / "out" / "silc_show").unlink()
@@ -118,7 +122,7 @@ def lacking_faults(room):
             yield f"without programs {word} ends with {done.returncode}: {done.stderr!r}"
 
 
-def main():
+def main() -> int:
     with tempfile.TemporaryDirectory(prefix="silc-words-") as folder:
         room = Room(Path(folder))
         faults = [fault for check in (handed_faults, help_faults, near_faults, lacking_faults) for fault in check(room)]

@@ -1,6 +1,6 @@
 #!/usr/bin/env python3
-"""Whether tools/wrong-bodies takes the bodies that its words name and says what comes of them: in a repository of two crates,
-with a toolchain that is played by a script and judges an edit by the text that it puts.
+"""Whether tools/wrong-bodies takes the bodies that its words name and says what comes of them: in a repository of two
+crates, with a toolchain that is played by a script and judges an edit by the text that it puts.
 
 usage: tests/check_wrong_bodies.py
 """
@@ -9,6 +9,7 @@ import shutil
 import subprocess
 import sys
 import tempfile
+from collections.abc import Sequence
 from pathlib import Path
 
 ROOT = Path(__file__).resolve().parent.parent
@@ -67,10 +68,11 @@ MISSPELT = "high/misspelt: BAD: it did not reach the prover:\nerror[E1]: no such
 class Room:
     """A repository with the tool, and what has been seen to be wrong there."""
 
-    def __init__(self, folder):
+    def __init__(self, folder: Path) -> None:
         self.kit, self.top, self.faults = folder / "kit", folder / "top", []
         texts = {"crates/low/src/lib.rt": "first second\n", "crates/high/src/lib.rt": "above\n",
-                 "crates.txt": "low:\nhigh: low\n", "HANDLES": "Handles allowed: none.\n", "tools/wrong-bodies.toml": TABLE}
+                 "crates.txt": "low:\nhigh: low\n", "HANDLES": "Handles allowed: none.\n",
+                 "tools/wrong-bodies.toml": TABLE}
         for name, text in texts.items():
             self.write(name, text)
         for name in ("build", "wrong-bodies"):
@@ -78,14 +80,15 @@ class Room:
         self.kit.mkdir()
         (self.kit / "rt").write_text(RT)
         (self.kit / "rt").chmod(0o755)
-        for words in (["init", "-q"], ["add", "."], ["-c", "user.name=a", "-c", "user.email=a", "commit", "-qm", "first"]):
+        for words in (["init", "-q"], ["add", "."],
+                      ["-c", "user.name=a", "-c", "user.email=a", "commit", "-qm", "first"]):
             subprocess.run(["git", *words], cwd=self.top, check=True, stdin=subprocess.DEVNULL)
 
-    def write(self, name, text):
+    def write(self, name: str, text: str) -> None:
         (self.top / name).parent.mkdir(parents=True, exist_ok=True)
         (self.top / name).write_text(text)
 
-    def expect(self, what, said, status, *words, kit=True):
+    def expect(self, what: str, said: Sequence[str], status: int, *words: str, kit: bool = True) -> None:
         """Runs the tool, which is to print these lines and to end so."""
         path = f"{self.kit}:" * kit + "/usr/bin:/bin"
         done = subprocess.run([sys.executable, self.top / "tools" / "wrong-bodies", *words], stdin=subprocess.DEVNULL,
@@ -94,7 +97,7 @@ class Room:
             self.faults.append(f"{what}: {done.stdout}{done.stderr}and status {done.returncode}")
 
 
-def check_tries(room):
+def check_tries(room: Room) -> None:
     room.expect("no rt", [], 77, kit=False)
     room.expect("all", [LOST, CUT, KEPT, MISSPELT, "1 passed, 3 failed"], 1)
     room.expect("a crate", [CUT, KEPT, "1 passed, 1 failed"], 1, "low")
@@ -104,7 +107,7 @@ def check_tries(room):
         room.faults.append("an edit was left in the repository")
 
 
-def check_choice(room):
+def check_choice(room: Room) -> None:
     every = ["low/cut", "low/kept", "high/misspelt", "high/lost"]
     room.expect("the list", every, 0, "--list")
     room.expect("nothing has changed", [], 0, "--list", "--since", "HEAD")
@@ -118,7 +121,7 @@ def check_choice(room):
     room.expect("of one crate", every[:2], 0, "--list", "--since", "HEAD", "low")
 
 
-def check_quick(room):
+def check_quick(room: Room) -> None:
     room.expect("a text is lost", [LOST, "4 passed, 1 failed"], 1, "--check", kit=False)
     room.write("crates/high/src/lib.rt", "above and no such text\n")
     room.expect("each can be planted", ["5 passed, 0 failed"], 0, "--check", kit=False)
@@ -129,7 +132,7 @@ def check_quick(room):
     room.expect("a table that lacks a text", [], 2, "--check", kit=False)
 
 
-def main():
+def main() -> int:
     if not shutil.which("git"):
         print("check_wrong_bodies: skipped: there is no git")
         return 77

@@ -1,21 +1,25 @@
 #!/usr/bin/env python3
-"""Writes the microcode files of the cases, field by field as docs/MICROCODE.md has them; no part of the compiler is asked.
-Those of increment/ are of version 2, which `silc compile` writes, but for add-8-1.mic; all others are of version 1.
+"""Writes the microcode files of the cases, field by field as docs/MICROCODE.md has them; no part of the compiler is
+asked. Those of increment/ are of version 2, which `silc compile` writes, but for add-8-1.mic; all others are of version
+1.
 
 usage: tests/make_microcode.py [--check]
 
 With --check it writes nothing, and ends with 1 where a file holds other bytes.
 """
 import sys
+from collections.abc import Sequence
 from pathlib import Path
 
 from silc.fuzzing.microcode import NEWEST, OLDEST, image, issue, unit, word
+from silc.micro_file import Unit, Word
 
 HERE = Path(__file__).resolve().parent
 EMPTY = word()
 
 
-def program(period, units, words, inputs=(8,), outs=1, unroll=1, buses=2, version=OLDEST):
+def program(period: int, units: list[Unit], words: list[Word], inputs: Sequence[int] = (8,), outs: int = 1,
+            unroll: int = 1, buses: int = 2, version: int = OLDEST) -> bytes:
     """The bytes of an image whose last words are empty."""
     return image(period, unroll, inputs, outs, units, buses, words + [EMPTY] * (period * unroll - len(words)), version)
 
@@ -23,12 +27,12 @@ def program(period, units, words, inputs=(8,), outs=1, unroll=1, buses=2, versio
 # The programs y = x + n and y = x - n over the datapath of examples/increment
 
 
-def plain_units(output_latency=1):
+def plain_units(output_latency: int = 1) -> list[Unit]:
     return [unit("in"), unit("rom"), unit("alu", files=[[0] * 8] * 2),
             unit("out", output_latency, output_latency, files=[[0] * 2])]
 
 
-def plain_words(width, operation, number):
+def plain_words(width: int, operation: str, number: int) -> list[Word]:
     """Each value goes over bus 0 to register 0: the input, the number, their sum or difference, the output."""
     return [
         word([issue(0, "input")], [(0, 0)], [(2, 0, 0, 0)]),
@@ -38,32 +42,32 @@ def plain_words(width, operation, number):
     ]
 
 
-def one_line(width, operation, number, version=NEWEST):
+def one_line(width: int, operation: str, number: int, version: int = NEWEST) -> bytes:
     return program(16, plain_units(), plain_words(width, operation, number), inputs=(width,), buses=1, version=version)
 
 
 # Programs with one fault
 
 
-def faulty(number, changed, output_latency=1, more_units=()):
+def faulty(number: int, changed: Word, output_latency: int = 1, more_units: Sequence[Unit] = ()) -> bytes:
     """y = x + 1 with another word in the place of one."""
     words = plain_words(8, "add", 1) + [EMPTY]
     words[number] = changed
     return program(16, plain_units(output_latency) + list(more_units), words, buses=1)
 
 
-def taken_twice():
+def taken_twice() -> bytes:
     """y = x + 1 whose sum is taken twice: by the output and by register 1 at 2.0, which nothing reads. No fault."""
     return faulty(2, word([issue(2, "add", [0, 0], width=8)], [(2, 0)], [(2, 0, 0, 1), (3, 0, 0, 0)]))
 
 
-def out_of_memory(address):
+def out_of_memory(address: int) -> bytes:
     """A load from a ram of one cell, beside the input."""
     ram = unit("ram", files=[[address], [0]], cells=[0])
     return faulty(0, word([issue(0, "input"), issue(4, "load", [0, 0])], [(0, 0)], [(2, 0, 0, 0)]), more_units=[ram])
 
 
-def address_from_input():
+def address_from_input() -> bytes:
     """y = cell x of a ram of two cells, which holds 10 and 20."""
     units = [unit("in"), unit("ram", files=[[0], [0]], cells=[10, 20]), unit("out", files=[[0]])]
     words = [
@@ -77,7 +81,7 @@ def address_from_input():
 # Programs that show what happens at once
 
 
-def read_and_written():
+def read_and_written() -> bytes:
     """An addition reads a register in the cycle in which the input is written to it."""
     units = [unit("in"), unit("alu", files=[[3], [0]]), unit("out", files=[[0]])]
     words = [
@@ -87,8 +91,9 @@ def read_and_written():
     return program(2, units, words)
 
 
-def overlap():
-    """A load of three cycles overlaps a store of two to another ram, which is read in the store's last cycle and in the next."""
+def overlap() -> bytes:
+    """A load of three cycles overlaps a store of two to another ram, which is read in the store's last cycle and in the
+    next."""
     units = [unit("in"), unit("ram", 3, files=[[0], [0]], cells=[7, 9]),
              unit("ram", 2, files=[[0], [8]], cells=[5]), unit("out", files=[[0] * 3])]
     words = [
@@ -102,20 +107,20 @@ def overlap():
     return program(6, units, words, outs=3)
 
 
-def one_latch_twice():
+def one_latch_twice() -> bytes:
     """Two output units write one latch in one cycle, the first 4 and the second 6."""
     units = [unit("out", files=[[4]]), unit("out", files=[[6]])]
     return program(1, units, [word([issue(0, "output", [0]), issue(1, "output", [0])])])
 
 
-def sliding_addresses(offset):
+def sliding_addresses(offset: int) -> bytes:
     """The address of an offset in a ram of three cells."""
     units = [unit("acu", ram=1), unit("ram", files=[[0], [0]], cells=[0] * 3), unit("out", files=[[0]])]
     words = [word([issue(0, "addr", argument=offset)], [(0, 0)], [(2, 0, 0, 0)]), word([issue(2, "output", [0])])]
     return program(3, units, words)
 
 
-def modes():
+def modes() -> bytes:
     """The outputs are x / 16 in 8 bits, in each mode in turn, of a word of 40 bits."""
     units = [unit("in"), unit("alu", files=[[0], [0]]), unit("out", files=[[0]])]
     words = [word([issue(0, "input")], [(0, 0)], [(1, 0, 0, 0)])]
@@ -125,7 +130,7 @@ def modes():
     return program(6, units, [*words, word([issue(2, "output", [0], argument=3)])], inputs=(40,), outs=4)
 
 
-def products():
+def products() -> bytes:
     """The outputs are -x / 2^39, with the least word of 40 bits as a factor, and x * x. Both saturate in 40 bits."""
     least = -(1 << 39)
     units = [unit("in"), unit("mul", 2, files=[[0], [least, 0]]), unit("out", files=[[0]])]
@@ -142,7 +147,7 @@ def products():
 # Programs of several samples or channels
 
 
-def accumulator():
+def accumulator() -> bytes:
     """y = y@1 + x, where y was 5 before the first sample: the sum stays in register 0 of the first port."""
     units = [unit("in"), unit("alu", files=[[5], [0]]), unit("out", files=[[0]])]
     words = [
@@ -153,7 +158,7 @@ def accumulator():
     return program(16, units, words)
 
 
-def difference():
+def difference() -> bytes:
     """y = x - x@1: the words of even and odd samples keep x in two registers in turn."""
     units = [unit("in"), unit("alu", files=[[0], [0] * 2]), unit("out", files=[[0]])]
     words = []
@@ -167,7 +172,7 @@ def difference():
     return program(4, units, words, unroll=2)
 
 
-def two_channels():
+def two_channels() -> bytes:
     """p = !b and q = x, of a word of 8 bits and a truth value."""
     units = [unit("in"), unit("alu", files=[[0], [0]]), unit("out", files=[[0] * 2])]
     words = [
@@ -207,7 +212,7 @@ FILES = {
 }
 
 
-def main(words):
+def main(words: list[str]) -> int:
     if words not in ([], ["--check"]):
         print(__doc__, file=sys.stderr)
         return 2

@@ -5,6 +5,7 @@ usage: expected.py [--check | --ratio]
 """
 import math
 import sys
+from collections.abc import Iterable, Iterator
 from fractions import Fraction
 from pathlib import Path
 
@@ -18,24 +19,24 @@ FACTORS = [fixed.literal(text, 16, 13) for text in ("0.9", "0.9", "0.9", "0.9", 
 VOWELS = [(9000, (250, 600, 2300)), (3000, (300, 900, 2200)), (600, (270, 2100, 2900)), (14000, (660, 1100))]
 
 
-def nearest(exact):
+def nearest(exact: Fraction) -> int:
     return math.floor(exact + Fraction(1, 2))
 
 
-def limited(word):
+def limited(word: int) -> int:
     return min(max(word, -32768), 32767)
 
 
 class Decoder:
     """What both sides know: the step, and the last two samples."""
 
-    def __init__(self):
+    def __init__(self) -> None:
         self.step, self.last, self.before = LEAST, 0, 0
 
-    def guess(self):
+    def guess(self) -> int:
         return limited(nearest(Fraction(5 * self.last - 2 * self.before, 4)))
 
-    def take(self, code):
+    def take(self, code: int) -> int:
         """The sample of a code. Of the sign and the size the interval's middle is taken."""
         size = code % 8
         move = nearest(Fraction(self.step * (2 * size + 1), 8))
@@ -45,7 +46,7 @@ class Decoder:
         return sample
 
 
-def code_of(word, guess, step):
+def code_of(word: int, guess: int, step: int) -> int:
     """The sign, and how many quarters of the step the difference has; those are the step's halves, cut."""
     difference = word - guess
     rest, size = abs(difference), 0
@@ -55,14 +56,14 @@ def code_of(word, guess, step):
     return size - 8 if difference < 0 else size
 
 
-def coded(words):
+def coded(words: Iterable[int]) -> Iterator[tuple[int, int]]:
     decoder = Decoder()
     for word in words:
         code = code_of(word, decoder.guess(), decoder.step)
         yield code, decoder.take(code)
 
 
-def samples():
+def samples() -> list[int]:
     """Vowels: three tones with the level of a syllable, at four levels; then silence."""
     made = []
     for level, tones in VOWELS:

@@ -5,55 +5,46 @@ usage: expected.py [--check | --ratio]
 """
 import math
 import sys
+from collections.abc import Iterator, Sequence
 from pathlib import Path
+from typing import Any, TypeAlias
 
 FOLDER = Path(__file__).resolve().parent
 sys.path.insert(0, str(FOLDER.parent))
 import fixed  # noqa: E402
 
+# Rows of as many samples as there are phases.
+Rows: TypeAlias = Sequence[Sequence[int]]
+
 PHASES, TAPS, CUTOFF, RATE, BETA = 4, 96, 4000, 32000, 5.65
 
 
-def bessel(x):
-    """The modified Bessel function of order 0, by its series."""
-    term = total = 1.0
-    for k in range(1, 40):
-        term *= (x / 2 / k) ** 2
-        total += term
-    return total
-
-
-def design():
+def design() -> list[float]:
     """A sinc of the cutoff under a Kaiser window, scaled to a sum of 1."""
-    middle, taps = (TAPS - 1) / 2, []
-    for k in range(TAPS):
-        share = (k - middle) / middle
-        window = bessel(BETA * math.sqrt(1 - share * share)) / bessel(BETA)
-        taps.append(window * math.sin(2 * math.pi * CUTOFF / RATE * (k - middle)) / (math.pi * (k - middle)))
-    return [tap / sum(taps) for tap in taps]
+    return fixed.lowpass(TAPS, CUTOFF / RATE, BETA)
 
 
-def coefficients():
+def coefficients() -> list[int]:
     return [fixed.literal(tap, 16, 15) for tap in design()]
 
 
-def stream(rows):
+def stream(rows: Rows) -> list[int]:
     """The samples of the fast rate, after a silence that is as long as the filter."""
     return [0] * TAPS + [word for row in rows for word in row]
 
 
-def sums(taps, rows):
+def sums(taps: Sequence[float], rows: Rows) -> Iterator[Any]:
     """Of the filter at the fast rate each fourth sample, the last one of a row."""
     past = stream(rows)
     for end in range(TAPS + PHASES - 1, len(past), PHASES):
         yield sum(tap * past[end - k] for k, tap in enumerate(taps))
 
 
-def filtered(rows):
+def filtered(rows: Rows) -> list[int]:
     return [fixed.quantised(fixed.number(exact, 30), 16, 15, fixed.ROUND) for exact in sums(coefficients(), rows)]
 
 
-def samples():
+def samples() -> list[tuple[int, ...]]:
     """An impulse in each phase, tones of 1,000 and 6,000 Hz, both, and noise."""
     impulses = [30000 if n in (0, 97, 194, 291) else 0 for n in range(400)]
     tones = [[(1000, 16000)], [(6000, 16000)], [(1000, 8000), (6000, 12000)]]

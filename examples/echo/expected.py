@@ -4,11 +4,16 @@
 usage: expected.py [--check | --ratio]
 """
 import sys
+from collections.abc import Iterable, Iterator
 from pathlib import Path
+from typing import TypeAlias
 
 FOLDER = Path(__file__).resolve().parent
 sys.path.insert(0, str(FOLDER.parent))
 import fixed  # noqa: E402
+
+# Rows of a word of the loudspeaker and one of the microphone.
+Rows: TypeAlias = Iterable[tuple[int, int]]
 
 TAPS, RATE, COUNT = 16, 0.25, 800
 # The ways of the sound, in 128ths: that of a room, and that of the same room when somebody has moved.
@@ -16,7 +21,7 @@ ROOMS = [(0, 0, 0, 51, 38, -25, -19, 13, 10, -6, -5, 3, 2, -2, -1, 1),
          (0, 0, -13, 38, 45, 10, -29, -6, 13, 3, -8, 0, 4, 0, -2, 0)]
 
 
-def cancelled(rows):
+def cancelled(rows: Rows) -> Iterator[int]:
     """The errors by integers: sums with 37 bits after the point, taps with 22, words with 15."""
     taps, far, error = [0] * TAPS, [0] * (TAPS + 1), 0
     for newest, heard in rows:
@@ -30,7 +35,7 @@ def cancelled(rows):
         yield error
 
 
-def design(rows):
+def design(rows: Rows) -> Iterator[float]:
     """The errors in real numbers, in units of the last bit."""
     taps, far, error = [0.0] * TAPS, [0.0] * (TAPS + 1), 0.0
     for newest, heard in rows:
@@ -40,7 +45,7 @@ def design(rows):
         yield error * 2**15
 
 
-def samples():
+def samples() -> Iterator[tuple[int, int]]:
     """Noise in the loudspeaker, and its echo in the microphone, with a little noise of its own; then the other room."""
     far, hiss = fixed.noise(2 * COUNT, 16000, seed=11), fixed.noise(2 * COUNT, 8, seed=12)
     past = [0] * TAPS + far

@@ -5,6 +5,7 @@ usage: expected.py [--check | --ratio]
 """
 import math
 import sys
+from collections.abc import Iterable, Iterator
 from pathlib import Path
 
 FOLDER = Path(__file__).resolve().parent
@@ -15,7 +16,7 @@ ATTACK, RELEASE = fixed.literal("0.25", 16, 15), fixed.literal("0.005", 16, 15)
 LARGEST, HALF, QUARTER = 32767, 1 << 14, 1 << 13
 
 
-def followed(words):
+def followed(words: Iterable[int]) -> Iterator[tuple[int, int]]:
     level, is_over = 0, 0
     for x in words:
         size = min(abs(x), LARGEST)
@@ -27,7 +28,7 @@ def followed(words):
         yield out, is_over
 
 
-def design(words):
+def design(words: Iterable[int]) -> Iterator[float]:
     """The levels in real numbers, in units of the last bit."""
     level = 0.0
     for x in words:
@@ -35,7 +36,7 @@ def design(words):
         yield level
 
 
-def samples():
+def samples() -> list[int]:
     """Silence, a loud tone, a soft tone, the two ends of the range, silence."""
     loud = [round(30000 * math.sin(2 * math.pi * n / 16)) for n in range(96)]
     soft = [round(3000 * math.sin(2 * math.pi * n / 10)) for n in range(160)]

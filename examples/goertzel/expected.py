@@ -5,6 +5,8 @@ usage: expected.py [--check | --ratio]
 """
 import math
 import sys
+from collections.abc import Iterator, Sequence
+from fractions import Fraction
 from pathlib import Path
 
 FOLDER = Path(__file__).resolve().parent
@@ -15,11 +17,11 @@ TONE, RATE, BLOCK, ENOUGH = 697, 8000, 205, 105 << 14
 COEFFICIENT = fixed.literal(2 * math.cos(2 * math.pi * TONE / RATE), 16, 14)
 
 
-def cut(exact, width):
+def cut(exact: Fraction | int, width: int) -> int:
     return fixed.quantised(exact, width, 14, fixed.ROUND)
 
 
-def power_of(block):
+def power_of(block: Sequence[int]) -> int:
     """The power of the tone in a block, by the words of the resonator at its last two samples."""
     last = before = 0
     for x in block:
@@ -30,14 +32,14 @@ def power_of(block):
     return fixed.wrap(sum(squares) - both, 32)
 
 
-def real_power_of(block):
+def real_power_of(block: Sequence[int]) -> float:
     """The same by a Fourier sum in real numbers, in units of the last bit."""
     parts = [sum(x / 2**15 * wave(2 * math.pi * TONE * n / RATE) for n, x in enumerate(block))
              for wave in (math.cos, math.sin)]
     return (parts[0] ** 2 + parts[1] ** 2) * 2**14
 
 
-def decided(words):
+def decided(words: Sequence[int]) -> Iterator[tuple[int, int]]:
     power = 0
     for n in range(len(words)):
         if n % BLOCK == BLOCK - 1:
@@ -45,8 +47,9 @@ def decided(words):
         yield int(power > ENOUGH), power
 
 
-def samples():
-    """Blocks of silence, of the tone, of the next key's 770 Hz, of the tone at a twentieth, and of the tone in noise."""
+def samples() -> list[int]:
+    """Blocks of silence, of the tone, of the next key's 770 Hz, of the tone at a twentieth, and of the tone in
+    noise."""
     parts = [(0, 0, 0), (16000, TONE, 0), (16000, 770, 0), (1600, TONE, 0), (8000, TONE, 6000)]
     made = []
     for amplitude, hertz, level in parts:

@@ -5,7 +5,9 @@ usage: expected.py [--check | --ratio | --taps]     the last prints the taps of 
 """
 import math
 import sys
+from collections.abc import Callable, Iterable, Sequence
 from pathlib import Path
+from typing import Any
 
 FOLDER = Path(__file__).resolve().parent
 sys.path.insert(0, str(FOLDER.parent))
@@ -19,44 +21,35 @@ DELAY = MIDDLE // 2
 COEFFICIENT, SUM, OUTPUT = (20, 19), (32, 29), (24, 21)
 
 
-def bessel(x):
-    """The modified Bessel function of the first kind and order 0."""
-    total = term = 1.0
-    for k in range(1, 60):
-        term *= (x / (2 * k)) ** 2
-        total += term
-    return total
-
-
-def design():
+def design() -> list[float]:
     """The taps of the first phase: a sinc under a Kaiser window, which together have the gain 1."""
     beta = 0.1102 * (ATTENUATION - 8.7)
     taps = []
     for n in range(0, TAPS, 2):
-        window = bessel(beta * math.sqrt(1 - ((n - MIDDLE) / MIDDLE) ** 2)) / bessel(beta)
-        taps.append(window * math.sin(math.pi * (n - MIDDLE) / 2) / (math.pi * (n - MIDDLE) / 2))
+        taps.append(fixed.kaiser(n, TAPS, beta) * math.sin(math.pi * (n - MIDDLE) / 2) / (math.pi * (n - MIDDLE) / 2))
     return [tap / sum(taps) for tap in taps]
 
 
-def coefficients():
+def coefficients() -> list[int]:
     return [fixed.literal(tap, *COEFFICIENT) for tap in design()]
 
 
-def sums(taps, words, product=lambda tap, word: tap * word):
+def sums(taps: Sequence[float], words: list[int], product: Callable[[Any, int], Any] = lambda tap,
+         word: tap * word) -> list[Any]:
     past = [0] * (len(taps) - 1) + words
     return [sum(product(tap, past[n + len(taps) - 1 - k]) for k, tap in enumerate(taps)) for n in range(len(words))]
 
 
-def rounded_product(tap, word):
+def rounded_product(tap: int, word: int) -> int:
     """A product as a word of the sum."""
     return fixed.quantised(fixed.number(tap * word, COEFFICIENT[1] + 15), *SUM, fixed.ROUND)
 
 
-def delayed(words):
+def delayed(words: list[int]) -> list[int]:
     return [0] * DELAY + words[: len(words) - DELAY]
 
 
-def interpolated(words):
+def interpolated(words: list[int]) -> list[tuple[int, int]]:
     """Two output words for each input word."""
     first = [fixed.quantised(fixed.number(total, SUM[1]), *OUTPUT, fixed.ROUND)
              for total in sums(coefficients(), words, rounded_product)]
@@ -64,14 +57,14 @@ def interpolated(words):
     return list(zip(first, second))
 
 
-def compared(words, rows):
+def compared(words: list[int], rows: Iterable[Sequence[int]]) -> tuple[list[int], list[float]]:
     """All output words in order, and those of the design in units of the last bit."""
     scale = 2 ** (OUTPUT[1] - 15)
     real = [value * scale for pair in zip(sums(design(), words), delayed(words)) for value in pair]
     return [word for row in rows for word in row], real
 
 
-def samples():
+def samples() -> list[int]:
     """An impulse, a step, tones at a fifth and at a third of the rate, and noise."""
     tone = [round(24000 * math.sin(2 * math.pi * n / period)) for period in (5, 3) for n in range(60)]
     return [32767] + [0] * 31 + [-32768] * 40 + tone + fixed.noise(64, 32767, seed=9)

@@ -14,7 +14,7 @@ import fixed  # noqa: E402
 BIAS, LARGEST = 33, 8191
 
 
-def compressed(sample):
+def compressed(sample: int) -> int:
     """The byte on the line: sign, segment and step, each bit inverted; as a number from -128 to 127."""
     biased = min(abs(sample) + BIAS, LARGEST)
     segment = biased.bit_length() - BIAS.bit_length()
@@ -23,14 +23,14 @@ def compressed(sample):
     return fixed.wrap(byte ^ 255, 8)
 
 
-def expanded(code):
+def expanded(code: int) -> int:
     """The sample in the middle of those that have a code."""
     byte = code % 256 ^ 255
     size = ((byte & 15) * 2 + BIAS << (byte >> 4 & 7)) - BIAS
     return -size if byte & 128 else size
 
 
-def samples():
+def samples() -> list[int]:
     """Each border of a segment with the samples beside it, both ends, a tone that decays, and noise."""
     borders = [sign * ((1 << k) - BIAS + d) for k in range(6, 14) for d in (-1, 0, 1) for sign in (1, -1)]
     decay = [round(8191 * 0.96**n * math.sin(2 * math.pi * n / 11)) for n in range(120)]

@@ -8,6 +8,7 @@ from typing import Any
 
 from silc.explaining.command import Case
 from silc.explaining.outputs import guarded, named
+from silc.linking.words import Given
 from silc.micro_file import image_of
 from silc.microcode import image_as_json
 from silc.pictures.plan import plan_of
@@ -20,24 +21,25 @@ def put(tree: Any) -> None:
     print(json.dumps(tree), flush=True)
 
 
-def told(words: list[str], silc: str, datapath: str | None = None) -> int:
+def told(command: Given, silc: str, datapath: str | None = None) -> int:
     """Runs a command of `silc`. Prints its plan, its image or its refusal, and gives its exit status."""
-    refused: tuple[int, str] | None = guarded(words)
+    refused: tuple[int, str] | None = guarded(command.words) or command.guarded()
     if refused:
         (status, said), out = refused, ""
     else:
-        done = subprocess.run([silc, *words], stdout=subprocess.PIPE, stderr=subprocess.PIPE, text=True, errors="replace")
+        done = subprocess.run([silc, *command.placed], stdout=subprocess.PIPE, stderr=subprocess.PIPE, text=True,
+                              errors="replace")
         status, said, out = done.returncode, done.stderr, done.stdout
-        sys.stderr.write(said)
+        sys.stderr.write(command.said(said))
     if status < 0:
         return 128 - status
     if status:
-        case = Case(words, status, said, silc, datapath, is_quiet=True)
-        put(Refused(status, said.strip(), lambda: told_of(case)).as_json())
-    elif words[0] == "schedule":
+        case = Case(command.judged(status), status, said, silc, datapath, is_quiet=True)
+        put(Refused(status, command.said(said).strip(), lambda: command.report(status, told_of(case))).as_json())
+    elif command.words[0] == "schedule":
         put(plan_as_json(plan_of(out)))
-    elif words[0] == "list":
-        with open((named(words) or {})["MIC"], "rb") as file:
+    elif command.words[0] == "list":
+        with open((named(command.words) or {})["MIC"], "rb") as file:
             put(image_as_json(image_of(file.read())))
     else:
         sys.stdout.write(out)

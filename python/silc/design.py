@@ -2,8 +2,8 @@
 
     silc.design.peak(1000, db=3, q=0.7, rate=48000).source(shape=(24, 23))
 
-The designs of one section are those of an equaliser: the bilinear transform of analogue prototypes, with the frequency where
-it is asked. `iir`, `kaiser` and `remez` are SciPy's, where that is there.
+The designs of one section are those of an equaliser: the bilinear transform of analogue prototypes, with the frequency
+where it is asked. `iir`, `kaiser` and `remez` are SciPy's, where that is there.
 """
 from __future__ import annotations
 
@@ -47,19 +47,23 @@ class Design:
         """The magnitude at a frequency in hertz, in decibels."""
         return float(decibels(self.gain(frequency)))
 
-    def source(self, shape: ShapeWords = (24, 23), coefficients: ShapeWords | None = None, signals: ShapeWords | None = None,
+    def source(self, shape: ShapeWords = (24, 23), coefficients: ShapeWords | None = None,
+               signals: ShapeWords | None = None,
                norm: str = "l1", form: str = "df1", rounding: str = "nearest", order: str = "up", single: bool = False,
                seconds: float = 60.0, **programs: Any) -> Any:
         """The filter as a `Source`, scaled so that no signal passes its range (tools/design says how).
 
-        `shape` is that of the input, `signals` that of the signals: of the same width and as many places as the norm allows
-        where it is not given. `coefficients` are as wide as the input, with as many places as the largest one leaves, where
-        they are not given. `norm` is l1, l2, peak or none, `form` df1, df2t or lattice, `rounding` nearest, down or zero.
+        `shape` is that of the input, `signals` that of the signals: of the same width and as many places as the norm
+        allows where it is not given. `coefficients` are as wide as the input, with as many places as the largest one
+        leaves, where they are not given. `norm` is l1, l2, peak or none, `form` df1, df2t or lattice, `rounding`
+        nearest, down or zero.
         """
         from silc.source import Source
-        return Source(text=self.text(shape, coefficients, signals, norm, form, rounding, order, single, seconds), **programs)
+        return Source(text=self.text(shape, coefficients, signals, norm, form, rounding, order, single, seconds),
+                      **programs)
 
-    def text(self, shape: ShapeWords = (24, 23), coefficients: ShapeWords | None = None, signals: ShapeWords | None = None,
+    def text(self, shape: ShapeWords = (24, 23), coefficients: ShapeWords | None = None,
+             signals: ShapeWords | None = None,
              norm: str = "l1", form: str = "df1", rounding: str = "nearest", order: str = "up", single: bool = False,
              seconds: float = 60.0) -> str:
         """The text of that source."""
@@ -107,7 +111,8 @@ def shelf(frequency: float, db: float, q: float, rate: float, sign: int) -> tupl
     up, down = amount + 1, amount - 1
     return ([amount * (up - sign * down * cosine + root), sign * 2 * amount * (down - sign * up * cosine),
              amount * (up - sign * down * cosine - root)],
-            [up + sign * down * cosine + root, -sign * 2 * (down + sign * up * cosine), up + sign * down * cosine - root])
+            [up + sign * down * cosine + root, -sign * 2 * (down + sign * up * cosine),
+             up + sign * down * cosine - root])
 
 
 def low_shelf(frequency: float, *, db: float, q: float = math.sqrt(0.5), rate: float) -> Design:
@@ -146,6 +151,75 @@ def notch(frequency: float, *, q: float, rate: float) -> Design:
                     (1, -2 * cosine, 1), (1 + alpha, -2 * cosine, 1 - alpha))
 
 
+def bandpass(frequency: float, *, q: float, rate: float) -> Design:
+    """A band-pass round a frequency in hertz, where it has 0 dB."""
+    angle = angle_of(frequency, rate)
+    alpha, cosine = math.sin(angle) / (2 * q), math.cos(angle)
+    return cookbook(f"a band-pass at {frequency:g} Hz with the quality {q:g}", rate,
+                    (alpha, 0, -alpha), (1 + alpha, -2 * cosine, 1 - alpha))
+
+
+def allpass(frequency: float, *, q: float = math.sqrt(0.5), rate: float) -> Design:
+    """An allpass of the second order, which turns the phase by half a turn at a frequency in hertz."""
+    angle = angle_of(frequency, rate)
+    alpha, cosine = math.sin(angle) / (2 * q), math.cos(angle)
+    return cookbook(f"an allpass at {frequency:g} Hz with the quality {q:g}", rate,
+                    (1 - alpha, -2 * cosine, 1 + alpha), (1 + alpha, -2 * cosine, 1 - alpha))
+
+
+def first_order(asked: str, rate: float, b: tuple[float, float], a1: float) -> Design:
+    """A design of one section of the first order."""
+    return Design(asked, rate, (Section((*b, 0.0), (a1, 0.0), PLACE),))
+
+
+def one_pole(frequency: float, *, rate: float) -> Design:
+    """A low-pass with one pole and no zero, y = a x + (1 - a) y@1, with -3 dB at a frequency in hertz."""
+    rise = 1 - math.cos(angle_of(frequency, rate))
+    share = math.sqrt(rise * rise + 2 * rise) - rise
+    return first_order(f"one pole at {frequency:g} Hz", rate, (share, 0.0), share - 1)
+
+
+def dc_block(frequency: float, *, rate: float) -> Design:
+    """A high-pass of the first order with nothing at 0 Hz and -3 dB at a frequency in hertz."""
+    turn = math.tan(angle_of(frequency, rate) / 2)
+    return first_order(f"a DC block at {frequency:g} Hz", rate, (1 / (1 + turn), -1 / (1 + turn)),
+                       (turn - 1) / (turn + 1))
+
+
+# The poles of the weightings of IEC 61672 in hertz: those of A and C below, with zeros at 0 Hz, and the double one
+# above.
+A_POLES, C_POLES = (20.598997, 20.598997, 107.65265, 737.86223), (20.598997, 20.598997)
+HIGH_POLE, REFERENCE = 12194.217, 1000.0
+
+
+def matched_pole(frequency: float, rate: float) -> Design:
+    """A low-pass of the first order whose pole is that of the analogue one, with its magnitude at 0 Hz and at half of
+    the rate, where the bilinear transform has a zero."""
+    pole = math.exp(-2 * math.pi * frequency / rate)
+    low, high = 1 - pole, (1 + pole) / math.hypot(1, rate / 2 / frequency)
+    return first_order(f"a pole at {frequency:g} Hz", rate, ((low + high) / 2, (low - high) / 2), -pole)
+
+
+def weighting(name: str, poles: Sequence[float], rate: float) -> Design:
+    """A weighting of sound levels, with 0 dB at 1,000 Hz."""
+    angle_of(REFERENCE, rate)
+    made = [*(dc_block(pole, rate=rate) for pole in poles), *[matched_pole(HIGH_POLE, rate)] * 2]
+    *before, last = (section for design in made for section in design.sections)
+    gain = abs(response((*before, last), REFERENCE / rate))
+    b0, b1, b2 = (x / gain for x in last.b)
+    return Design(f"the {name}-weighting of IEC 61672", rate, (*before, replace(last, b=(b0, b1, b2))))
+
+
+def a_weighting(*, rate: float) -> Design:
+    """The A-weighting of sound levels."""
+    return weighting("A", A_POLES, rate)
+
+
+def c_weighting(*, rate: float) -> Design:
+    """The C-weighting of sound levels."""
+    return weighting("C", C_POLES, rate)
+
+
 def sections(rows: Sequence[Sequence[float]], *, rate: float) -> Design:
     """Sections as rows `b0 b1 b2 a0 a1 a2`, as SciPy has them."""
     made = [Section((b0 / a0, b1 / a0, b2 / a0), (a1 / a0, a2 / a0), PLACE) for b0, b1, b2, a0, a1, a2 in rows]
@@ -159,8 +233,8 @@ def taps(numbers: Sequence[float], *, rate: float) -> Design:
 
 def iir(kind: str, order: int, band: str, edges: Sequence[float], *, rate: float, ripple: float | None = None,
         attenuation: float | None = None) -> Design:
-    """Sections by SciPy: `kind` is butter, cheby1, cheby2, ellip or bessel, `band` lowpass, highpass, bandpass or bandstop,
-    and `edges` are in hertz. `Lacking` says how SciPy is installed where it is not there."""
+    """Sections by SciPy: `kind` is butter, cheby1, cheby2, ellip or bessel, `band` lowpass, highpass, bandpass or
+    bandstop, and `edges` are in hertz. `Lacking` says how SciPy is installed where it is not there."""
     made = scipy_designs.designed(design="iir", order=order, edges=list(edges), band=band, kind=kind, ripple=ripple,
                                   attenuation=attenuation, rate=rate)
     return replace(sections(made, rate=rate), asked=f"{kind} {order} {band} {' '.join(f'{edge:g}' for edge in edges)}")
@@ -168,7 +242,8 @@ def iir(kind: str, order: int, band: str, edges: Sequence[float], *, rate: float
 
 def kaiser(band: str, edges: Sequence[float], *, rate: float, attenuation: float, width: float | None = None,
            count: int | None = None) -> Design:
-    """Taps by SciPy, with a window of Kaiser: `width` is that of a transition in hertz, or `count` how many taps there are."""
+    """Taps by SciPy, with a window of Kaiser: `width` is that of a transition in hertz, or `count` how many taps there
+    are."""
     made = scipy_designs.designed(design="kaiser", edges=list(edges), band=band, taps=count, width=width,
                                   attenuation=attenuation, rate=rate)
     return replace(taps(made, rate=rate), asked=f"kaiser {band} {' '.join(f'{edge:g}' for edge in edges)}")

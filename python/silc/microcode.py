@@ -3,6 +3,7 @@ from __future__ import annotations
 
 import os
 import re
+from dataclasses import dataclass
 from functools import cached_property
 from typing import TYPE_CHECKING, Any, NoReturn
 
@@ -16,7 +17,7 @@ from silc.micro_file.image import MOST_WORDS, Image
 from silc.programs import PACKAGE, SILC
 from silc.refused import ROWS, File, explained
 from silc.running import STDIN, STDOUT, Ended, ran, streamed
-from silc.words import Reader, Rows, Type, is_array, pieces_of, quantised, scaled, text_of
+from silc.words import Port, Reader, Rows, Type, is_array, pieces_of, quantised, scaled, text_of
 
 if TYPE_CHECKING:
     from silc.plan import Plan
@@ -24,12 +25,22 @@ if TYPE_CHECKING:
 UNNAMED = "microcode.mic"
 
 
-class Microcode:
-    """A microcode file of either version: `file` is its name, or `data` its bytes. `Refused` tells the first field that is
-    not allowed."""
+@dataclass(frozen=True)
+class Origin:
+    """What microcode was compiled of: the words of its rows, and the datapath file."""
+    inputs: list[Port]
+    outputs: list[Port]
+    datapath: bytes
 
-    def __init__(self, data: bytes | None = None, *, file: str | os.PathLike[str] | None = None, plan: Plan | None = None,
-                 silc: str | os.PathLike[str] | None = None) -> None:
+
+class Microcode:
+    """A microcode file of either version: `file` is its name, or `data` its bytes. `Refused` tells the first field that
+    is not allowed. `origin` has the words of its rows, where that is known: of what a plan or `Source.frame` has
+    made."""
+
+    def __init__(self, data: bytes | None = None, *, file: str | os.PathLike[str] | None = None,
+                 plan: Plan | None = None,
+                 origin: Origin | None = None, silc: str | os.PathLike[str] | None = None) -> None:
         if (file is None) == (data is None):
             raise TypeError("microcode has a file, or its bytes")
         if file is not None:
@@ -39,8 +50,9 @@ class Microcode:
         self.data: bytes = data
         self.name = os.fspath(file) if file is not None else UNNAMED
         self.plan = plan
+        self.origin = Origin(plan.source.inputs, plan.source.outputs, plan.content) if plan else origin
         self.silc = plan.source.silc if plan else SILC.found(silc)
-        if plan is None:
+        if self.origin is None:
             self.listing()
 
     def __bytes__(self) -> bytes:
@@ -55,10 +67,10 @@ class Microcode:
         return image_of(self.data)
 
     def run(self, x: Rows, real: bool = False) -> Rows:
-        """The output rows of the machine, cycle by cycle, on rows as `Source.evaluate` has them. Values (`real`) are known of
-        microcode that a plan has made. `Refused` tells the first conflict of the hardware."""
-        if real and self.plan is None:
-            raise TypeError("values are known of microcode that a plan has made")
+        """The output rows of the machine, cycle by cycle, on rows as `Source.evaluate` has them. Values (`real`) are
+        known of microcode that a plan or a source has made. `Refused` tells the first conflict of the hardware."""
+        if real and self.origin is None:
+            raise TypeError("values are known of microcode that a plan or a source has made")
         given = quantised(x, self._types("inputs")) if real else x
         columns, reader = len(self.image.inputs), Reader(self.image.outputs, is_array(given))
         try:
@@ -77,15 +89,16 @@ class Microcode:
         return answer.out.decode()
 
     def write(self, file: str | os.PathLike[str], force: bool = False) -> None:
-        """Writes the bytes to a file, which is there whole or not at all. One that no tool made is written over with `force`
-        alone (silc.made_files)."""
+        """Writes the bytes to a file, which is there whole or not at all. One that no tool made is written over with
+        `force` alone (silc.made_files)."""
         MadeFiles(is_forced=force).write(file, self.data)
 
     def verilog(self, folder: str | os.PathLike[str], name: str = "core", full: tuple[int, int] | bool = False,
                 force: bool = False) -> list[str]:
-        """Makes the files of a core in Verilog in a folder, and gives their names (docs/HARDWARE.md). With `full` the core
-        has all of the datapath, so many input and output words, or those of this microcode; `NoCore` says why there is none."""
-        texts = core_texts(self.data, name, self.plan.content.decode() if self.plan else None, full)
+        """Makes the files of a core in Verilog in a folder, and gives their names (docs/HARDWARE.md). With `full` the
+        core has all of the datapath, so many input and output words, or those of this microcode; `NoCore` says why
+        there is none."""
+        texts = core_texts(self.data, name, self.origin.datapath.decode() if self.origin else None, full)
         MadeFiles(is_forced=force).write_folder(folder, texts)
         return sorted(texts)
 
@@ -94,8 +107,8 @@ class Microcode:
         return image_as_json(self.image)
 
     def _types(self, ports: str) -> list[Type]:
-        assert self.plan
-        return [port.type for port in getattr(self.plan.source, ports)]
+        assert self.origin
+        return [port.type for port in getattr(self.origin, ports)]
 
     def _refuse(self, command: str, words: list[str], status: int, said: str, samples: bytes = b"") -> NoReturn:
         files = {"MIC": File(self.name, self.data), "SAMPLES": File(ROWS, samples)}
@@ -109,7 +122,8 @@ def reserved_words() -> list[str]:
 
 
 def checked_image(data: bytes) -> Image:
-    """The image of microcode that runs without a conflict; `NoCore` tells the first one, `BadImage` the first bad field."""
+    """The image of microcode that runs without a conflict; `NoCore` tells the first one, `BadImage` the first bad
+    field."""
     image = image_of(data)
     hazard = first_hazard(image)
     if hazard:

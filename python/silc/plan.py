@@ -23,7 +23,8 @@ if TYPE_CHECKING:
 UNNAMED = "datapath.toml"
 
 
-def datapath_of(datapath: str | os.PathLike[str] | Mapping[str, Any] | None, text: str | bytes | None) -> tuple[str, bytes]:
+def datapath_of(datapath: str | os.PathLike[str] | Mapping[str, Any] | None,
+                text: str | bytes | None) -> tuple[str, bytes]:
     """The name and the content of a datapath file, of its file, its tree or its text."""
     if (datapath is None) == (text is None):
         raise TypeError("a plan has a datapath, or its text")
@@ -37,8 +38,8 @@ def datapath_of(datapath: str | os.PathLike[str] | Mapping[str, Any] | None, tex
 
 
 class Lifetime:
-    """A word in a register: the operation that makes it, of which sample of the circle, and the cycles from its write to its
-    last read, counted from the start of the circle."""
+    """A word in a register: the operation that makes it, of which sample of the circle, and the cycles from its write
+    to its last read, counted from the start of the circle."""
 
     def __init__(self, life: Any) -> None:
         self.node: int = life.node.number
@@ -49,7 +50,8 @@ class Lifetime:
         self.reads: list[int] = life.reads
 
     def __repr__(self) -> str:
-        return f"<Lifetime of node {self.node} in {self.file}[{self.register}]: cycles {self.written} to {self.reads[-1]}>"
+        return (f"<Lifetime of node {self.node} in {self.file}[{self.register}]: cycles {self.written} to "
+                f"{self.reads[-1]}>")
 
     def as_json(self) -> dict[str, Any]:
         return vars(self)
@@ -114,7 +116,8 @@ class Plan:
         return draw_schedule(self._plan, self.datapath, self._origins()) + "\n"
 
     def __repr__(self) -> str:
-        return f"<Plan of {self.source.name} over {self.name}: {len(self.operations)} operations in {self.period} cycles>"
+        return (f"<Plan of {self.source.name} over {self.name}: {len(self.operations)} operations in {self.period} "
+                f"cycles>")
 
     def _origins(self) -> dict[int, Any] | None:
         from silc.explaining.hardware import nodes_of

@@ -1,5 +1,5 @@
-"""Where things are that the package does not hold: the proved programs `silc` and `silc_show`, and the checkout with its
-files. This is the one place that says so. Commands that start often import it, so it imports little."""
+"""Where things are that the package does not hold: the proved programs `silc` and `silc_show`, and the checkout with
+its files. This is the one place that says so. Commands that start often import it, so it imports little."""
 import os
 import sys
 
@@ -20,7 +20,8 @@ class NoProgram(Exception):
 
 
 class Program:
-    """A proved program: its name, the variable of the environment that names another, and the crate that it is built of."""
+    """A proved program: its name, the variable of the environment that names another, and the crate that it is built
+    of."""
 
     def __init__(self, name: str, variable: str, crate: str) -> None:
         self.name, self.variable, self.crate = name, variable, crate
@@ -30,8 +31,8 @@ class Program:
         return in_checkout("crates", self.crate, "out", self.crate)
 
     def place(self, given: Name | None = None) -> str:
-        """The whole name of the program's file, whether it is there or not: the one that is given, or that the environment names, or
-        the package's own, or the checkout's, or one in the PATH."""
+        """The whole name of the program's file, whether it is there or not: the one that is given, or that the
+        environment names, or the package's own, or the checkout's, or one in the PATH."""
         named = given or os.environ.get(self.variable)
         if named:
             return os.path.abspath(os.fspath(named))
@@ -72,7 +73,8 @@ def is_checkout() -> bool:
 
 
 def command(name: str) -> list[str]:
-    """The words that run a command of the package in a process of its own; they go with the variables of `with_package`."""
+    """The words that run a command of the package in a process of its own; they go with the variables of
+    `with_package`."""
     return [sys.executable, "-m", "silc", name]
 
 

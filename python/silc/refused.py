@@ -26,10 +26,10 @@ class File:
 
 
 class Refused(Exception):
-    """A command that is refused. `status` is its exit code and `said` its line; `text` tells what is wrong, in `file` at
-    `line` and `column`, both from 1, up to before the column `end`, where there is a place; `cure` what would be right, `rule`
-    where the rule is, and `edits` the cure as edits of files, where it is some. All but the first two are looked for where
-    one is asked for, which may take some plans."""
+    """A command that is refused. `status` is its exit code and `said` its line; `text` tells what is wrong, in `file`
+    at `line` and `column`, both from 1, up to before the column `end`, where there is a place; `cure` what would be
+    right, `rule` where the rule is, and `edits` the cure as edits of files, where it is some. All but the first two are
+    looked for where one is asked for, which may take some plans."""
 
     def __init__(self, status: int, said: str, look: Callable[[], Report | None] = lambda: None) -> None:
         self.status, self.said, self._look = status, said.removeprefix(PREFIX), look
@@ -82,7 +82,8 @@ class Refused(Exception):
         return f"{place}{self.text}" + (f" ({self.said})" if self.said != self.text else "")
 
     def explanation(self) -> str:
-        """The lines that `tools/explain` adds: the place as it stands in its file, what else there is to see, the cure."""
+        """The lines that `tools/explain` adds: the place as it stands in its file, what else there is to see, the
+        cure."""
         return "\n".join(lines_of(self.report)) if self.report else self.said
 
     def as_json(self) -> dict[str, Any]:
@@ -92,7 +93,8 @@ class Refused(Exception):
                 "edits": [asdict(edit) for edit in self.edits]}
 
 
-def explained(command: str, files: Mapping[str, File], words: Sequence[str], status: int, said: str, silc: str) -> Refused:
+def explained(command: str, files: Mapping[str, File], words: Sequence[str], status: int, said: str,
+              silc: str) -> Refused:
     """The refusal of a command, whose words `words` are, with a role of `files` in the place of each file."""
     return Refused(status, said, lambda: report_on(command, files, words, status, said, silc))
 
@@ -138,4 +140,3 @@ def renamed(report: Report, names: Mapping[str, str]) -> Report:
     report.notes = [replace(note, text=told(note.text), span=placed(note.span)) for note in report.notes]
     report.edits = [placed(edit) for edit in report.edits]
     return report
-

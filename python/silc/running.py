@@ -1,4 +1,5 @@
-"""Runs of the proved programs: one process a call, rows through its standard streams, and files that it reads from memory."""
+"""Runs of the proved programs: one process a call, rows through its standard streams, and files that it reads from
+memory."""
 from __future__ import annotations
 
 import os
@@ -83,7 +84,8 @@ class Feeder(threading.Thread):
 def streamed(program: str, words: Sequence[Word], pieces: Iterable[bytes]) -> Generator[bytes, None, None]:
     """What a program prints, as it comes, while the pieces go to its standard input. `Ended` where it refuses."""
     with in_memory(words) as (named, held):
-        process: subprocess.Popen[bytes] = subprocess.Popen([program, *named], stdin=subprocess.PIPE, stdout=subprocess.PIPE,
+        process: subprocess.Popen[bytes] = subprocess.Popen([program, *named], stdin=subprocess.PIPE,
+                                                            stdout=subprocess.PIPE,
                                                             stderr=subprocess.PIPE, pass_fds=held)
     to, out, said = pipes_of(process)
     feeder = Feeder(to, pieces)

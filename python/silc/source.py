@@ -6,7 +6,7 @@ import os
 import queue
 import re
 import sys
-from collections.abc import Iterable, Iterator, Mapping, Sequence
+from collections.abc import Collection, Iterable, Iterator, Mapping, Sequence
 from typing import TYPE_CHECKING, Any, NoReturn
 
 from silc.designing.shapes import Shape
@@ -24,6 +24,7 @@ if TYPE_CHECKING:
     from silc.exploring.exploration import Exploration
     from silc.designing.noise import Noise
     from silc.designing.ranges import Range
+    from silc.microcode import Microcode
     from silc.plan import Plan
     from silc.response import Response
 
@@ -45,8 +46,8 @@ def ports_of(decls: Iterable[Decl]) -> list[Port]:
 class Source:
     """A source without a fault.
 
-    `file` is the name of one, or `text` its text. It is read once, here, and `Refused` tells its first fault with the line,
-    the column and the cure. `silc` and `show` name other programs than those that are found (docs/PYTHON.md).
+    `file` is the name of one, or `text` its text. It is read once, here, and `Refused` tells its first fault with the
+    line, the column and the cure. `silc` and `show` name other programs than those that are found (docs/PYTHON.md).
     """
 
     def __init__(self, file: str | os.PathLike[str] | None = None, *, text: str | bytes | None = None,
@@ -80,9 +81,9 @@ class Source:
     def evaluate(self, x: Rows, real: bool = False) -> Rows:
         """The output rows of the one solution of the equations.
 
-        `x` has the shape (n,) for one input word and (n, k) for k, raw words as whole numbers; the answer is an array where
-        `x` is one, else a list, of the shape (n,) for one output word and (n, m) for m. With `real`, `x` and the answer are
-        values: each is quantised to the next word of its input, and the last one of the range beyond it.
+        `x` has the shape (n,) for one input word and (n, k) for k, raw words as whole numbers; the answer is an array
+        where `x` is one, else a list, of the shape (n,) for one output word and (n, m) for m. With `real`, `x` and the
+        answer are values: each is quantised to the next word of its input, and the last one of the range beyond it.
         """
         given = quantised(x, self._types(self.inputs)) if real else x
         reader = Reader(len(self.outputs), is_array(given))
@@ -95,8 +96,8 @@ class Source:
         return scaled(rows, self._types(self.outputs)) if real else rows
 
     def stream(self, blocks: Iterable[Rows], real: bool = False) -> Iterator[Rows]:
-        """The output rows of each block of rows, before the next block is asked for: one process for all, in memory that
-        does not grow. Blocks and `real` are as in `evaluate`, and so are the answers."""
+        """The output rows of each block of rows, before the next block is asked for: one process for all, in memory
+        that does not grow. Blocks and `real` are as in `evaluate`, and so are the answers."""
         waiting: queue.SimpleQueue[bytes | None] = queue.SimpleQueue()
         pieces = streamed(self.silc, ["eval", self.content, STDIN, STDOUT], iter(waiting.get, None))
         try:
@@ -120,8 +121,8 @@ class Source:
             pieces.close()
 
     def values(self, x: Rows, names: str | Sequence[str] = "*", real: bool = False) -> dict[str, Rows]:
-        """The words of inner elements by their names, each with the shape (n,), over input rows as in `evaluate`. A name
-        means an element, or all of an array; `*` in it stands for anything, as in `w[*]`. It takes `silc_show`."""
+        """The words of inner elements by their names, each with the shape (n,), over input rows as in `evaluate`. A
+        name means an element, or all of an array; `*` in it stands for anything, as in `w[*]`. It takes `silc_show`."""
         from silc.designing.overflows import is_named
         given = quantised(x, self._types(self.inputs)) if real else x
         patterns = [names] if isinstance(names, str) else list(names)
@@ -141,15 +142,32 @@ class Source:
 
     def plan(self, datapath: str | os.PathLike[str] | Mapping[str, Any] | None = None, *,
              text: str | bytes | None = None) -> Plan:
-        """The plan over a datapath: the name of its file, its tree as `tomllib` reads one, or its text. `Refused` tells the
-        first thing that has no place there, with what it lacks."""
+        """The plan over a datapath: the name of its file, its tree as `tomllib` reads one, or its text. `Refused` tells
+        the first thing that has no place there, with what it lacks."""
         from silc.plan import Plan, datapath_of
         return Plan(self, *datapath_of(datapath, text))
 
+    def frame(self, datapath: str | os.PathLike[str] | Mapping[str, Any] | None = None, phases: int = 1,
+              down: Collection[int] = (), up: Collection[int] = (), *, text: str | bytes | None = None) -> Microcode:
+        """Microcode that runs the source `phases` times, 1 to 8, in each sample of the machine, over a datapath as in
+        `plan`.
+
+        A row of it is a frame (docs/RATES.md): it has each word of the source `phases` times, for a sample after the
+        other. The slow words it has once: the output words with the numbers in `down`, of which those at the first
+        sample of a frame are kept, and the input words with the numbers in `up`, which are 0 at the other samples. So
+        `run` takes rows of the shape (n, k * phases) for k input words, those of the first one in front, or (n, k)
+        where all are slow, and gives the same for the output words; where that is one word a row, (n,). `origin.inputs`
+        and `origin.outputs` name them, as `x.0` and `x.1`. `Refused` tells why there are no such frames, or what has no
+        place over the datapath.
+        """
+        from silc.frames import framed
+        from silc.plan import datapath_of
+        return framed(self, *datapath_of(datapath, text), phases, down, up)
+
     def response(self, count: int = 512, amplitude: int | None = None, input: int = 0, output: int = 0,
                  rate: float | None = None) -> Response:
-        """The response to an impulse of `count` samples, and its magnitude over frequency. `amplitude` is the raw word of
-        the impulse, the greatest one where none is given; `rate` the samples a second, for the picture."""
+        """The response to an impulse of `count` samples, and its magnitude over frequency. `amplitude` is the raw word
+        of the impulse, the greatest one where none is given; `rate` the samples a second, for the picture."""
         from silc.response import Response
         port = self.inputs[input]
         word = port.raw[1] if amplitude is None else amplitude
@@ -159,9 +177,11 @@ class Source:
         unit = word * port.type.step / self.outputs[output].type.step
         return Response([row[output] for row in put], unit, rate)
 
-    def ranges(self, x: Rows | None = None, *, wraps: Iterable[str] = (), all: bool = False, seconds: float = 4.0) -> list[Range]:
-        """How much of its range each element uses, the tightest first: on rows as in `evaluate`, where `wraps` names the
-        elements that are meant to wrap; or, without rows, at most on any input, found in so many seconds (tools/ranges)."""
+    def ranges(self, x: Rows | None = None, *, wraps: Iterable[str] = (), all: bool = False,
+               seconds: float = 4.0) -> list[Range]:
+        """How much of its range each element uses, the tightest first: on rows as in `evaluate`, where `wraps` names
+        the elements that are meant to wrap; or, without rows, at most on any input, found in so many seconds
+        (tools/ranges)."""
         from silc.designing import ranges
         found = ranges.ranges_on(self.text, tuples(x, len(self.inputs)), wraps, all)[0] if x is not None else \
             ranges.bounds_within(self.text, seconds, all)
@@ -180,7 +200,8 @@ class Source:
         else:
             reference = real_rows(against, len(outputs))
         own = values(tuples(self.evaluate(x), len(outputs)), outputs)
-        return [noise_of(column, other, shape) for column, other, shape in zip(zip(*own), zip(*reference), outputs) if shape]
+        return [noise_of(column, other, shape) for column, other, shape in zip(zip(*own), zip(*reference), outputs)
+                if shape]
 
     def explore(self, template: str | os.PathLike[str], jobs: int | None = None) -> Exploration:
         """The plans on all datapaths of a template (docs/COMMANDS.md), `jobs` of them at a time: what each takes of the

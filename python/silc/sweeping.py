@@ -20,8 +20,8 @@ Choice = Mapping[str, int]
 
 @dataclass
 class Point:
-    """A combination: the number of each name, and the power of the first output's error beside that of the reference, or why
-    the source is refused."""
+    """A combination: the number of each name, and the power of the first output's error beside that of the reference,
+    or why the source is refused."""
     choice: dict[str, int]
     signal: float = math.nan
     error: float = math.nan
@@ -33,7 +33,9 @@ class Point:
         """Signal to noise in decibels; infinity without an error, and no number where the source is refused."""
         if self.refused or math.isnan(self.error):
             return math.nan
-        return 10 * math.log10(self.signal / self.error) if self.error and self.signal else math.inf if self.signal else -math.inf
+        if not self.signal:
+            return -math.inf
+        return 10 * math.log10(self.signal / self.error) if self.error else math.inf
 
     def as_json(self) -> dict[str, Any]:
         """The row as docs/PYTHON.md has it."""
@@ -85,7 +87,9 @@ class Sweep:
             return Point(choice, refused=explained("eval", files, ["SRC", "SAMPLES", "OUT"], answer.status, answer.said,
                                                    self.silc))
         made = Point(choice)
-        self.measure(made, scaled(rows_of(answer.out, len(outputs), is_array(self.x)), [port.type for port in outputs]))
+        if self.wanted is not None:
+            rows = rows_of(answer.out, len(outputs), is_array(self.x))
+            self.measure(made, scaled(rows, [port.type for port in outputs]), self.wanted)
         return made
 
     def samples_for(self, inputs: Sequence[Port]) -> bytes:
@@ -96,10 +100,8 @@ class Sweep:
             self.samples[key] = text_of(quantised(self.x, types) if self.real else self.x, max(len(types), 1))
         return self.samples[key]
 
-    def measure(self, made: Point, y: Rows) -> None:
+    def measure(self, made: Point, y: Rows, wanted: Sequence[float]) -> None:
         """Compares the first output with what is wanted."""
-        if self.wanted is None:
-            return
         if self.array is not None:
             own = y if y.ndim == 1 else y[:, 0]
             errors = own - self.array
@@ -107,8 +109,8 @@ class Sweep:
             made.peak = float(abs(errors).max())
             return
         own = [row if isinstance(row, float) else row[0] for row in y]
-        differences = [value - wanted for value, wanted in zip(own, self.wanted, strict=True)]
-        made.signal = math.fsum(value * value for value in self.wanted) / len(own)
+        differences = [value - wanted for value, wanted in zip(own, wanted, strict=True)]
+        made.signal = math.fsum(value * value for value in wanted) / len(own)
         made.error = math.fsum(value * value for value in differences) / len(own)
         made.peak = max(abs(difference) for difference in differences)
 
@@ -126,14 +128,20 @@ def wanted_of(against: Source | Rows | None, x: Rows, real: bool) -> list[float]
     """The values of the first output that are wanted."""
     if against is None:
         return None
-    rows = scaled(against.evaluate(x, real=real), [port.type for port in against.outputs]) \
-        if isinstance(against, Source) and not real else against.evaluate(x, real=True) if isinstance(against, Source) else against
+    if not isinstance(against, Source):
+        rows = against
+    elif real:
+        rows = against.evaluate(x, real=True)
+    else:
+        rows = scaled(against.evaluate(x), [port.type for port in against.outputs])
     return [row[0] for row in real_rows(rows, 1)]
 
 
-def sweep(template: str | os.PathLike[str], names: Mapping[str, Iterable[int]], x: Rows, against: Source | Rows | None = None,
+def sweep(template: str | os.PathLike[str], names: Mapping[str, Iterable[int]], x: Rows,
+          against: Source | Rows | None = None,
           jobs: int | None = None, real: bool = False, silc: str | os.PathLike[str] | None = None) -> list[Point]:
-    """Evaluates a source at each combination of some numbers, `jobs` at a time, and gives a `Point` for each, in their order.
+    """Evaluates a source at each combination of some numbers, `jobs` at a time, and gives a `Point` for each, in their
+    order.
 
     `template` is the name of a file, or its text; `{W}` in it is the number of the name W. `x` and `real` are as in
     `Source.evaluate`, and `against` is a source or values of the shape (n,) that the first output is compared with. A

@@ -1,15 +1,18 @@
-"""Words and rows: the types of ports, rows of raw words as the text of sample files (docs/SAMPLES.md), and real numbers.
+"""Words and rows: the types of ports, rows of raw words as the text of sample files (docs/SAMPLES.md), and real
+numbers.
 
-Rows are given as a NumPy array or as a list, and come back as what was given. A program with one input word takes rows of
-the shape (n,) or (n, 1), one with k words (n, k); rows of one output word have the shape (n,), those of k words (n, k). In
-lists a row of several words is a tuple.
+Rows are given as a NumPy array or as a list, and come back as what was given. A program with one input word takes rows
+of the shape (n,) or (n, 1), one with k words (n, k); rows of one output word have the shape (n,), those of k words (n,
+k). In lists a row of several words is a tuple.
 """
 from __future__ import annotations
 
+import json
 import math
 import operator
 from collections.abc import Iterable, Iterator, Sequence
 from dataclasses import dataclass
+from functools import cached_property
 from itertools import chain
 from typing import Any
 
@@ -35,12 +38,12 @@ class Type:
 
     __repr__ = __str__
 
-    @property
+    @cached_property
     def raw(self) -> tuple[int, int]:
         """The least and the greatest raw word."""
         return (self.shape.least, self.shape.greatest) if self.shape else (0, 1)
 
-    @property
+    @cached_property
     def step(self) -> float:
         """The value of the raw word 1."""
         return float(self.shape.step) if self.shape else 1.0
@@ -52,7 +55,8 @@ class Type:
         return least * self.step, greatest * self.step
 
     def quantised(self, value: float) -> int:
-        """The raw word next to a value, up from the middle; the least or the greatest where the value is beyond these."""
+        """The raw word next to a value, up from the middle; the least or the greatest where the value is beyond
+        these."""
         least, greatest = self.raw
         return min(max(math.floor(value / self.step + 0.5), least), greatest)
 
@@ -105,7 +109,8 @@ def check_columns(rows: Rows, columns: int) -> Rows:
     if made.ndim == 1 and columns == 1:
         return made.reshape(-1, 1)
     if made.ndim != 2 or made.shape[1] != columns:
-        raise ValueError(f"rows of the shape {made.shape} are given, and ({'n,' if columns == 1 else f'n, {columns}'}) is wanted")
+        raise ValueError(
+            f"rows of the shape {made.shape} are given, and ({'n,' if columns == 1 else f'n, {columns}'}) is wanted")
     return made
 
 
@@ -149,6 +154,14 @@ def text_of(rows: Rows, columns: int) -> bytes:
     return b"".join(pieces_of(rows, columns))
 
 
+def numbers_in(text: str) -> list[int]:
+    """The numbers between commas and ends of lines, by a reader that is fast, and has no leading zeros."""
+    try:
+        return json.loads(f"[{text}]".replace("\n", ","))
+    except ValueError:
+        return [int(word) for word in text.replace("\n", ",").split(",")]
+
+
 class Reader:
     """Text of rows that becomes words, as an array or as a list."""
 
@@ -174,10 +187,9 @@ class Reader:
         self.left, self.size = [text[end:]], len(text) - end
 
     def words_of(self, text: bytes) -> Any:
-        flat = text[:-1].replace(b"\n", b",")
         if self.numpy is not None:
-            return self.numpy.fromstring(flat, dtype=self.numpy.int64, sep=",")
-        return list(map(int, flat.split(b",")))
+            return self.numpy.fromstring(text[:-1].replace(b"\n", b","), dtype=self.numpy.int64, sep=",")
+        return numbers_in(text[:-1].decode("ascii"))
 
     def rows(self) -> Rows:
         """All rows so far; the text has to end with a whole line."""
@@ -198,7 +210,8 @@ def rows_of(text: bytes, columns: int, wants_array: bool) -> Rows:
 
 
 def quantised(rows: Rows, types: Sequence[Type]) -> Rows:
-    """Rows of real numbers as rows of raw words: the next word, up from the middle, and the last of the range beyond it."""
+    """Rows of real numbers as rows of raw words: the next word, up from the middle, and the last of the range beyond
+    it."""
     if is_array(rows):
         module, array = numpy(), check_columns(rows, len(types))
         steps = module.array([of.step for of in types])
@@ -214,9 +227,11 @@ def scaled(rows: Rows, types: Sequence[Type]) -> Rows:
     if is_array(rows):
         steps = numpy().array([of.step for of in types])
         return rows * (steps[0] if rows.ndim == 1 else steps)
-    if len(types) == 1:
-        return [row * types[0].step for row in rows]
-    return [tuple(word * of.step for of, word in zip(types, row, strict=True)) for row in rows]
+    steps = [of.step for of in types]
+    if len(steps) == 1:
+        step, = steps
+        return [row * step for row in rows]
+    return [tuple(word * step for step, word in zip(steps, row, strict=True)) for row in rows]
 
 
 def tuples(rows: Rows, columns: int) -> list[tuple[int, ...]]:

@@ -3,23 +3,28 @@
 
 usage: tests/assemble/check_assemble.py [--silc PROGRAM]
 
-It takes the microcode of all examples on each of their datapaths, the microcode files of tests/, and random images, with
-structural conflicts in some. In both versions the microcode of the listing is the file that was listed, byte for byte, and
-the listing of that microcode is the same text. Of the examples and of tests/ `silc list` prints the listing's own lines, from
-`period` on. The most of what is counted is assembled, and one more refused. The sum of docs/MICROCODE.md is assembled, run,
-and compared with rows by hand. What needs `silc`, where that is not built, is skipped with 77. The last line is 'N passed, M
-failed'.
+It takes the microcode of all examples on each of their datapaths, the microcode files of tests/, and random images,
+with structural conflicts in some. In both versions the microcode of the listing is the file that was listed, byte for
+byte, and the listing of that microcode is the same text. Of the examples and of tests/ `silc list` prints the listing's
+own lines, from `period` on. The most of what is counted is assembled, and one more refused. The sum of
+docs/MICROCODE.md is assembled, run, and compared with rows by hand. What needs `silc`, where that is not built, is
+skipped with 77. The last line is 'N passed, M failed'.
 """
 import os
 import random
 import subprocess
 import sys
 import tempfile
+from collections.abc import Callable, Iterator
 from pathlib import Path
+from typing import TypeAlias
 
 from silc import micro_file
 from silc.fuzzing.images import Image
 from silc.micro_file.listing import image_of_listing, listing_of
+
+# A check, which is given a folder.
+Check: TypeAlias = Callable[[Path], None]
 
 HERE = Path(__file__).resolve().parent
 ROOT = HERE.parent.parent
@@ -35,16 +40,17 @@ class Wrong(Exception):
     """What is otherwise than it has to be."""
 
 
-def said(folder: Path, *words) -> str:
+def said(folder: Path, *words: object) -> str:
     """What a program prints, which is done without a word on standard error."""
     done = subprocess.run([*map(str, words)], cwd=folder, stdin=subprocess.DEVNULL, capture_output=True, text=True,
                           env=os.environ | {"XDG_STATE_HOME": str(folder / "states")})
     if done.returncode or done.stderr:
-        raise Wrong(f"{Path(words[0]).name} {' '.join(map(str, words[1:]))} ended with {done.returncode}: {done.stderr}")
+        raise Wrong(
+            f"{Path(words[0]).name} {' '.join(map(str, words[1:]))} ended with {done.returncode}: {done.stderr}")
     return done.stdout
 
 
-def check_image(data: bytes):
+def check_image(data: bytes) -> None:
     """In each version the microcode of the listing is that of the image, and its listing the same text."""
     image = micro_file.image_of(data)
     text = listing_of(image)
@@ -56,7 +62,7 @@ def check_image(data: bytes):
             raise Wrong(f"in version {version} the microcode of the listing is another")
 
 
-def check_file(silc: Path, folder: Path, file: Path):
+def check_file(silc: Path, folder: Path, file: Path) -> None:
     """The same through the tool, and `silc list` prints the end of the listing."""
     data = file.read_bytes()
     check_image(data)
@@ -69,24 +75,29 @@ def check_file(silc: Path, folder: Path, file: Path):
         raise Wrong("`silc list` prints other lines")
 
 
-def check_example(silc: Path, folder: Path, datapath: Path):
-    said(folder, silc, "compile", next(datapath.parent.glob("*.sil")), datapath, "example.mic")
+def source_beside(datapath: Path) -> Path:
+    """The source of an example of one program."""
+    return datapath.with_name(f"{datapath.parent.name}.sil")
+
+
+def check_example(silc: Path, folder: Path, datapath: Path) -> None:
+    said(folder, silc, "compile", source_beside(datapath), datapath, "example.mic")
     check_file(silc, folder, folder / "example.mic")
 
 
-def check_random(seed: int):
+def check_random(seed: int) -> None:
     image = Image(random.Random(seed))
     if seed % 3 == 0:
         image.spoil()
     check_image(micro_file.bytes_of(image.finished()))
 
 
-def at_bounds():
+def at_bounds() -> Iterator[tuple[str, int, Callable[[int], str], str]]:
     """What is counted up to which number, a listing with so many, and what is refused of one more."""
     head, alu = "input 0 width 8\n", "unit 0 alu latency 1 gap 1 files 32 1\n"
     one, ram = "in latency 1 gap 1\n", "unit 1 ram latency 1 gap 1 files 1 1 cells 1\n"
 
-    def whole(hardware: str, inputs=1, outputs=1, units=1) -> str:
+    def whole(hardware: str, inputs: int = 1, outputs: int = 1, units: int = 1) -> str:
         return f"{hardware}period 1 unroll 1 inputs {inputs} outputs {outputs} units {units} buses 32\nword 0\n"
 
     def takes(count: int) -> str:
@@ -107,7 +118,7 @@ def at_bounds():
     yield "takes", 1024, lambda count: whole(head + alu) + takes(count), "1029:1: a word has 1024 takes at most"
 
 
-def check_bound(text_for, most: int, fault: str):
+def check_bound(text_for: Callable[[int], str], most: int, fault: str) -> None:
     """The most is assembled and one more refused."""
     image = image_of_listing(text_for(most))
     for version in micro_file.VERSIONS:
@@ -121,7 +132,7 @@ def check_bound(text_for, most: int, fault: str):
     raise Wrong("one more is not refused")
 
 
-def check_by_hand(silc: Path, folder: Path):
+def check_by_hand(silc: Path, folder: Path) -> None:
     """The listing on the page is assembled and run."""
     block = PAGE.read_text().partition("## Written by hand")[2].partition("```\n")[2].partition("```")[0]
     if block != (HERE / "sum.listing").read_text():
@@ -135,7 +146,7 @@ def check_by_hand(silc: Path, folder: Path):
             raise Wrong("the rows are others")
 
 
-def checks(silc: Path):
+def checks(silc: Path) -> Iterator[tuple[str, bool, Check]]:
     """Each check by its name, and whether it needs `silc`."""
     yield "the sum by hand", True, lambda folder: check_by_hand(silc, folder)
     for what, most, text_for, fault in at_bounds():
@@ -144,7 +155,7 @@ def checks(silc: Path):
         yield f"random {seed}", False, lambda _, seed=seed: check_random(seed)
     for file in sorted((ROOT / "tests").glob("*/*.mic")):
         yield str(file.relative_to(ROOT)), True, lambda folder, file=file: check_file(silc, folder, file)
-    for datapath in sorted((ROOT / "examples").glob("*/*.toml")):
+    for datapath in filter(lambda file: source_beside(file).is_file(), sorted((ROOT / "examples").glob("*/*.toml"))):
         yield str(datapath.relative_to(ROOT)), True, lambda folder, one=datapath: check_example(silc, folder, one)
 
 

@@ -3,33 +3,40 @@
 
 usage: tests/design/check_bounds.py [COUNT [SEED]]
 
-A program has sections in four forms with poles up to 1 - 2^-20, combs, allpasses, coupled loops and taps with delays up to
-1,023, one after another or beside each other, with one input or more, that truncate, round or saturate. It is made as a list
-of equations, and these are evaluated here, in whole numbers that do not wrap, and in real numbers for the responses from which
-the inputs are made that bring an element furthest. No element may pass its bound on them. Where the responses die out within
-the samples that are tried, it is also seen how much too great a bound is. Some programs are compared with reference.py, so
-that the equations are those of the source. The words of the examples, on their samples, are compared with their bounds too,
-and those of the reverberator on its worst input. It runs the built `silc_show`, or the one that `SILC_SHOW` names.
+A program has sections in four forms with poles up to 1 - 2^-20, combs, allpasses, coupled loops and taps with delays up
+to 1,023, one after another or beside each other, with one input or more, that truncate, round or saturate. It is made
+as a list of equations, and these are evaluated here, in whole numbers that do not wrap, and in real numbers for the
+responses from which the inputs are made that bring an element furthest. No element may pass its bound on them. Where
+the responses die out within the samples that are tried, it is also seen how much too great a bound is. Some programs
+are compared with reference.py, so that the equations are those of the source. The words of the examples, on their
+samples, are compared with their bounds too, and those of the reverberator on its worst input. It runs the built
+`silc_show`, or the one that `SILC_SHOW` names.
 """
 import itertools
 import random
 import re
 import sys
 import time
+from collections.abc import Callable, Iterable, Iterator, Sequence
 from concurrent.futures import ProcessPoolExecutor
 from dataclasses import dataclass
 from fractions import Fraction
 from pathlib import Path
+from typing import Any, TypeAlias
 
 import reference
-from silc.designing.ellipsoids import Ellipsoid, NoBound, States, each
+from silc.designing import ellipsoids
+from silc.designing.ellipsoids import Ellipsoid, NoBound, States
 from silc.designing.flat import flat_of
 from silc.designing.loops import ONE, Sums, are_gains
 from silc.designing.programs import rows_of
 from silc.designing.shapes import Shape
 from silc.designing.systems import System
 from silc.designing.unbounded import own_run
-from silc.designing.worst import Worst
+from silc.designing.worst import Bound, Worst
+
+# Rows of samples.
+Rows: TypeAlias = Iterable[Sequence[float]]
 
 ROOT = Path(__file__).resolve().parent.parent.parent
 COUNT, SEED, SECONDS = 200, 1, 0.5
@@ -57,13 +64,13 @@ class Equation:
     name: str
     shape: Shape
     mode: str
-    terms: tuple
+    terms: tuple[Term, ...]
 
 
 class Program:
     """A random program."""
 
-    def __init__(self, dice: random.Random):
+    def __init__(self, dice: random.Random) -> None:
         self.dice, self.equations, self.shapes, self.constants = dice, [], {}, []
         width = dice.choice((16, 20, 24, 32))
         self.signal = Shape(40 if width == 32 else width + dice.randint(4, 8), width - 1)
@@ -79,32 +86,33 @@ class Program:
                                    for end in ends])]
         self.output = ends[0] if ends[0] not in self.inputs else self.signal_of(ends[0])
 
-    def equation(self, terms, name=None, shape=None, mode=None):
+    def equation(self, terms: Iterable[Term], name: str | None = None, shape: Shape | None = None,
+                 mode: str | None = None) -> str:
         name = name or f"s{len(self.equations)}"
         shape = shape or self.signal
         self.equations.append(Equation(name, shape, mode or self.mode, tuple(terms)))
         self.shapes[name] = shape
         return name
 
-    def named(self):
+    def named(self) -> str:
         return f"s{len(self.equations)}"
 
-    def signal_of(self, name):
+    def signal_of(self, name: str) -> str:
         return self.equation([Term(name)])
 
-    def coefficient(self, value, places=None):
+    def coefficient(self, value: float, places: int | None = None) -> dict[str, Any]:
         """A term's word and shape, near a value."""
         whole = 1 if abs(value) < 1 else 2 if abs(value) < 2 else 4
         places = places or self.dice.choice((10, 14, 15, 22))
         shape = Shape(places + whole, places)
         return {"word": max(shape.least, min(shape.greatest, shape.nearest(value))), "of": shape}
 
-    def block(self, end):
+    def block(self, end: str) -> str:
         kind = self.dice.choice((self.direct, self.direct, self.transposed, self.one_pole, self.lattice, self.comb,
                                  self.allpass, self.damped, self.taps, self.coupled))
         return kind(end)
 
-    def poles(self):
+    def poles(self) -> tuple[float, float]:
         """a1, a2 of two poles, real or not."""
         radius = 1 - 2.0 ** -self.dice.choice((1, 2, 3, 4, 5, 6, 7, 8, 9, 10, 12, 15, 20))
         if self.dice.random() < 0.3:
@@ -113,13 +121,14 @@ class Program:
         turn = self.dice.uniform(0.02, 1.0)
         return -2 * radius * (1 - turn), radius * radius
 
-    def direct(self, end):
+    def direct(self, end: str) -> str:
         (a1, a2), own = self.poles(), self.named()
         gains = [self.dice.uniform(-0.3, 0.3) for _ in range(3)]
         return self.equation([*(Term(end, delay, 1, **self.coefficient(gain)) for delay, gain in enumerate(gains)),
-                              Term(own, 1, -1, **self.coefficient(a1, 24)), Term(own, 2, -1, **self.coefficient(a2, 24))])
+                              Term(own, 1, -1, **self.coefficient(a1, 24)),
+                              Term(own, 2, -1, **self.coefficient(a2, 24))])
 
-    def transposed(self, end):
+    def transposed(self, end: str) -> str:
         (a1, a2), first = self.poles(), len(self.equations)
         y, one, two = (f"s{first + k}" for k in range(3))
         b0, b1, b2 = (self.coefficient(self.dice.uniform(-0.3, 0.3)) for _ in range(3))
@@ -128,12 +137,12 @@ class Program:
         self.equation([Term(end, 0, 1, **b2), Term(y, 0, -1, **self.coefficient(a2, 24))], two)
         return y
 
-    def one_pole(self, end):
+    def one_pole(self, end: str) -> str:
         pole = self.dice.choice((1, 1, -1)) * (1 - 2.0 ** -self.dice.choice((1, 3, 5, 8, 11, 15, 20)))
         return self.equation([Term(end, 0, 1, **self.coefficient(self.dice.uniform(-0.9, 0.9))),
                               Term(self.named(), 1, 1, **self.coefficient(pole, 24))])
 
-    def lattice(self, end):
+    def lattice(self, end: str) -> str:
         """The two-multiplier lattice with a ladder, of the second order."""
         k1, k2 = (self.coefficient(self.dice.uniform(-0.95, 0.95), 20) for _ in range(2))
         first = len(self.equations)
@@ -142,18 +151,19 @@ class Program:
         self.equation([Term(f1), Term(f0, 1, -1, **k1)], f0)
         self.equation([Term(f0, 0, 1, **k1), Term(f0, 1)], g1)
         self.equation([Term(f1, 0, 1, **k2), Term(g1, 1)], g2)
-        return self.equation([Term(name, 0, 1, **self.coefficient(self.dice.uniform(-0.9, 0.9))) for name in (f0, g1, g2)])
+        return self.equation([Term(name, 0, 1, **self.coefficient(self.dice.uniform(-0.9, 0.9)))
+                              for name in (f0, g1, g2)])
 
-    def comb(self, end):
+    def comb(self, end: str) -> str:
         return self.equation([Term(end), Term(self.named(), self.dice.randint(1, 1023), 1,
                                               **self.coefficient(self.dice.uniform(-0.95, 0.95)))])
 
-    def allpass(self, end):
+    def allpass(self, end: str) -> str:
         gain, delay = self.coefficient(self.dice.uniform(-0.8, 0.8)), self.dice.randint(1, 1023)
         inner = self.equation([Term(end), Term(self.named(), delay, 1, **gain)])
         return self.equation([Term(inner, delay), Term(inner, 0, -1, **gain)])
 
-    def damped(self, end):
+    def damped(self, end: str) -> str:
         """A comb with a filter in its loop."""
         first, delay, share = len(self.equations), self.dice.randint(2, 1023), self.dice.uniform(0.1, 0.8)
         y, low = f"s{first}", f"s{first + 1}"
@@ -161,24 +171,26 @@ class Program:
         self.equation([Term(y, 0, 1, **self.coefficient(1 - share)), Term(low, 1, 1, **self.coefficient(share))], low)
         return y
 
-    def taps(self, end):
+    def taps(self, end: str) -> str:
         delays = self.dice.sample(range(1024), self.dice.randint(1, 6))
-        return self.equation([Term(end, delay, 1, **self.coefficient(self.dice.uniform(-0.99, 0.99))) for delay in delays])
+        return self.equation([Term(end, delay, 1, **self.coefficient(self.dice.uniform(-0.99, 0.99)))
+                              for delay in delays])
 
-    def coupled(self, end):
+    def coupled(self, end: str) -> str:
         """Two loops that feed each other, like the delay lines of a reverberator."""
         first, gain = len(self.equations), self.dice.uniform(0.3, 0.9)
         names, delays = (f"s{first}", f"s{first + 1}"), [self.dice.randint(1, 400) for _ in range(2)]
         turn = self.dice.uniform(0.0, 1.0)
         rows = ((turn, (1 - turn * turn)**0.5), (-((1 - turn * turn)**0.5), turn))
         for name, row in zip(names, rows):
-            self.equation([Term(end, self.dice.randint(0, 3)), *(Term(other, delay, 1, **self.coefficient(gain * share))
-                                                               for other, delay, share in zip(names, delays, row))], name)
+            read = [Term(other, delay, 1, **self.coefficient(gain * share))
+                    for other, delay, share in zip(names, delays, row)]
+            self.equation([Term(end, self.dice.randint(0, 3)), *read], name)
         return names[1]
 
     # as a source
 
-    def source(self):
+    def source(self) -> str:
         lines, tables = [], {}
         for equation in self.equations:
             terms = []
@@ -195,13 +207,15 @@ class Program:
         made = [f"const {name} : {fix(shape)} = {shape.text(word)};\n" for (word, shape), name in tables.items()]
         inputs = ", ".join(f"{name} : {fix(self.shapes[name])}" for name in self.inputs)
         local = "".join(f"  var {each.name} : {fix(each.shape, each.mode)};\n" for each in self.equations)
-        return (f"{''.join(made)}func main({inputs}) y : {fix(self.shapes[self.output])} =\nbegin\n{local}{''.join(lines)}"
+        return (f"{''.join(made)}func main({inputs}) y : {fix(self.shapes[self.output])} =\nbegin\n"
+                f"{local}{''.join(lines)}"
                 f"  y = {self.output};\nend;\n")
 
     # as functions
 
-    def function(self, is_exact):
-        """A function of rows that gives the words of all signals, exactly and without wraps, or without rounding too."""
+    def function(self, is_exact: bool) -> Callable[..., None]:
+        """A function of rows that gives the words of all signals, exactly and without wraps, or without rounding
+        too."""
         names = [*self.inputs, *(each.name for each in self.equations)]
         lines = [f"  {name} = made['{name}']; put_{name} = {name}.append" for name in names]
         lines += ["  for n, row in rows:", *(f"    put_{name}(row[{k}])" for k, name in enumerate(self.inputs))]
@@ -214,10 +228,13 @@ class Program:
         exec("def run(made, rows):\n" + "\n".join(lines), names_made)
         return names_made["run"]
 
-    def text(self, term, equation, is_exact):
+    def text(self, term: Term, equation: Equation, is_exact: bool) -> str:
         read = f"{term.source}[n - {term.delay}]"
         shift = self.shapes[term.source].places - equation.shape.places + (term.of.places if term.of else 0)
-        product = read if term.word is None else f"{read} * {term.word}" if term.word >= 0 else f"{read} * ({term.word})"
+        if term.word is None:
+            product = read
+        else:
+            product = f"{read} * {term.word}" if term.word >= 0 else f"{read} * ({term.word})"
         if not is_exact:
             return f"{product} * {2.0**-shift!r}"
         made = f"({product} << {-shift})"
@@ -227,7 +244,7 @@ class Program:
             made = clipped(made, equation.shape)
         return made
 
-    def saturated(self, equation):
+    def saturated(self, equation: Equation) -> str:
         """The sum of an equation that saturates, after each addition."""
         made = ""
         for number, term in enumerate(equation.terms):
@@ -238,31 +255,31 @@ class Program:
                 made = part if term.sign > 0 else clipped(f"-{part}", equation.shape)
         return made
 
-    def run(self, rows, is_exact):
+    def run(self, rows: Sequence[Sequence[float]], is_exact: bool) -> dict[str, list[Any]]:
         """The words of all signals over rows of samples."""
         made = {name: [0] * 1024 for name in (*self.inputs, *(each.name for each in self.equations))}
         self.function(is_exact)(made, enumerate(rows, 1024))
         return {name: words[1024:] for name, words in made.items()}
 
 
-def fix(shape, mode="trunc"):
+def fix(shape: Shape, mode: str = "trunc") -> str:
     return f"fix<{shape.width},{shape.places}{'' if mode == 'trunc' else ',' + mode}>"
 
 
-def clipped(text, shape):
+def clipped(text: str, shape: Shape) -> str:
     return f"max({shape.least}, min({shape.greatest}, {text}))"
 
 
 @dataclass
 class Judged:
     """What became of a program: faults, how loose its bounds are, and how many there were."""
-    faults: list
-    looseness: list
+    faults: list[str]
+    looseness: list[float]
     bounds: int = 0
     open_ones: int = 0
 
 
-def judged(seed, number):
+def judged(seed: int, number: int) -> Judged:
     """A program against the inputs that bring two of its elements furthest."""
     program = Program(random.Random(f"{seed} {number}"))
     source, made = program.source(), Judged([], [])
@@ -293,18 +310,18 @@ def judged(seed, number):
     return made
 
 
-def worst_rows(responses, shapes, sign):
+def worst_rows(responses: Sequence[Sequence[float]], shapes: Sequence[Shape], sign: int) -> list[tuple[int, ...]]:
     columns = [[0 if not x else shape.greatest if x * sign > 0 else shape.least for x in reversed(response)]
                for response, shape in zip(responses, shapes)]
     return list(zip(*columns))
 
 
-def has_died_out(response):
+def has_died_out(response: Sequence[float]) -> bool:
     whole = sum(map(abs, response))
     return sum(map(abs, response[-len(response) // 4 :])) <= OVER * whole
 
 
-def reference_faults(seed, numbers):
+def reference_faults(seed: int, numbers: Iterable[int]) -> Iterator[str]:
     """Whether the equations say what the sources do, on samples that are so small that nothing wraps."""
     for number in numbers:
         program, dice = Program(random.Random(f"{seed} {number}")), random.Random(number)
@@ -314,7 +331,7 @@ def reference_faults(seed, numbers):
             yield f"the equations are others than those of the source: {program.source()}"
 
 
-def bounds_passed(name, source, bounds, rows):
+def bounds_passed(name: str, source: str, bounds: dict[str, Bound], rows: Sequence[tuple[int, ...]]) -> Iterator[str]:
     """Which elements of an example pass a bound on rows of samples, where nothing wraps."""
     for element, words in words_of(source, rows).items():
         bound = bounds.get(element)
@@ -323,7 +340,7 @@ def bounds_passed(name, source, bounds, rows):
             yield f"{name}: {element} goes from {min(words)} to {max(words)}, and its bound is {bound}"
 
 
-def words_of(source, rows):
+def words_of(source: str, rows: Sequence[tuple[int, ...]]) -> dict[str, list[int]]:
     """The words of all elements by their names, as the program has them."""
     elements = flat_of(source).elements
     run = own_run(elements)
@@ -331,8 +348,9 @@ def words_of(source, rows):
     return {element.name: run.block(number) for number, element in enumerate(elements)}
 
 
-def example_faults(folder):
-    """The same of an example on its samples, and of the reverberator whether its worst input comes near to the bound."""
+def example_faults(folder: Path) -> list[str]:
+    """The same of an example on its samples, and of the reverberator whether its worst input comes near to the
+    bound."""
     name = folder.name
     source, rows = (folder / f"{name}.sil").read_text(), rows_of((folder / "samples.txt").read_text())[:EXAMPLE_ROWS]
     worst = Worst(flat_of(source), SECONDS)
@@ -347,30 +365,34 @@ def example_faults(folder):
     return faults
 
 
-def inequality_faults():
-    """Whether what all bounds rest on is refused where it does not hold: of y = x + y@1 / 2 the sum is 2, and a little less is
-    none; and an ellipsoid for it whose sum of squares is wrong gives no tail."""
+def inequality_faults() -> Iterator[str]:
+    """Whether what all bounds rest on is refused where it does not hold: of y = x + y@1 / 2 the sum is 2, and a little
+    less is none; and an ellipsoid for it whose sum of squares is wrong gives no tail."""
     half, two = Sums(*(amount // 2 for amount in ONE)), Sums(*(amount * 2 for amount in ONE))
-    for gain, is_bound in ((two, True), (two._replace(positive=two.positive - 1), False), (two._replace(either=-1), False)):
+    for gain, is_bound in ((two, True), (two._replace(positive=two.positive - 1), False),
+                           (two._replace(either=-1), False)):
         if are_gains({0: {0: gain}}, {0: {0: ONE}}, {0: {0: half}}) != is_bound:
             yield f"the gain {gain} is {'no bound' if is_bound else 'a bound'}"
     flying = {(0, 0): Fraction(1, 2)}
     ellipsoid = Ellipsoid(States(System([[(0, 1, Fraction(1, 2))]]), {0}, flying))
     if not 1 <= ellipsoid.tails(flying)[0]:
         yield "an ellipsoid bounds what comes after by less than it is"
-    ellipsoid.summed, ellipsoid.room = (lambda x: each(lambda a: 0 * a, x)), each(lambda a: 0 * a, ellipsoid.room)
+
+    def nothing(x: ellipsoids.Matrix) -> ellipsoids.Matrix:
+        return ellipsoids.each(lambda a: 0 * a, x)
+    ellipsoid.summed, ellipsoid.room = nothing, nothing(ellipsoid.room)
     try:
         yield f"an ellipsoid with no sum of squares bounds what comes after by {ellipsoid.tails(flying)}"
     except NoBound:
         pass
 
 
-def main(words):
+def main(words: list[str]) -> int:
     sys.setrecursionlimit(100_000)
     count, seed = (int(words[0]) if words else COUNT), (int(words[1]) if len(words) > 1 else SEED)
     began, made = time.monotonic(), []
     faults = [*inequality_faults(), *reference_faults(seed, range(0, count, 10))]
-    examples = sorted(folder for folder in (ROOT / "examples").iterdir() if (folder / "samples.txt").is_file())
+    examples = sorted(folder for folder in (ROOT / "examples").iterdir() if (folder / f"{folder.name}.sil").is_file())
     with ProcessPoolExecutor() as pool:
         faults += itertools.chain(*pool.map(example_faults, examples))
         for number, one in enumerate(pool.map(judged, itertools.repeat(seed), range(count)), 1):
@@ -383,8 +405,10 @@ def main(words):
         faults.append(f"a bound is {max(loose)} times what is reached, where {MOST_LOOSE} may be")
     for fault in faults:
         print(fault)
-    print(f"bounds: {len(examples)} examples and {count} programs, {sum(one.bounds for one in made)} elements of these, "
-          f"{sum(one.open_ones for one in made)} without a bound; {len(loose)} with a response that died out, whose bounds "
+    print(f"bounds: {len(examples)} examples and {count} programs, {sum(one.bounds for one in made)} elements of "
+          f"these, "
+          f"{sum(one.open_ones for one in made)} without a bound; {len(loose)} with a response that died out, whose "
+          f"bounds "
           f"are at most {max(loose, default=1):.4f} times what is reached; {len(faults)} faults")
     return 1 if faults else 0
 

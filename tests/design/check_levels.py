@@ -1,7 +1,8 @@
 #!/usr/bin/env python3
-"""Whether what tools/design says of levels is so. Its bounds, of sections with poles near the unit circle, are no less than
-sums of magnitudes that are added up here to the last bit of a double, and hardly more; what needs more time is told as such.
-The noise that it expects is within a decibel of what tools/noise measures, against the same source with finer words.
+"""Whether what tools/design says of levels is so. Its bounds, of sections with poles near the unit circle, are no less
+than sums of magnitudes that are added up here to the last bit of a double, and hardly more; what needs more time is
+told as such. The noise that it expects is within a decibel of what tools/noise measures, against the same source with
+finer words.
 
 usage: tests/design/check_levels.py
 
@@ -39,7 +40,8 @@ EQUALISER = """1.00654442 -1.98667862 0.9803045 1 -1.98667862 0.98684892
 NARROW = ["--shape", "16,14", "--input", "16,15", "--signal", "16"]
 WIDE = ["--shape", "24,22", "--input", "16,15", "--signal", "32,28", "--norm", "none", "--order", "given"]
 NOISES = [(sections, [*words, "--form", form, "--rounding", rounding]) for sections, words, form in (
-    (ELLIPTIC, NARROW, "df1"), (ELLIPTIC, NARROW, "lattice"), (EQUALISER, WIDE, "df2t")) for rounding in ("nearest", "down")]
+    (ELLIPTIC, NARROW, "df1"), (ELLIPTIC, NARROW, "lattice"), (EQUALISER, WIDE, "df2t"))
+    for rounding in ("nearest", "down")]
 EXPECTED, MEASURED = re.compile(r"expected at (-[\d.]+) dB"), re.compile(r"noise (-[\d.]+) dB of full scale")
 SAMPLES, LOUDNESS, DECIBEL = 6000, 5000, 1.0
 # The processes of one check.
@@ -129,7 +131,9 @@ def noise_faults(sections: str, words: list[str]) -> list[str]:
         said = ran(NOISE, "own.sil", "samples", "--against", "fine.sil", room=folder).stdout
     expected, measured = (float(found.search(text)[1]) for found, text in (
         (EXPECTED, " ".join(source.split())), (MEASURED, said)))
-    return [f"{named}: {expected} dB are expected, and {measured} dB measured"] if abs(expected - measured) > DECIBEL else []
+    if abs(expected - measured) <= DECIBEL:
+        return []
+    return [f"{named}: {expected} dB are expected, and {measured} dB measured"]
 
 
 def main() -> int:
@@ -139,7 +143,9 @@ def main() -> int:
     faults += time_faults()
     for fault in faults:
         print(fault)
-    print(f"levels: bounds of {len(SLOW) + RANDOM} sections, and the noise of {len(NOISES)} filters, {len(faults)} faults")
+    print(
+        f"levels: bounds of {len(SLOW) + RANDOM} sections, and the noise of {len(NOISES)} filters, {len(faults)} "
+        f"faults")
     return 1 if faults else 0
 
 

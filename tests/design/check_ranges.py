@@ -1,7 +1,8 @@
 #!/usr/bin/env python3
-"""Whether filters that are scaled by l1 never wrap: on 100,000 samples of noise at full scale, and on the worst input itself,
-which is made of the impulse response. And whether tools/ranges sees where one wraps that is not scaled, and finds the same
-words as an evaluator in Python, also where nothing brings them to a width: on the examples and on random programs.
+"""Whether filters that are scaled by l1 never wrap: on 100,000 samples of noise at full scale, and on the worst input
+itself, which is made of the impulse response. And whether tools/ranges sees where one wraps that is not scaled, and
+finds the same words as an evaluator in Python, also where nothing brings them to a width: on the examples and on random
+programs.
 
 usage: tests/design/check_ranges.py
 
@@ -29,7 +30,8 @@ from silc.fuzzing import samples, sources
 ROOT = Path(__file__).resolve().parent.parent.parent
 TOOLS = ROOT / "tools"
 SAMPLES, LEAST, GREATEST, SKIPPED = 100_000, -32768, 32767, 77
-FILTERS = (("df1", ["butter", "6", "lowpass", "1000"]), ("df2t", ["cheby1", "2", "bandpass", "800", "1600", "--ripple", "1"]),
+FILTERS = (("df1", ["butter", "6", "lowpass", "1000"]),
+           ("df2t", ["cheby1", "2", "bandpass", "800", "1600", "--ripple", "1"]),
            ("lattice", ["ellip", "3", "highpass", "1200", "--ripple", "1", "--attenuation", "40"]))
 SHAPES = ["--rate", "8000", "--shape", "16,13", "--input", "16,15"]
 # As many random programs are looked into, with words of so many bits in turn.
@@ -48,25 +50,25 @@ WRAPPED = {"a": "wraps at sample 2, 1 in all", "y": "follows at sample 3, 1 in a
 SATURATED = {"a": "saturates at sample 2, 1 in all", "y": "follows at sample 3, 1 in all", "x": ""}
 
 
-def said(*words, room):
+def said(*words: str | Path, room: Path) -> str:
     done = subprocess.run(words, cwd=room, capture_output=True, text=True, stdin=subprocess.DEVNULL)
     if done.returncode:
         sys.exit(f"{' '.join(map(str, words))}: {done.stderr.strip()}")
     return done.stdout
 
 
-def noise():
+def noise() -> list[tuple[int, ...]]:
     dice = random.Random(1)
     return [(dice.choice((LEAST, GREATEST, dice.randint(LEAST, GREATEST))),) for _ in range(SAMPLES)]
 
 
-def judged(form, words, rows):
+def judged(form: str, words: list[str], rows: list[tuple[int, ...]]) -> list[str]:
     """How a filter that is scaled by l1 wraps."""
     with tempfile.TemporaryDirectory(prefix="silc-ranges-test-") as folder:
         return list(scaled_faults(Path(folder), form, words, rows))
 
 
-def scaled_faults(room, form, words, rows):
+def scaled_faults(room: Path, form: str, words: list[str], rows: list[tuple[int, ...]]) -> Iterator[str]:
     named = f"{' '.join(words)} {form}"
     source = said(TOOLS / "design", "iir", *words, *SHAPES, "--form", form, room=room)
     (room / "filter.sil").write_text(source)
@@ -86,7 +88,7 @@ def scaled_faults(room, form, words, rows):
         yield f"{named}: the worst input is none: {tightest}"
 
 
-def seen_faults(room):
+def seen_faults(room: Path) -> Iterator[str]:
     """What is seen of a program that wraps, and of the same that saturates."""
     (room / "samples.txt").write_text("16\n80\n-16\n0\n")
     for source, wanted in ((WRAPPING, WRAPPED), (WRAPPING.replace("a : fix<8,4>", "a : fix<8,4,sat>"), SATURATED)):
@@ -97,7 +99,7 @@ def seen_faults(room):
             yield f"tools/ranges says {got} in the place of {wanted}"
 
 
-def value_faults():
+def value_faults() -> Iterator[str]:
     """How the words of all elements differ from those of an evaluator in Python."""
     for name in ("biquads", "lowpass16", "dtmf", "halfband"):
         folder = ROOT / "examples" / name
@@ -111,7 +113,8 @@ def value_faults():
 def programs() -> Iterator[tuple[str, str, list]]:
     """Sources with samples: the examples, and random ones."""
     for file in sorted((ROOT / "examples").glob("*/*.sil")):
-        yield file.stem, file.read_text(), rows_of(file.with_name("samples.txt").read_text())[:40]
+        if file.stem == file.parent.name:
+            yield file.stem, file.read_text(), rows_of(file.with_name("samples.txt").read_text())[:40]
     for seed in range(PROGRAMS):
         dice = random.Random(seed)
         made = sources.Program(dice, WIDTHS[seed % len(WIDTHS)]).source()
@@ -129,7 +132,8 @@ def words_by(run: Run, rows: list) -> list[list[int]]:
 
 
 def exact_faults() -> Iterator[str]:
-    """How the words of programs, and those that nothing brings to a width, differ from those of an evaluator in Python."""
+    """How the words of programs, and those that nothing brings to a width, differ from those of an evaluator in
+    Python."""
     fit = reference.fit
     for name, source, rows in programs():
         flat, program = flat_of(source), reference.Program(source)
@@ -149,7 +153,7 @@ def exact_faults() -> Iterator[str]:
             reference.fit = fit
 
 
-def main():
+def main() -> int:
     sys.setrecursionlimit(100_000)
     try:
         scipy_designs.designed(several=[])

@@ -1,6 +1,7 @@
 """`tests/reference.py`, for the scripts beside this file."""
 from pathlib import Path
 
-REAL = next(top for top in Path(__file__).resolve().parents if (top / "tests/reference.py").exists()) / "tests/reference.py"
+REAL = next(top for top in Path(__file__).resolve().parents
+            if (top / "tests/reference.py").exists()) / "tests/reference.py"
 __file__ = str(REAL)
 exec(compile(REAL.read_text(), __file__, "exec"))

@@ -1,6 +1,6 @@
 #!/usr/bin/env python3
-"""Whether the pictures of tools/draw show what the texts of schedules say, the responses of filters that are known, and the
-words of rows.
+"""Whether the pictures of tools/draw show what the texts of schedules say, the responses of filters that are known, the
+words of rows, and the processors of nets.
 
 It knows nothing of the layout: columns and axes are found by the numbers beside them, bars and curves by their titles.
 """
@@ -11,7 +11,14 @@ import subprocess
 import sys
 import tempfile
 import xml.etree.ElementTree as Xml
+from collections.abc import Callable, Iterable, Iterator, Sequence
 from pathlib import Path
+from typing import Any, TypeAlias
+
+# A bar: its title, its first column and the one behind its last, and its place and size.
+Bar: TypeAlias = tuple[str, float, float, tuple[float, ...]]
+# What a curve has at a share of the sample rate.
+Known: TypeAlias = Callable[[float], float]
 
 HERE = Path(__file__).resolve().parent
 ROOT = HERE.parent.parent
@@ -20,8 +27,13 @@ NODE = re.compile(r"node (\d+) cycle (\d+) unit (\S+) op (\S+)((?: -?\d+(?:@\d+)
 TRANSFER = re.compile(r" to (\S+) bus (\S+) regs (\S+)")
 WITHOUT_OPERANDS = ("input", "const", "addr")
 # The texts, each with its datapath file and the latencies above 1 there.
-TEXTS = [("increment", None, {}), ("biquad", "biquad", {"mul": 2}), ("accumulator", None, {}), ("held_difference", None, {}),
-         ("held_three", None, {}), ("long", "long", {"mul": 8}), ("long", None, {})]
+TEXTS = [("increment", None, {}), ("biquad", "biquad", {"mul": 2}), ("accumulator", None, {}),
+         ("held_difference", None, {}),
+         ("held_three", None, {}), ("long", "long", {"mul": 8}), ("long", None, {}), ("increment_stages", None, {}),
+         ("stages", "long", {"mul": 8})]
+HEAD = re.compile(r"period (\d+)(?: stages (\d+))? unroll (\d+)")
+# How many samples are drawn unfolded.
+SAMPLES = 3
 
 
 # A source for the text `increment`, with the line and the element of each of its nodes.
@@ -31,34 +43,34 @@ ORIGINS = [(1, "x"), (4, "y"), (4, "y"), (4, "y")]
 
 
 class Faults(list):
-    def unless(self, holds, words):
+    def unless(self, holds: object, words: str) -> None:
         if not holds:
             self.append(words)
 
 
-def found(name, ending):
+def found(name: str, ending: str) -> Path:
     """A file of the docs, or else one beside this script."""
     file = ROOT / "docs" / "pictures" / f"{name}.{ending}"
     return file if file.exists() else HERE / f"{name}.{ending}"
 
 
-def drawn(*words, given=""):
+def drawn(*words: str | Path, given: str = "") -> Xml.Element:
     done = subprocess.run([ROOT / "tools" / "draw", *words], input=given, capture_output=True, text=True, check=True)
     return Xml.fromstring(done.stdout)
 
 
-def number(shape, *names):
+def number(shape: Xml.Element, *names: str) -> list[float]:
     return [float(shape.get(name)) for name in names]
 
 
-def centres(picture):
+def centres(picture: Xml.Element) -> list[tuple[int, float, float]]:
     """Of each cycle with a number, the middle of its column and how far down the number stands."""
     texts = [shape for shape in picture.iter(SVG + "text") if shape.get("font-size") == "10" and shape.text.isdigit()]
     tops = {shape.get("y") for shape in picture.iter(SVG + "text") if shape.text == "cycle"}
     return [(int(shape.text), *number(shape, "x", "y")) for shape in texts if shape.get("y") in tops]
 
 
-def bars(picture):
+def bars(picture: Xml.Element) -> Iterator[Bar]:
     """The shapes with a title: the title, and the cycles that each covers as numbers of columns."""
     columns = centres(picture)
     (one, x1, _), (two, x2, _) = columns[:2]
@@ -73,7 +85,7 @@ def bars(picture):
             yield title.text, first, first + width / step, (x, y, width, height)
 
 
-def covered(shown):
+def covered(shown: Iterable[Bar]) -> dict[str, list[int]]:
     """The cycles that the bars with one title cover, from the first to the one behind the last."""
     made = {}
     for title, first, end, _ in shown:
@@ -81,13 +93,13 @@ def covered(shown):
     return {title: sorted(cycles) for title, cycles in made.items()}
 
 
-def overlaps(shown):
+def overlaps(shown: Iterable[Bar]) -> list[tuple[tuple[float, ...], tuple[float, ...]]]:
     boxes = [box for *_, box in shown]
     return [(a, b) for k, a in enumerate(boxes) for b in boxes[:k]
             if a[0] < b[0] + b[2] and b[0] < a[0] + a[2] and a[1] < b[1] + b[3] and b[1] < a[1] + a[3]]
 
 
-def is_inside(picture):
+def is_inside(picture: Xml.Element) -> bool:
     """Whether all that is written stands in the picture, by the width that its letters have at most."""
     width, height = number(picture, "width", "height")
     for shape in picture.iter(SVG + "text"):
@@ -98,27 +110,59 @@ def is_inside(picture):
     return True
 
 
-def check_schedule(text, latency, picture, faults):
-    shown = list(bars(picture))
-    cycles = covered(shown)
-    wanted = {}
+def head_of(text: str) -> tuple[int, int | None, int]:
+    """The period, the stages, or nothing where the text names none, and the unroll factor."""
+    period, stages, unroll = HEAD.match(text).groups()
+    return int(period), int(stages) if stages else None, int(unroll)
+
+
+def cycles_in(first: int, last: int) -> str:
+    return f"cycle {first}" if last == first else f"cycles {first} to {last}"
+
+
+def drawn_once(text: str, latency: dict[str, int], shift: int,
+               note_of: Callable[[int], str]) -> Iterator[tuple[str, range]]:
+    """What is drawn of one sample that begins so many cycles later: the title of each bar, and the cycles that it
+    covers."""
     for line in text.splitlines()[1:]:
         node, cycle, unit, op, operands = NODE.match(line).groups()
-        last = int(cycle) + latency.get(unit, 1) - 1
-        when = f"cycle {cycle}" if last == int(cycle) else f"cycles {cycle} to {last}"
-        wanted[f"node {node}: {op}{operands}, on {unit} in {when}"] = list(range(int(cycle), last + 1))
+        first = int(cycle) + shift
+        last = first + latency.get(unit, 1) - 1
+        title = f"node {node}: {op}{operands}, on {unit} in {cycles_in(first, last)}{note_of(first)}"
+        yield title, range(first, last + 1)
         taken = {}
         for file, bus, registers in TRANSFER.findall(line):
             taken.setdefault(bus, []).append(f"{file} register {registers}")
         for bus, files in taken.items():
-            wanted[f"node {node} over {bus} in cycle {last} to {', '.join(files)}"] = [last]
+            yield f"node {node} over {bus} in cycle {last} to {', '.join(files)}{note_of(last)}", range(last, last + 1)
+
+
+def check_bars(wanted: dict[str, list[int]], picture: Xml.Element, faults: Faults) -> None:
+    """The bars have these titles and cover these cycles, and none is on another."""
+    shown = list(bars(picture))
+    cycles = covered(shown)
     faults.unless(set(cycles) == set(wanted), f"bars {set(cycles) ^ set(wanted)}")
     faults.unless(all(cycles.get(title) == wanted[title] for title in wanted), "a bar covers other cycles")
     faults.unless(not overlaps(shown), "bars on one another")
     faults.unless(is_inside(picture), "words outside the picture")
 
 
-def reads_of(node, file, nodes, period):
+def check_schedule(text: str, latency: dict[str, int], picture: Xml.Element, faults: Faults) -> None:
+    period, stages, _ = head_of(text)
+    note_of = (lambda cycle: f", stage {cycle // period}") if stages else (lambda cycle: "")
+    wanted = {title: sorted(cycle % period for cycle in cycles)
+              for title, cycles in drawn_once(text, latency, 0, note_of)}
+    check_bars(wanted, picture, faults)
+
+
+def check_unfolded(text: str, latency: dict[str, int], picture: Xml.Element, faults: Faults) -> None:
+    period, _, _ = head_of(text)
+    wanted = {title: list(cycles) for sample in range(SAMPLES)
+              for title, cycles in drawn_once(text, latency, sample * period, lambda _: f", sample {sample}")}
+    check_bars(wanted, picture, faults)
+
+
+def reads_of(node: str, file: str, nodes: Sequence[Any], period: int) -> Iterator[int]:
     """The cycles in which a word is read from a file, counted from the start of the sample in which it is written."""
     for (_, at, reader, op, operands), _ in nodes:
         words = operands.split()[1 if op in (*WITHOUT_OPERANDS, "output") else 0 :]
@@ -128,27 +172,30 @@ def reads_of(node, file, nodes, period):
                 yield int(at) + int(delay or 0) * period
 
 
-def lives(text, latency):
-    """Of each register, node and sample the cycles of its word's write and of its reads, from the start of sample 0."""
-    period, unroll = map(int, re.match(r"period (\d+) unroll (\d+)", text).groups())
+def lives(text: str, latency: dict[str, int]) -> Iterator[tuple[str, str, int, list[int], int]]:
+    """Of each register, node and sample the cycles of its word's write and of its reads, from the start of sample 0.
+    Over stages the word is of the period in which it is written."""
+    period, stages, unroll = head_of(text)
     nodes = [(NODE.match(line).groups(), TRANSFER.findall(line)) for line in text.splitlines()[1:]]
     for (node, cycle, unit, *_), transfers in nodes:
-        write = int(cycle) + latency.get(unit, 1) - 1
+        written = int(cycle) + latency.get(unit, 1) - 1
+        write = written % period
         for file, _, registers in transfers:
             reads, copies = list(reads_of(node, file, nodes, period)), registers.split(",")
             for sample in range(unroll):
                 shift = sample * period
-                yield (f"node {node} of sample {sample}", f"{file} register {copies[sample % len(copies)]}", write + shift,
-                       [read + shift for read in reads], period * unroll)
+                yield (f"node {node} of {'period' if stages else 'sample'} {sample}",
+                       f"{file} register {copies[sample % len(copies)]}", write + shift,
+                       [read + shift - written + write for read in reads], period * unroll)
 
 
-def marks(picture):
+def marks(picture: Xml.Element) -> Iterator[tuple[str, int, float]]:
     """Of each write and read that is marked, by its title, the cycle on the circle and how far down it stands."""
     columns = centres(picture)
     (one, x1, _), (two, x2, _) = columns[:2]
     step = (x2 - x1) / (two - one)
 
-    def cycle_at(x, y):
+    def cycle_at(x: float, y: float) -> float:
         above = max(top for _, _, top in columns if top < y)
         cycle, centre, _ = next(column for column in columns if column[2] == above)
         return cycle + (x - centre) / step
@@ -164,7 +211,7 @@ def marks(picture):
             yield title.text, round(cycle_at(x, y) - 0.5), y
 
 
-def check_marks(wanted, picture, faults):
+def check_marks(wanted: Iterable[tuple[str, int]], picture: Xml.Element, faults: Faults) -> None:
     """Each write and read is marked once, in its cycle, and in the row of its register."""
     rows = {}
     for title, _, _, (_, y, _, height) in bars(picture):
@@ -176,7 +223,7 @@ def check_marks(wanted, picture, faults):
         faults.unless(any(top < y < bottom for top, bottom in rows[register]), f"the mark {title} is in another row")
 
 
-def check_lifetimes(text, latency, picture, faults):
+def check_lifetimes(text: str, latency: dict[str, int], picture: Xml.Element, faults: Faults) -> None:
     shown = list(bars(picture))
     wanted, marked = {}, []
     for word, register, write, reads, circle in lives(text, latency):
@@ -190,35 +237,40 @@ def check_lifetimes(text, latency, picture, faults):
     faults.unless(is_inside(picture), "words outside the picture")
 
 
-def scale(marks):
+def scale(marks: Iterable[tuple[float, float]]) -> Callable[[float], float]:
     """The line through the places of an axis' numbers: a place to its number."""
     (one, at), (two, to) = min(marks), max(marks)
     return lambda place: one + (place - at) * (two - one) / (to - at)
 
 
-def points_of(curve):
+def points_of(curve: str) -> list[list[tuple[float, ...]]]:
     """The points of a curve, part by part."""
     return [[tuple(map(float, point.split())) for point in part.split(" L")] for part in curve[1:].split(" M") if part]
 
 
-def check_ends(levels, least, most, faults):
-    """The numbers at an axis are in equal steps, of 1, 2 or 5 times a power of ten, and no step of them is for nothing."""
+def check_ends(levels: Iterable[float], least: float, most: float, faults: Faults) -> None:
+    """The numbers at an axis are in equal steps, of 1, 2 or 5 times a power of ten, and no step of them is for
+    nothing."""
     levels = sorted(levels)
     step = levels[1] - levels[0]
-    faults.unless(all(abs(two - one - step) < step / 1000 for one, two in zip(levels, levels[1:])), f"uneven numbers {levels}")
+    faults.unless(all(abs(two - one - step) < step / 1000 for one, two in zip(levels, levels[1:])),
+                  f"uneven numbers {levels}")
     faults.unless(f"{step:.0e}"[0] in "125" and len(levels) <= 12, f"steps of {step}")
     near = step / 40
-    faults.unless(levels[0] - near <= least < levels[1] or len(levels) == 2, f"from {levels[0]}, and {least} is the least")
-    faults.unless(levels[-2] < most <= levels[-1] + near or len(levels) == 2, f"to {levels[-1]}, and {most} is the most")
+    faults.unless(levels[0] - near <= least < levels[1] or len(levels) == 2,
+                  f"from {levels[0]}, and {least} is the least")
+    faults.unless(levels[-2] < most <= levels[-1] + near or len(levels) == 2,
+                  f"to {levels[-1]}, and {most} is the most")
 
 
-def decibels(known, share):
+def decibels(known: Known, share: float) -> float:
     return 20 * math.log10(max(known(share), 1e-9))
 
 
-def check_response(picture, known, rate, asked, faults):
-    """Each point of each curve is on the one that is known, but for a tenth of a decibel, and the curve is there where that is
-    between the ends of the axis. These are as they are asked for, or as the curve has them."""
+def check_response(picture: Xml.Element, known: Known, rate: int, asked: tuple[float, float] | None,
+                   faults: Faults) -> None:
+    """Each point of each curve is on the one that is known, but for a tenth of a decibel, and the curve is there where
+    that is between the ends of the axis. These are as they are asked for, or as the curve has them."""
     texts = [shape for shape in picture.iter(SVG + "text") if shape.get("font-size") == "10"]
     frequencies = [(math.log(float(t.text)), *number(t, "x")) for t in texts if t.get("text-anchor") == "middle"]
     levels = [(float(t.text), float(t.get("y")) - 4) for t in texts if t.get("text-anchor") == "end"]
@@ -245,9 +297,9 @@ def check_response(picture, known, rate, asked, faults):
     faults.unless(is_inside(picture), "words outside the picture")
 
 
-def group_of(name, columns):
-    """The least and the greatest word of the columns that have one axis with that of a name: of those that have most bits, and
-    no more than three fewer, and so on."""
+def group_of(name: str, columns: dict[str, list[int]]) -> tuple[int, int]:
+    """The least and the greatest word of the columns that have one axis with that of a name: of those that have most
+    bits, and no more than three fewer, and so on."""
     bits = {one: max(max(words), -1 - min(words)).bit_length() for one, words in columns.items()}
     left = set(bits)
     while left:
@@ -258,8 +310,10 @@ def group_of(name, columns):
         left -= group
 
 
-def check_words(picture, columns, asked, faults):
-    """Each curve has the words of its column, by the numbers at the axes of its panel, but for a hundredth of the scale."""
+def check_words(picture: Xml.Element, columns: dict[str, list[int]], asked: tuple[float, float] | None,
+                faults: Faults) -> None:
+    """Each curve has the words of its column, by the numbers at the axes of its panel, but for a hundredth of the
+    scale."""
     texts = [shape for shape in picture.iter(SVG + "text") if shape.get("font-size") == "10"]
     samples = {}
     for text in texts:
@@ -278,7 +332,8 @@ def check_words(picture, columns, asked, faults):
         shown = [(across(x), down(y)) for part in points_of(curves[name]) for x, y in part]
         inside = {sample: word for sample, word in enumerate(words) if low <= word <= high}
         near = {round(sample): level for sample, level in shown if abs(sample - round(sample)) < 0.1}
-        faults.unless(all(abs(near.get(sample, math.inf) - word) <= (high - low) / 100 for sample, word in inside.items()),
+        faults.unless(all(abs(near.get(sample, math.inf) - word) <= (high - low) / 100
+                          for sample, word in inside.items()),
                       f"{name} has other words")
         faults.unless(all(low - (high - low) / 50 <= level <= high + (high - low) / 50 for _, level in shown),
                       f"{name} passes its axis")
@@ -288,7 +343,8 @@ def check_words(picture, columns, asked, faults):
 # Columns of words, each by the names that are given for them, and the ends of an axis that is asked for.
 COLUMNS = [({"one": [0, 100, -100, 7]}, None),
            ({"a ramp": list(range(-300, 300)), "its half": [n // 2 for n in range(-300, 300)]}, None),
-           ({"the ends": [32767, -32768], "small": [1, -1]}, None), ({"forty bits": [(1 << 39) - 1, -(1 << 39), 0] * 5}, None),
+           ({"the ends": [32767, -32768], "small": [1, -1]}, None),
+           ({"forty bits": [(1 << 39) - 1, -(1 << 39), 0] * 5}, None),
            # A truth value beside a word of 24 bits, and a signal that is small beside where it is.
            ({"is loud": [0, 1, 1, 0], "the signal": [-8388608, 8388607, 5, 6000000]}, None),
            ({"is loud": [0, 1, 1, 0], "level": [5000010, 5000020, 5000013, 5000011]}, None),
@@ -310,7 +366,7 @@ ASKED = [(-3, 1), ("0.02", "0.4")]
 RATES = (8000, 44100)
 
 
-def judged(name, check, *given):
+def judged(name: str, check: Callable[..., None], *given: Any) -> bool:
     """Whether a picture is as it should be; what is wrong is printed."""
     faults = Faults()
     check(*given, faults)
@@ -319,7 +375,7 @@ def judged(name, check, *given):
     return not faults
 
 
-def check_origins(picture, faults):
+def check_origins(picture: Xml.Element, faults: Faults) -> None:
     """The bars and the table have the element of each node, and its line."""
     titles = {number: title for title in (shape.text for shape in picture.iter(SVG + "title"))
               for number in re.findall(r"^node (\d+): .* on \S+ in cycle", title)}
@@ -329,11 +385,41 @@ def check_origins(picture, faults):
     for number, (line, element) in enumerate(ORIGINS):
         title = titles.get(str(number), "")
         faults.unless(title.endswith(f"; {element} in line {line}"), f"the bar of node {number} says {title}")
-        faults.unless(rows[number][:3] == [str(number), str(line), element], f"the table has {rows[number]} for node {number}")
+        faults.unless(rows[number][:3] == [str(number), str(line), element],
+                      f"the table has {rows[number]} for node {number}")
     faults.unless(len(rows) == len(ORIGINS), f"the table has {len(rows)} rows")
 
 
-def origins_right():
+# A net of two processors that both read its row, and the second the first, with what its picture has to show.
+NET_FILES = {
+    "a.sil": "func main(x : fix<8,0>, is_on : bool) (y : fix<8,0>, z : fix<9,1,round>) = begin y = x; z = 0.0; end;",
+    "b.sil": "func main(p[2] : fix<8,0>) q : bool = begin q = p[0] < p[1]; end;", "a.toml": "period = 7\n",
+    "b.toml": "period = 9\n",
+    "net.toml": ('inputs = 2\ncapacity = 3\n[[proc]]\nsrc = "a.sil"\ndp = "a.toml"\nfeed = ["in.1", "in.0"]\n'
+                 '[[proc]]\nsrc = "b.sil"\ndp = "b.toml"\nfeed = ["in.1", "0.0"]\n')}
+NET_TEXTS = {"in.0  bool", "in.1  fix<8,0>", "in.1  x : fix<8,0>", "in.0  is_on : bool", "0.0  y : fix<8,0>",
+             "0.1  z : fix<9,1,round>", "in.1  p[0] : fix<8,0>", "0.0  p[1] : fix<8,0>", "1.0  q : bool", "0  a.sil",
+             "1  b.sil", "7 cycles a sample", "9 cycles a sample", "in.1, in.0", "in.1", "y",
+             "net.toml: each queue has room for 3 rows"}
+
+
+def check_net(picture: Xml.Element, faults: Faults) -> None:
+    """The words of the net stand there, and its one queue has its places."""
+    texts = {text.text for text in picture.iter(SVG + "text")}
+    faults.unless(NET_TEXTS <= texts, f"the picture lacks {NET_TEXTS - texts}")
+    places = [title.text for title in picture.iter(SVG + "title")].count("a queue of 3 rows")
+    faults.unless(places == 3, f"{places} places of queues")
+    faults.unless(is_inside(picture), "words outside the picture")
+
+
+def net_right() -> bool:
+    with tempfile.TemporaryDirectory(prefix="silc-draw-") as folder:
+        for name, text in NET_FILES.items():
+            Path(folder, name).write_text(text)
+        return judged("net", check_net, drawn("net", "--folder", folder, Path(folder, "net.toml")))
+
+
+def origins_right() -> list[bool]:
     """Whether a picture with the origins of its nodes shows them, where the program that knows them is built."""
     if not os.access(SHOW, os.X_OK):
         print(f"the origins of nodes are left out: `tools/build silc_show` builds {SHOW}")
@@ -342,15 +428,17 @@ def origins_right():
         source = Path(folder, "source.sil")
         source.write_text(SOURCE)
         plain = ROOT / "examples" / "increment" / "plain.toml"
-        return [judged("schedule with origins", check_origins, drawn("schedule", found("increment", "schedule"), plain, source))]
+        return [judged("schedule with origins", check_origins,
+                       drawn("schedule", found("increment", "schedule"), plain, source))]
 
 
-def main():
-    right = origins_right()
+def main() -> int:
+    right = [*origins_right(), net_right()]
     for name, datapath, latency in TEXTS:
         file = found(name, "schedule")
         words = [file, *([found(datapath, "toml")] if datapath else [])]
-        for subject, check in (("schedule", check_schedule), ("lifetimes", check_lifetimes)):
+        for subject, check in (("schedule", check_schedule), ("unfolded", check_unfolded),
+                               ("lifetimes", check_lifetimes)):
             picture = drawn(subject, *words)
             right.append(judged(f"{subject} {name}", check, file.read_text(), latency if datapath else {}, picture))
     for name, (rows, unit, design, known) in RESPONSES.items():
@@ -364,7 +452,8 @@ def main():
         right.append(labels[0] == 0.02 and 0.2 in labels and max(labels) <= 1)
         for rate in RATES:
             picture = drawn("response", "--rate", str(rate), "-", unit, design, given=rows)
-            right.append(judged(f"response {name} at {rate} samples a second", check_response, picture, known, rate, None))
+            right.append(judged(f"response {name} at {rate} samples a second", check_response, picture, known, rate,
+                                None))
     for columns, asked in COLUMNS:
         rows = "".join(",".join(map(str, row)) + "\n" for row in zip(*columns.values()))
         options = [f"--range={asked[0]},{asked[1]}"] if asked else []

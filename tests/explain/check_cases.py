@@ -6,15 +6,16 @@ usage: tests/explain/check_cases.py [NAME ..]             the cases with these w
 
 A case is a folder with the files of a command, `case.toml` and `stderr.txt`, the whole text that is expected. In
 `case.toml` are `words`, the `code` with which the command ends, and `cure`: edits of files, each with `file`, `old` and
-`new`, a command to `run`, or other `words`. After the cure the command is done, or it ends with the line `then`. Where the
-tool tells the cure as edits, these are applied too, to the files as they were: the command is then done, or meets another
-fault. Further keys: `options` of the tool; `large`, files that are filled up with a text to a size; `links` and `folders`;
-`closed`, names that no one has a right to, and `kept`, folders in which no one may make files; `before`, commands of silc
-that run first; `without_show`, where it is tried as if `silc_show` were not built; `example`, at the case of a refusal that
-docs/ERRORS.md shows whole. ROOM in the text stands for the folder in which the command runs, and a name in the words with
-`\\x` in it for one with such bytes.
+`new`, a command to `run`, or other `words`. After the cure the command is done, or it ends with the line `then`. Where
+the tool tells the cure as edits, these are applied too, to the files as they were: the command is then done, or meets
+another fault. Further keys: `options` of the tool; `large`, files that are filled up with a text to a size; `links` and
+`folders`; `closed`, names that no one has a right to, and `kept`, folders in which no one may make files; `before`,
+commands of silc that run first; `without_show`, where it is tried as if `silc_show` were not built; `example`, at the
+case of a refusal that docs/ERRORS.md shows whole. ROOM in the text stands for the folder in which the command runs, and
+a name in the words with `\\x` in it for one with such bytes.
 
-Without a name it compares docs/ERRORS.md too. It runs the built `silc` and `silc_show`, or those that `SILC` and `SILC_SHOW` name.
+Without a name it compares docs/ERRORS.md too. It runs the built `silc` and `silc_show`, or those that `SILC` and
+`SILC_SHOW` name.
 """
 import json
 import os
@@ -24,8 +25,13 @@ import subprocess
 import sys
 import tempfile
 import tomllib
+from collections.abc import Iterator, Sequence
 from concurrent.futures import ThreadPoolExecutor
 from pathlib import Path
+from typing import Any, TypeAlias
+
+# A case as its file has it.
+Said: TypeAlias = dict[str, Any]
 
 HERE = Path(__file__).resolve().parent
 ROOT = HERE.parent.parent
@@ -35,8 +41,8 @@ SILC = Path(os.environ.get("SILC", ROOT / "crates" / "silc_main" / "out" / "silc
 SHOW = Path(os.environ.get("SILC_SHOW", ROOT / "crates" / "silc_show" / "out" / "silc_show")).resolve()
 EXPLAIN = ROOT / "tools" / "explain"
 SAID, EXPECTED = "case.toml", "stderr.txt"
-KEYS = {"words", "code", "cure", "then", "options", "large", "links", "folders", "closed", "kept", "before", "without_show",
-        "example"}
+KEYS = {"words", "code", "cure", "then", "options", "large", "links", "folders", "closed", "kept", "before",
+        "without_show", "example"}
 EDIT = re.compile(r'edit: (.*):(\d+):(\d+)-(\d+): (".*")')
 SECONDS = 600
 NOWHERE = Path("/nowhere/silc_show")
@@ -52,7 +58,7 @@ class Skipped(Exception):
     """Why a case is left out on this machine."""
 
 
-def prepare(case, said, room):
+def prepare(case: Path, said: Said, room: Path) -> None:
     """Makes the files of a case."""
     for file in case.iterdir():
         if file.name not in (SAID, EXPECTED):
@@ -73,18 +79,20 @@ def prepare(case, said, room):
         (room / name).chmod(0o555)
 
 
-def named(word):
+def named(word: str) -> bytes:
     """A word of a case as bytes."""
     return re.sub(rb"\\x([0-9a-f]{2})", lambda byte: bytes.fromhex(byte[1].decode()), word.encode())
 
 
-def ran(program, words, room, lead=(), show=SHOW):
+def ran(program: Path, words: Sequence[str], room: Path, lead: Sequence[str] = (),
+        show: Path = SHOW) -> subprocess.CompletedProcess[str]:
     return subprocess.run([*lead, program, *map(named, words)], cwd=room, stdin=subprocess.DEVNULL, capture_output=True,
                           text=True,
-                          timeout=SECONDS, env=os.environ | {"SILC": str(SILC), "SILC_SHOW": str(show), "LANG": "C.UTF-8"})
+                          timeout=SECONDS,
+                          env=os.environ | {"SILC": str(SILC), "SILC_SHOW": str(show), "LANG": "C.UTF-8"})
 
 
-def lead_of(said):
+def lead_of(said: Said) -> list[str]:
     """The command before the program by which root has no more rights than others."""
     if not (said.get("closed") or said.get("kept")) or os.geteuid() != 0:
         return []
@@ -93,7 +101,7 @@ def lead_of(said):
     return WITHOUT_RIGHTS
 
 
-def cured(said, room):
+def cured(said: Said, room: Path) -> list[str]:
     """Applies the cure. Gives the words of the command after it."""
     words = said["words"]
     for cure in said["cure"]:
@@ -119,7 +127,7 @@ def cured(said, room):
     return words
 
 
-def judged(case, writes):
+def judged(case: Path, writes: bool) -> list[str]:
     """What is wrong with a case."""
     said = tomllib.loads((case / SAID).read_text())
     unknown = said.keys() - KEYS
@@ -142,7 +150,7 @@ def judged(case, writes):
     return faults + (edits_compared(case, said, edits, told) if edits else [])
 
 
-def edits_compared(case, said, edits, told):
+def edits_compared(case: Path, said: Said, edits: Sequence[re.Match[str]], told: Sequence[str]) -> list[str]:
     """Where the edits that are told lead to the fault that was there before."""
     with tempfile.TemporaryDirectory(prefix="silc-explain-") as folder:
         room = Path(folder)
@@ -157,7 +165,7 @@ def edits_compared(case, said, edits, told):
     return []
 
 
-def edited(text, edits):
+def edited(text: str, edits: Sequence[re.Match[str]]) -> str:
     """A text with the edits of the tool's lines."""
     starts = [0, *(found.end() for found in re.finditer("\n", text))]
     for edit in sorted(edits, key=lambda edit: (int(edit[2]), int(edit[3])), reverse=True):
@@ -166,7 +174,7 @@ def edited(text, edits):
     return text
 
 
-def compared(case, said, done):
+def compared(case: Path, said: Said, done: subprocess.CompletedProcess[str]) -> list[str]:
     faults = [] if done.returncode == said["code"] else [f"exit code: expected {said['code']}, got {done.returncode}"]
     expected = (case / EXPECTED).read_text()
     # Where a line with the folder's name is folded depends on the name.
@@ -176,7 +184,7 @@ def compared(case, said, done):
     return faults
 
 
-def cure_compared(said, room, lead):
+def cure_compared(said: Said, room: Path, lead: Sequence[str]) -> list[str]:
     """How the command ends after the cure, where that is not what the case says."""
     words = cured(said, room)
     done = ran(SILC, words, room, lead)
@@ -186,7 +194,7 @@ def cure_compared(said, room, lead):
     return []
 
 
-def outcome(case, writes):
+def outcome(case: Path, writes: bool) -> tuple[Path, list[str], str | None]:
     try:
         return case, judged(case, writes), None
     except Skipped as why:
@@ -195,9 +203,10 @@ def outcome(case, writes):
         return case, [f"it can't be run: {fault}"], None
 
 
-def lost_rules():
+def lost_rules() -> Iterator[str]:
     """The rules that are told and name a section that no page has."""
-    said = {line.removeprefix("rule: ") for case in CASES.iterdir() for line in (case / EXPECTED).read_text().splitlines()
+    said = {line.removeprefix("rule: ") for case in CASES.iterdir()
+            for line in (case / EXPECTED).read_text().splitlines()
             if line.startswith("rule: ")}
     said |= set(re.findall(r"The rule: (.*)\.\n", PAGE.read_text()))
     for rule in sorted(said):
@@ -207,7 +216,7 @@ def lost_rules():
             yield f"no section of the repository is {rule}"
 
 
-def main(words):
+def main(words: list[str]) -> int:
     writes = words[:1] == ["--write"]
     names = words[1:] if writes else words
     cases = [case for case in sorted(CASES.iterdir()) if not names or any(name in case.name for name in names)]
@@ -223,11 +232,15 @@ def main(words):
                 print(f"{case.name}: left out: {why}")
             if faults:
                 print("\n".join([f"{case.name}:", *faults]), flush=True)
-    print(f"explain: {len(cases) - failed - skipped} of {len(cases)} cases as expected, {failed} failed, {skipped} left out")
+    print(
+        f"explain: {len(cases) - failed - skipped} of {len(cases)} cases as expected, {failed} failed, {skipped} left "
+        f"out")
     if not names and subprocess.run([EXPLAIN, "--page"], capture_output=True, text=True,
                                     check=True).stdout != PAGE.read_text():
         failed += 1
-        print("docs/ERRORS.md is not what `tools/explain --page` prints; write it anew: tools/explain --page > docs/ERRORS.md")
+        print(
+            "docs/ERRORS.md is not what `tools/explain --page` prints; write it anew: tools/explain --page > "
+            "docs/ERRORS.md")
     for fault in lost_rules() if not names else ():
         failed += 1
         print(fault)

@@ -1,13 +1,14 @@
 #!/usr/bin/env python3
 """Whether the cures that tools/explain tells as edits help, in broken files that a script makes of good ones.
 
-usage: tests/explain/check_mutants.py [COUNT [FIRST]]      with --list before them: all that is told, to be read and judged
+usage: tests/explain/check_mutants.py [COUNT [FIRST]]      with --list before them: all that is told, to be read and
+                                                           judged
 
-It changes sources, datapath files and sample files as mistakes do: a token is left out, written twice or changes places with
-the next one, a name is misspelt, a width or a mode is another one, a piece is written as in another language. Where that is
-refused and the cure is told as edits, these are applied. Then the file is taken, or its next fault is another one or at
-another place. COUNT is how many are made, from number FIRST on, or else 100. It runs the built `silc` and `silc_show`, or
-those that `SILC` and `SILC_SHOW` name.
+It changes sources, datapath files and sample files as mistakes do: a token is left out, written twice or changes places
+with the next one, a name is misspelt, a width or a mode is another one, a piece is written as in another language.
+Where that is refused and the cure is told as edits, these are applied. Then the file is taken, or its next fault is
+another one or at another place. COUNT is how many are made, from number FIRST on, or else 100. It runs the built `silc`
+and `silc_show`, or those that `SILC` and `SILC_SHOW` name.
 """
 import os
 import random
@@ -21,9 +22,11 @@ from pathlib import Path
 
 ROOT = Path(__file__).resolve().parent.parent.parent
 SILC = Path(os.environ.get("SILC", ROOT / "crates" / "silc_main" / "out" / "silc_main")).resolve()
-os.environ["SILC_SHOW"] = str(Path(os.environ.get("SILC_SHOW", ROOT / "crates" / "silc_show" / "out" / "silc_show")).resolve())
+os.environ["SILC_SHOW"] = str(Path(os.environ.get("SILC_SHOW",
+                                                  ROOT / "crates" / "silc_show" / "out" / "silc_show")).resolve())
 from check_plans import edited
 from silc.explaining import command
+from silc.explaining.report import Report
 
 SOURCE = """/* A choice, a delay and a table. */
 const gain : fix<16,15> = 0.25;
@@ -104,9 +107,10 @@ SAMPLES = "1,2,0\n-5,300,1\n32767,-32768,0\n"
 FILES = {"SRC": SOURCE, "DP": DATAPATH, "SAMPLES": SAMPLES}
 # What is written elsewhere, as a pattern and what stands in its place.
 ELSEWHERE = {
-    "SRC": [("->", "then"), (r"\|\|", "else"), ("==", "="), (" & ", " && "), (r" \| ", " || "), ("!", "not "), (";", ""),
-            (":", "="),
-            ("@", "@-"), (r"@(\d)", r"[n-\1]"), ("= ", ":= "), ("= ", "== "), ("fix<16,15>", "int"), ("fix<16,15>", "float"),
+    "SRC": [("->", "then"), (r"\|\|", "else"), ("==", "="), (" & ", " && "), (r" \| ", " || "), ("!", "not "),
+            (";", ""), (":", "="),
+            ("@", "@-"), (r"@(\d)", r"[n-\1]"), ("= ", ":= "), ("= ", "== "), ("fix<16,15>", "int"),
+            ("fix<16,15>", "float"),
             ("bool", "boolean"), (r"0\.25", ".25"), (r"0\.5", "5e-1"), ("1", "0x1"), ("1", "1."), ("0.25", "2.5"),
             ("/\\*", "//"),
             (r"\*/", ""), (">> 1", "/ 2"), (r"\* gain", "/ 4"), ("begin", "{"), ("end;", "}"), ("end;", "end"),
@@ -115,9 +119,10 @@ ELSEWHERE = {
             (" - ", " \u2212 "),
             (r"(\w+)@1", r"\g<1>1"), (r"x@", "x"), ("fi;", ";"), ("var", "int"), ("func", "def"), ("main", "Main"),
             ("begin", ""),
-            (r"\.\.", "to"), ("::", ":"), ("::", ""), ("@@", "@"), ("true", "1"), ("loud ->", "x ->"), ("y = ", "y += "),
-            (r"\(i", "for (i"),
-            ("fix<16,15>", "fix<16,17>"), ("fix<16,15>", "fix<48,15>"), ("fix<24,20>", "fix<8,7>"), ("fix<16,15>", "bool"),
+            (r"\.\.", "to"), ("::", ":"), ("::", ""), ("@@", "@"), ("true", "1"), ("loud ->", "x ->"),
+            ("y = ", "y += "), (r"\(i", "for (i"),
+            ("fix<16,15>", "fix<16,17>"), ("fix<16,15>", "fix<48,15>"), ("fix<24,20>", "fix<8,7>"),
+            ("fix<16,15>", "bool"),
             ("const gain", "const gain[1]"), (r"taps\[3\]", "taps[4]"), (r"\[0\]", "[3]"), (r"\[i\]", ""),
             ("gain;", "gain[0];"),
             ("state@1", "state"), ("half\\(state\\)", "half(state, x)"), ("half\\(state\\)", "abs(state)"),
@@ -126,8 +131,8 @@ ELSEWHERE = {
             ("1\\.5", "9000"),
             ("i \\+ 1", "i + 1000000000 * 9"), ("@1", "@2000"), (">> 1", ">> 40"), ("line\\[i\\] =", "line[0] ="),
             ("slow =", "state =")],
-    "DP": [("= ", ": "), ("= ", ""), ('"alu"', '"adder"'), ('"alu"', '"ALU"'), ('"', ""), ("\\[\\[", "["), ("\\]\\]", "]"),
-           ("\n", " "),
+    "DP": [("= ", ": "), ("= ", ""), ('"alu"', '"adder"'), ('"alu"', '"ALU"'), ('"', ""), ("\\[\\[", "["),
+           ("\\]\\]", "]"), ("\n", " "),
            ("files = \\[(\\d+), ", r"files = [\1] #"), ("files = \\[32, 32\\]", "files = 32"), ("(\\d+)", r'"\1"'),
            ("(\\d+)", r"\1.0"),
            ("40", "5000"), ("24", "64"), ("hold = 1", "hold = 4"), ("gap = 1", "gap = 3"), ("gap", "gab"),
@@ -136,12 +141,12 @@ ELSEWHERE = {
            ("rom", "add"),
            ("cells = 64\n", ""), ("ram = \"mem\"\n", ""), ("ram = \"mem\"", "ram = \"add\""), ("name = \"mul\"\n", ""),
            ("\n", "\r"),
-           ("files", "file"), ("\\[4\\]", "4"), ("\\[8, 8, 8\\]", "[8, 8]"), ("kind = \"rom\"", "kind = \"rom\"\nfiles = [4]"),
-           ("#", "//"),
+           ("files", "file"), ("\\[4\\]", "4"), ("\\[8, 8, 8\\]", "[8, 8]"),
+           ("kind = \"rom\"", "kind = \"rom\"\nfiles = [4]"), ("#", "//"),
            ("period = 40\n", ""), ("\\]\n\n\\[\\[unit", "] // files\n\n[[unit"), ('", "', '" "'), ("cells", "size"),
            ("word", "width")],
-    "SAMPLES": [(",", ";"), (",", " "), (", ?", ", "), ("\n", ",\n"), ("\n", "\n\n"), ("^", "x,level,on\n"), ("1", "0x1"),
-                ("300", "0.5"),
+    "SAMPLES": [(",", ";"), (",", " "), (", ?", ", "), ("\n", ",\n"), ("\n", "\n\n"), ("^", "x,level,on\n"),
+                ("1", "0x1"), ("300", "0.5"),
                 ("300", "1e2"), ("300", "70000"), ("300", "+300"), ("-", "\u2212"), ("^", "\ufeff"), ("\n", "\r"),
                 (",0", ",false"),
                 (",0", ",2"), ("5", "five"), (",1", ""), (",1", ",1,1"), ("300", '"300"'), ("300", ""), ("300", "3_00"),
@@ -150,7 +155,7 @@ ELSEWHERE = {
 TOKEN = re.compile(r"\w+|\.\.|[-=<>@|:&!]+|\S", re.A)
 
 
-def say(text):
+def say(text: object) -> None:
     print(f"explain: {text}", file=sys.stderr, flush=True)
 
 
@@ -162,14 +167,14 @@ class Mutant:
     what: str
     text: str
     said: str = ""
-    report: object = None
+    report: Report | None = None
     then: str = ""
     wrong: str = ""
 
-    def is_edited(self):
+    def is_edited(self) -> bool:
         return bool(self.report and self.report.edits)
 
-    def lines(self):
+    def lines(self) -> str:
         """What is told, and what comes then."""
         report = self.report
         told = [report.short, f"cure: {report.cure}",
@@ -178,15 +183,15 @@ class Mutant:
         return "\n  ".join([f"{self.number} {self.kind}, {self.what}: {self.said}", *told])
 
 
-def misspelt(rng, word):
+def misspelt(rng: random.Random, word: str) -> str:
     """A name with a letter left out, written twice, in another case, or in the next one's place."""
     place = rng.randrange(len(word))
     swapped = word[:place] + word[place + 1:place + 2] + word[place] + word[place + 2:]
-    return rng.choice([word[:place] + word[place + 1:] or word * 2, word[:place] + word[place] + word[place:], word.upper(),
-                       swapped])
+    return rng.choice([word[:place] + word[place + 1:] or word * 2, word[:place] + word[place] + word[place:],
+                       word.upper(), swapped])
 
 
-def mutant(number):
+def mutant(number: int) -> Mutant:
     """The broken file of a number."""
     rng = random.Random(number)
     kind = ("SRC", "SRC", "SRC", "DP", "SAMPLES")[number % 5]
@@ -196,7 +201,8 @@ def mutant(number):
         places = list(re.finditer(pattern, text))
         if places:
             found = rng.choice(places)
-            return Mutant(number, kind, f"{found[0]!r} as {found.expand(other)!r}", text[:found.start()] + found.expand(other)
+            return Mutant(number, kind, f"{found[0]!r} as {found.expand(other)!r}",
+                          text[:found.start()] + found.expand(other)
                           + text[found.end():])
     tokens = list(TOKEN.finditer(text))
     at = rng.randrange(len(tokens) - 1)
@@ -213,13 +219,13 @@ def mutant(number):
     return Mutant(number, kind, f"{token[0]!r} {how}", text[:token.start()] + made + text[end:])
 
 
-def words_of(kind, folder):
+def words_of(kind: str, folder: Path) -> list[str]:
     """The words of the command that reads the files in a folder."""
     names = ("SRC", "DP") if kind == "DP" else ("SRC", "SAMPLES", "OUT")
     return ["schedule" if kind == "DP" else "eval", *(str(folder / name) for name in names)]
 
 
-def run(kind, folder):
+def run(kind: str, folder: Path) -> tuple[str, Report | None]:
     """What silc says of the files in a folder, and what is told of its refusal."""
     words = words_of(kind, folder)
     done = subprocess.run([SILC, *words], stdin=subprocess.DEVNULL, capture_output=True, text=True)
@@ -228,7 +234,7 @@ def run(kind, folder):
     return done.stderr.strip(), command.report_of(command.Case(words, done.returncode, done.stderr, SILC))
 
 
-def tail(folder, kind, report):
+def tail(folder: Path, kind: str, report: Report) -> tuple[str, int] | None:
     """What stands from the place of a report on, and how much more there is: by this a place is known after an edit."""
     span = report.span
     if span is None or Path(span.file).name != kind:
@@ -237,7 +243,7 @@ def tail(folder, kind, report):
     return span.shown[span.column - 1:], len(lines) - span.line
 
 
-def tried(made, folder):
+def tried(made: Mutant, folder: Path) -> Mutant:
     """What is told of a broken file, and whether the cure helps."""
     for name, text in FILES.items():
         (folder / name).write_text(text if name != made.kind else made.text, newline="")
@@ -258,7 +264,7 @@ def tried(made, folder):
     return made
 
 
-def outcome(number):
+def outcome(number: int) -> Mutant:
     made = mutant(number)
     with tempfile.TemporaryDirectory(prefix="silc-mutant-") as folder:
         try:
@@ -268,7 +274,7 @@ def outcome(number):
             return made
 
 
-def main(words):
+def main(words: list[str]) -> int:
     is_listed = words[:1] == ["--list"]
     numbers = [int(word) for word in words[is_listed:]]
     count, first = [*numbers, *(100, 0)[len(numbers):]]

@@ -3,10 +3,11 @@
 
 usage: tests/explain/check_plans.py [COUNT [FIRST]]
 
-It makes COUNT datapaths, from number FIRST on, over most of which one of the sources below has no plan: an ample one with
-fewer cycles, registers, cells, buses or units. The words of each cure are applied to the datapath, `; or ..` as a cure of its
-own, and the edits to the text of its file. Then there has to be a plan, or the answer is the fault that the text has named.
-Without `COUNT` it tries 32 of them. It runs the built `silc` and `silc_show`, or those that `SILC` and `SILC_SHOW` name.
+It makes COUNT datapaths, from number FIRST on, over most of which one of the sources below has no plan: an ample one
+with fewer cycles, registers, cells, buses or units. The words of each cure are applied to the datapath, `; or ..` as a
+cure of its own, and the edits to the text of its file. Then there has to be a plan, or the answer is the fault that the
+text has named. Without `COUNT` it tries 32 of them. It runs the built `silc` and `silc_show`, or those that `SILC` and
+`SILC_SHOW` name.
 """
 import copy
 import os
@@ -16,14 +17,21 @@ import subprocess
 import sys
 import tempfile
 import tomllib
+from collections.abc import Sequence
 from concurrent.futures import ThreadPoolExecutor
 from pathlib import Path
+from typing import Any, TypeAlias
 
 ROOT = Path(__file__).resolve().parent.parent.parent
 SILC = Path(os.environ.get("SILC", ROOT / "crates" / "silc_main" / "out" / "silc_main")).resolve()
-os.environ["SILC_SHOW"] = str(Path(os.environ.get("SILC_SHOW", ROOT / "crates" / "silc_show" / "out" / "silc_show")).resolve())
+os.environ["SILC_SHOW"] = str(Path(os.environ.get("SILC_SHOW",
+                                                  ROOT / "crates" / "silc_show" / "out" / "silc_show")).resolve())
 from silc.explaining import command
+from silc.explaining.text import Edit
 from silc.exploring.template import text_of
+
+# A datapath file as Python reads it.
+Tree: TypeAlias = dict[str, Any]
 
 SOURCES = {
     "sum": ("x : fix<16,15>", "y = 0.25 * x + 0.5 * x@1 + 0.25 * x@2;"),
@@ -78,14 +86,14 @@ FEWER = ("period", "files", "files", "cells", "unit", "route", "bus", "word", "t
 PLANNED, UNIT = 0, re.compile(r"`([^`]*)`")
 
 
-def say(text):
+def say(text: object) -> None:
     print(f"explain: {text}", file=sys.stderr, flush=True)
 
 
 # Datapaths
 
 
-def ample(rng):
+def ample(rng: random.Random) -> Tree:
     """A datapath over which each source has a plan, with one to three buses that lead everywhere."""
     tree = tomllib.loads(AMPLE.format(hold=rng.choice((0, 0, 1, 3))))
     tree["bus"] = [{"name": f"b{number}", "from": list(DRIVERS), "to": list(ENDS)}
@@ -93,7 +101,7 @@ def ample(rng):
     return tree
 
 
-def lessen(tree, what, rng):
+def lessen(tree: Tree, what: str, rng: random.Random) -> None:
     """Takes something away from a datapath."""
     units = tree["unit"]
     if what == "period":
@@ -119,7 +127,7 @@ def lessen(tree, what, rng):
             lessen(tree, one, rng)
 
 
-def leave_out(tree, name):
+def leave_out(tree: Tree, name: str) -> None:
     """Takes a unit away, what addresses it, and their ends of buses."""
     gone = {unit["name"] for unit in tree["unit"] if name in (unit["name"], unit.get("ram"))}
     tree["unit"] = [unit for unit in tree["unit"] if unit["name"] not in gone]
@@ -129,7 +137,7 @@ def leave_out(tree, name):
     tree["bus"] = [bus for bus in tree["bus"] if bus["from"] and bus["to"]]
 
 
-def made(number):
+def made(number: int) -> tuple[str, Tree]:
     """The source and the datapath of a number."""
     rng = random.Random(number)
     name = rng.choice(list(SOURCES))
@@ -143,7 +151,7 @@ def made(number):
 # Cures
 
 
-def applied(cure, tree):
+def applied(cure: str, tree: Tree) -> Tree:
     """A datapath with the changes that the words of a cure tell."""
     tree, table, ends, key, last = copy.deepcopy(tree), None, [], None, 0
     for found in UNIT.finditer(cure):
@@ -173,7 +181,7 @@ def applied(cure, tree):
     return tree
 
 
-def edited(text, edits):
+def edited(text: str, edits: Sequence[Edit]) -> str:
     """A text with edits by their lines and columns."""
     starts = [0, *(found.end() for found in re.finditer("\n", text))]
     for edit in sorted(edits, key=lambda edit: (edit.line, edit.column), reverse=True):
@@ -182,14 +190,14 @@ def edited(text, edits):
     return text
 
 
-def planned(source, file, text):
+def planned(source: Path, file: Path, text: str) -> tuple[str, subprocess.CompletedProcess[str]]:
     """What silc says of a datapath: nothing where there is a plan."""
     file.write_text(text)
     done = subprocess.run([SILC, "schedule", source, file], stdin=subprocess.DEVNULL, capture_output=True, text=True)
     return done.stderr.strip().removeprefix("silc: ") if done.returncode else "", done
 
 
-def is_longer(source, file, tree, cure):
+def is_longer(source: Path, file: Path, tree: Tree, cure: str) -> bool:
     """Whether a period that is told as the least one is not."""
     found = re.match(r"write `period = (\d+)`, the least that fits", cure)
     if not found:
@@ -198,7 +206,7 @@ def is_longer(source, file, tree, cure):
     return not planned(source, file, text_of(shorter))[0].startswith("period exceeded")
 
 
-def judged(number, folder):
+def judged(number: int, folder: str) -> tuple[str, list[str], bool] | None:
     """The datapath of a number: nothing where there is a plan, or else the refusal and what is wrong with its cures."""
     name, tree = made(number)
     parameters, equation = SOURCES[name]
@@ -229,7 +237,7 @@ def judged(number, folder):
     return re.sub(r"\d+|\S+\.\d", "N", said), faults, bool(report.edits)
 
 
-def main(words):
+def main(words: list[str]) -> int:
     count, first = (int(word) for word in [*words, "32", "0"][:2]) if len(words) < 2 else map(int, words)
     if not os.access(SILC, os.X_OK) or not os.access(os.environ["SILC_SHOW"], os.X_OK):
         say("there is no silc or no silc_show; `tools/build silc_main silc_show` builds them")
@@ -238,7 +246,8 @@ def main(words):
     command.say = lambda text: None
     sys.setrecursionlimit(command.DEPTH)
     with tempfile.TemporaryDirectory(prefix="silc-plans-") as folder, ThreadPoolExecutor(2) as pool:
-        outcomes = [made for made in pool.map(lambda number: judged(number, folder), range(first, first + count)) if made]
+        outcomes = [made for made in pool.map(lambda number: judged(number, folder), range(first, first + count))
+                    if made]
     kinds = {}
     for kind, faults, has_edits in outcomes:
         kinds[kind] = kinds.get(kind, 0) + 1

@@ -1,6 +1,6 @@
 #!/usr/bin/env python3
-"""Whether `./silc` keeps an input from being written over, makes an OUT that is a file whole or not at all, says which file or
-place a refusal is of, and says on a terminal alone who tells more of it.
+"""Whether `./silc` keeps an input from being written over, makes an OUT that is a file whole or not at all, says which
+file or place a refusal is of, and says on a terminal alone who tells more of it.
 
 usage: tests/explain/check_script.py
 
@@ -15,19 +15,23 @@ import subprocess
 import sys
 import tempfile
 import time
+from collections.abc import Iterator, Sequence
 from pathlib import Path
+from typing import IO, Any
 
 ROOT = Path(__file__).resolve().parent.parent.parent
 SILC = Path(os.environ.get("SILC", ROOT / "crates" / "silc_main" / "out" / "silc_main")).resolve()
 SOURCE = "func main(x : fix<8,0>) y : fix<8,0> = begin y = x + 1; end;\n"
-WORDS = {"compile": ("SRC", "DP"), "eval": ("SRC", "SAMPLES"), "run": ("SRC", "DP", "SAMPLES"), "sim": ("MIC", "SAMPLES")}
+WORDS = {"compile": ("SRC", "DP"), "eval": ("SRC", "SAMPLES"), "run": ("SRC", "DP", "SAMPLES"),
+         "sim": ("MIC", "SAMPLES")}
 MORE = "tells more"
 USAGE = "silc compiles equations"
 SECONDS = 20
 
 
-def prepare(room):
-    """A folder with the script and a program that is newer than its sources, as after a build, and one with the inputs."""
+def prepare(room: Path) -> tuple[Path, Path]:
+    """A folder with the script and a program that is newer than its sources, as after a build, and one with the
+    inputs."""
     crate = room / "top" / "crates" / "silc_main"
     for folder in ("src", "specs", "proofs", "out"):
         (crate / folder).mkdir(parents=True)
@@ -47,12 +51,12 @@ def prepare(room):
     return room / "top" / "silc", inputs
 
 
-def run(script, inputs, words, **more):
+def run(script: Path, inputs: Path, words: Sequence[str], **more: Any) -> subprocess.CompletedProcess[str]:
     given = {} if {"input", "preexec_fn"} & {*more} else {"stdin": subprocess.DEVNULL}
     return subprocess.run([script, *words], cwd=inputs, capture_output=True, text=True, **given, **more)
 
 
-def on_terminal(script, inputs, words):
+def on_terminal(script: Path, inputs: Path, words: Sequence[str]) -> tuple[int, str]:
     """What the script writes to a terminal."""
     master, slave = pty.openpty()
     done = subprocess.run([script, *words], cwd=inputs, stdin=subprocess.DEVNULL, stdout=slave, stderr=slave)
@@ -70,7 +74,7 @@ def on_terminal(script, inputs, words):
     return done.returncode, said.decode()
 
 
-def guard_faults(script, inputs):
+def guard_faults(script: Path, inputs: Path) -> Iterator[str]:
     """The commands that write over an input, or that are refused though they do not."""
     for command, names in WORDS.items():
         for name in names:
@@ -93,7 +97,7 @@ def guard_faults(script, inputs):
             yield f"{command} with {names[0]} twice: {done.returncode} {done.stderr}"
 
 
-def terminal_faults(script, inputs):
+def terminal_faults(script: Path, inputs: Path) -> Iterator[str]:
     """The second line is there on a terminal alone, and after a refusal alone."""
     refused = ["compile", "SAMPLES", "DP", "OUT"]
     status, said = on_terminal(script, inputs, refused)
@@ -107,11 +111,12 @@ def terminal_faults(script, inputs):
         yield f"a command that is done, on a terminal: {status} {said!r}"
 
 
-def whole_faults(script, inputs):
-    """An OUT that is a file is replaced where the command is done, or has the rows before a fault, and else is as it was."""
+def whole_faults(script: Path, inputs: Path) -> Iterator[str]:
+    """An OUT that is a file is replaced where the command is done, or has the rows before a fault, and else is as it
+    was."""
     out = inputs / "OUT"
 
-    def expect(what, words, status, content, **more):
+    def expect(what: str, words: Sequence[str], status: int, content: str, **more: Any) -> Iterator[str]:
         out.write_text("before\n")
         out.chmod(0o640)
         done = run(script, inputs, words, **more)
@@ -137,13 +142,13 @@ def whole_faults(script, inputs):
     out.unlink()
 
 
-def no_room():
+def no_room() -> None:
     """No file takes a byte, and a write past its end is a fault and no signal."""
     signal.signal(signal.SIGXFSZ, signal.SIG_IGN)
     resource.setrlimit(resource.RLIMIT_FSIZE, (0, 0))
 
 
-def stream_faults(script, inputs):
+def stream_faults(script: Path, inputs: Path) -> Iterator[str]:
     """Standard streams go through, and a descriptor's file is not opened anew."""
     done = run(script, inputs, ["eval", "SRC", "/dev/stdin", "/dev/stdout"], input="5\n")
     if (done.returncode, done.stdout) != (0, "6\n"):
@@ -159,7 +164,7 @@ def stream_faults(script, inputs):
         log.unlink()
 
 
-def descriptor_faults(script, inputs):
+def descriptor_faults(script: Path, inputs: Path) -> Iterator[str]:
     """A standard input that is closed is an empty one, and a descriptor of the user's goes through."""
     done = run(script, inputs, ["eval", "SRC", "SAMPLES", "/dev/stdout"], preexec_fn=lambda: os.close(0))
     if (done.returncode, done.stdout, done.stderr) != (0, "2\n3\n", ""):
@@ -171,12 +176,12 @@ def descriptor_faults(script, inputs):
         yield f"samples by a descriptor: {done.returncode} {done.stdout!r} {done.stderr!r}"
 
 
-def as_third(file):
+def as_third(file: IO[str]) -> None:
     os.dup2(file.fileno(), 3)
     os.set_inheritable(3, True)
 
 
-def name_faults(script, inputs):
+def name_faults(script: Path, inputs: Path) -> Iterator[str]:
     """A blank line at the end of OUT's name is of the name; and no word is told as strange where nothing can tell."""
     (inputs / "kept").write_text("before\n")
     done = run(script, inputs, ["eval", "SRC", "SAMPLES", "kept\n"])
@@ -192,7 +197,7 @@ def name_faults(script, inputs):
         yield f"without iconv: {done.returncode} {done.stderr!r}"
 
 
-def right_faults(script, inputs):
+def right_faults(script: Path, inputs: Path) -> Iterator[str]:
     """What is said and done without the rights of root, in a folder of one's own and in one such as /tmp."""
     lead = ["setpriv", "--reuid=65534", "--regid=65534", "--clear-groups"]
     if os.geteuid() != 0 or not shutil.which(lead[0]):
@@ -218,7 +223,7 @@ def right_faults(script, inputs):
         shutil.rmtree(folder)
 
 
-def stop_faults(script, inputs):
+def stop_faults(script: Path, inputs: Path) -> Iterator[str]:
     """A run that is stopped leaves OUT as it was, and its rows under a name that it tells."""
     out, pipe = inputs / "OUT", inputs / "pipe"
     out.write_text("before\n")
@@ -241,7 +246,7 @@ def stop_faults(script, inputs):
         path.unlink(missing_ok=True)
 
 
-def telling_faults(script, inputs):
+def telling_faults(script: Path, inputs: Path) -> Iterator[str]:
     """What a second line says of a refusal."""
     (inputs / "TWICE").write_bytes((ROOT / "tests" / "machine" / "file-twice.mic").read_bytes())
     for words, status, wanted in (
@@ -272,7 +277,7 @@ def telling_faults(script, inputs):
             yield f"the words {words}: {done.returncode} {done.stdout!r} {done.stderr!r}"
 
 
-def main():
+def main() -> int:
     if not os.access(SILC, os.X_OK):
         print(f"silc: there is no program {SILC}; `tools/build silc_main` builds it")
         return 1

@@ -1,12 +1,12 @@
 #!/usr/bin/env python3
-"""Whether the tables and pictures of tools/explore are right: each row against `silc schedule` on a datapath file that is
-written here by hand, the front against its definition, a table that was cut off against one that was not, and some rows of
-the biquads' table against what is made of them now.
+"""Whether the tables and pictures of tools/explore are right: each row against `silc schedule` on a datapath file that
+is written here by hand, the front against its definition, a table that was cut off against one that was not, and some
+rows of the biquads' table against what is made of them now.
 
 usage: tests/explore/check_tables.py [--silc PROGRAM]
 
-It runs the built `silc`, or PROGRAM; what `SILC` names in the environment is not asked. Where GNU parallel is installed, it
-is tried too.
+It runs the built `silc`, or PROGRAM; what `SILC` names in the environment is not asked. Where GNU parallel is
+installed, it is tried too.
 """
 import collections
 import csv
@@ -19,17 +19,22 @@ import sys
 import tempfile
 import tomllib
 import xml.etree.ElementTree as Xml
+from collections.abc import Iterator, Sequence
 from pathlib import Path
+from typing import Any, TypeAlias
 
 from silc.exploring.template import Template, text_of
+
+# A row of a table, by the names of its columns.
+Row: TypeAlias = dict[str, str]
 
 HERE = Path(__file__).resolve().parent
 ROOT = HERE.parent.parent
 BUILT = ROOT / "crates" / "silc_main" / "out" / "silc_main"
 TEMPLATE = HERE / "small.ranges"
 SOURCE = "func main(x : fix<8,0>) y : fix<8,0> = begin y = (x + 1) + (x + 2); end;\n"
-HEAD = ("period,adders,add.latency,size,b.times,units,buses,registers,register_bits,cell_bits,taken,cells,cycles,answer,front,"
-        "made_from").split(",")
+HEAD = ("period,adders,add.latency,size,b.times,units,buses,registers,register_bits,cell_bits,taken,cells,cycles,"
+        "answer,front,made_from").split(",")
 RANGES = {"period": (6, 10, 14), "adders": (1, 2), "add.latency": (1, 2), "size": (2, 4), "b.times": (1, 2)}
 COSTS = ("period", "units", "buses", "register_bits", "cell_bits")
 # What the title of a point on the front says, in order.
@@ -39,6 +44,8 @@ SVG = "{http://www.w3.org/2000/svg}"
 MOST_TRIALS = 40
 # The table that docs/pictures shows, and of how many of its rows one is made anew.
 BIQUADS, SHOWN, EACH = ROOT / "examples" / "biquads", ROOT / "docs" / "pictures" / "biquads_processors.csv", 11
+# The example that is planned over several stages.
+REVERB = ROOT / "examples" / "reverb"
 # Three memories with an acu each, no multiplier, two buses of one kind, none for the multiplier.
 NUMBERED = ("", "_2", "_3")
 COPIES = """
@@ -56,8 +63,25 @@ bus = [
 ]
 """
 # A source in three word lengths, and a datapath for it, whose files are to fit.
-LENGTHS = """func main(x : fix<16,15>) y : fix<{W: 8, 12, 16},{F: 7, 11, 15},round> = begin
+LENGTHS_HEAD = "let W = 8 in 8, 12, 16;\nlet F = 7 in 7, 11 .. 15 step 4;\n"
+LENGTHS = """func main(x : fix<16,15>) y : fix<{W},{F},round> = begin
   y = fix<{W},{F},round>(0.3 * x) + fix<{W},{F},round>(0.2 * x@1);
+end;
+"""
+# A source that is linked, its combinations, and what it is with the numbers W, F = W - 1, K = N - 1 and S = W + K.
+LINKED = """let W = 8 in 8 .. 12 step 4;
+let N = 3 in 3, W // 4, 18;
+use onepole<W=W, K=N - 1> as slow;
+func main(x : fix<{W},{W - 1}>) y : fix<{W},{W - 1}> = begin y = slow(x); end;
+"""
+LINKED_CHOICES = [(w, n, period) for w, numbers in (("8", ("2", "3", "18")), ("12", ("3", "18"))) for n in numbers
+                  for period in ("14", "16")]
+ONEPOLE = """func main(x : fix<W,F>) y : fix<W,F> = begin y = slow(x); end;
+func slow(x : fix<W,F>) y : fix<W,F> =
+begin
+  var s : fix<S,F,round>;
+  s = s@1 - fix<S,F>(y@1) + fix<S,F>(x);
+  y = fix<W,F>(s >> K);
 end;
 """
 LENGTHS_DATAPATH = """
@@ -79,7 +103,7 @@ YOSYS = '#!/bin/sh\necho "$*" >"{log}"\nprintf "Number of cells: 1\\n  SB_MAC16 
 COUNTING = '#!/bin/sh\necho >>"{count}"\nexec "{silc}" "$@"\n'
 
 
-def datapath(period, adders, latency, size, buses):
+def datapath(period: int, adders: int, latency: int, size: int, buses: int) -> str:
     names = ["add", "add_2"][:adders]
     adder = f"kind = 'alu'\nlatency = {latency}\nfiles = [{size}, {size}]\n"
     ends = [f"{name}.{port}" for name in names for port in (0, 1)]
@@ -90,7 +114,7 @@ def datapath(period, adders, latency, size, buses):
                     *(f"[[bus]]\nname = '{name}'\n{bus}" for name in ["b", "b_2"][:buses])])
 
 
-def measured(text, latency):
+def measured(text: str, latency: int) -> tuple[int, int]:
     """The registers and the cycles of a schedule's text, by the last number in each file and the last result."""
     last = {}
     for file, registers in re.findall(r" to (\S+) bus \S+ regs (\S+)", text):
@@ -100,9 +124,9 @@ def measured(text, latency):
     return sum(register + 1 for register in last.values()), max(ends)
 
 
-def bits_of(text, sizes):
-    """The bits of the registers of a schedule's text: in each file those of the words that come into it, and of the 0 that is
-    there first. A sum and an input have 8 bits, a constant as many as it needs."""
+def bits_of(text: str, sizes: dict[str, int]) -> int:
+    """The bits of the registers of a schedule's text: in each file those of the words that come into it, and of the 0
+    that is there first. A sum and an input have 8 bits, a constant as many as it needs."""
     held = {}
     for op, number, transfers in re.findall(r" op (\S+) (\d+).*?((?: to \S+ bus \S+ regs \S+)+)$", text, re.M):
         ends = (int(number), int(number)) if op == "const" else (-128, 127)
@@ -112,7 +136,7 @@ def bits_of(text, sizes):
     return sum(sizes[file] * (8 if low < 0 else max(1, high.bit_length())) for file, (low, high) in held.items())
 
 
-def expected(room, silc):
+def expected(room: Path, silc: Path) -> list[Row]:
     """Each combination with what it has and takes, or with the refusal, and whether it is on the front."""
     (room / "source").write_text(SOURCE)
     rows = {}
@@ -135,13 +159,14 @@ def expected(room, silc):
     return [{name: str(row.get(name, "")) for name in HEAD[:-1]} for row in rows.values()]
 
 
-def tried(room, silc, *options, source="source", template=TEMPLATE, out="made"):
+def tried(room: Path, silc: Path, *options: str, source: str | Path = "source", template: str | Path = TEMPLATE,
+          out: str = "made") -> subprocess.CompletedProcess[str]:
     """How a run ends."""
     return subprocess.run([ROOT / "tools" / "explore", *options, "--out", out, source, template], cwd=room,
                           env=os.environ | {"SILC": str(silc)}, capture_output=True, text=True)
 
 
-def explored(room, silc, *options, **others):
+def explored(room: Path, silc: Path, *options: str, **others: Any) -> tuple[str, subprocess.CompletedProcess[str]]:
     """What a run leaves, and what it says."""
     done = tried(room, silc, *options, **others)
     if done.returncode:
@@ -149,7 +174,7 @@ def explored(room, silc, *options, **others):
     return (room / "made.csv").read_text(), done
 
 
-def faults_of(text, rows):
+def faults_of(text: str, rows: Sequence[Row]) -> Iterator[str]:
     """How a table differs from the rows that are expected."""
     lines = list(csv.reader(text.splitlines()))
     if lines[0] != HEAD:
@@ -159,8 +184,9 @@ def faults_of(text, rows):
             yield f"the row {line} in the place of {row}"
 
 
-def picture_faults(room, rows):
-    """The picture has a large point for each place on the front, further right and lower for more cycles and fewer bits."""
+def picture_faults(room: Path, rows: Sequence[Row]) -> Iterator[str]:
+    """The picture has a large point for each place on the front, further right and lower for more cycles and fewer
+    bits."""
     picture = Xml.parse(room / "made.svg").getroot()
     titles = {shape.find(SVG + "title").text: (float(shape.get("cx")), float(shape.get("cy")))
               for shape in picture.iter(SVG + "circle") if shape.find(SVG + "title") is not None}
@@ -174,7 +200,7 @@ def picture_faults(room, rows):
             yield f"the points of {one} and {other} are in another order"
 
 
-def resumed_faults(room, silc, whole):
+def resumed_faults(room: Path, silc: Path, whole: str) -> Iterator[str]:
     """A table whose end was cut off, in the middle of a row, becomes whole again by the calls that are lacking."""
     lacking = 5
     kept = whole.splitlines(True)[:-lacking]
@@ -192,9 +218,10 @@ def resumed_faults(room, silc, whole):
         yield f"{calls} calls for {lacking} rows that are lacking"
 
 
-def copies_faults():
+def copies_faults() -> Iterator[str]:
     """Units and buses that are there several times, or not at all, have the names and the ends that they should."""
-    units = [{"name": "rom", "kind": "rom"}, *({"name": f"mem{k}", "kind": "ram", "cells": 4, "files": [1, 1]} for k in NUMBERED),
+    units = [{"name": "rom", "kind": "rom"},
+             *({"name": f"mem{k}", "kind": "ram", "cells": 4, "files": [1, 1]} for k in NUMBERED),
              *({"name": f"adr{k}", "kind": "acu", "ram": f"mem{k}"} for k in NUMBERED)]
     buses = [*({"name": f"b{k}", "from": ["rom"], "to": ["mem.1", "mem_2.1", "mem_3.1"]} for k in ("", "_2")),
              {"name": "c", "from": ["adr", "adr_2", "adr_3"], "to": ["mem.0", "mem_2.0", "mem_3.0"]}]
@@ -205,7 +232,7 @@ def copies_faults():
         yield f"copies are {made}"
 
 
-def shown_faults(room, silc):
+def shown_faults(room: Path, silc: Path) -> Iterator[str]:
     """The table of the biquads, with some rows made anew, is as it was."""
     whole = SHOWN.read_text()
     kept = [line for number, line in enumerate(whole.splitlines(True)) if number % EACH or not number]
@@ -215,9 +242,10 @@ def shown_faults(room, silc):
         yield f"{SHOWN.name} is not as tools/explore makes it now"
 
 
-def reason_faults(rows, said):
+def reason_faults(rows: Sequence[Row], said: str) -> Iterator[str]:
     """The reasons are told with their numbers, the commonest one first, and so is the least period that fits."""
-    counts = collections.Counter(re.sub(r" (at|for) node \d+", "", row["answer"]) for row in rows if row["answer"] != "fits")
+    counts = collections.Counter(re.sub(r" (at|for) node \d+", "", row["answer"]) for row in rows
+                                 if row["answer"] != "fits")
     told = re.findall(r"^explore:   (\d+) by ([^:\n]+)", said, re.M)
     if {reason: int(count) for count, reason in told} != counts:
         yield f"the reasons are {told}, and not {counts}"
@@ -228,8 +256,9 @@ def reason_faults(rows, said):
         yield f"the least period, {least}, is not told"
 
 
-def best_faults(room, silc, rows):
-    """The datapath file of a row of the front has its plan and its costs; of a row that is not there none is written."""
+def best_faults(room: Path, silc: Path, rows: Sequence[Row]) -> Iterator[str]:
+    """The datapath file of a row of the front has its plan and its costs; of a row that is not there none is
+    written."""
     _, done = explored(room, silc, "--pool", "--best", "1")
     row, *costs = map(int, done.stdout.splitlines()[1].split()[:1 + len(COSTS)])
     made = tomllib.loads((room / "made.toml").read_text())
@@ -245,9 +274,9 @@ def best_faults(room, silc, rows):
         yield f"a row that is not there: {done.returncode} {done.stderr}"
 
 
-def fit_faults(room, silc, rows):
-    """Files that are to fit have as many registers as the plan takes, and the best datapath file has a plan with them and none
-    with one fewer."""
+def fit_faults(room: Path, silc: Path, rows: Sequence[Row]) -> Iterator[str]:
+    """Files that are to fit have as many registers as the plan takes, and the best datapath file has a plan with them
+    and none with one fewer."""
     (room / "fit.ranges").write_text(TEMPLATE.read_text().replace("{size: 2, 4}, {size}", "{fit}, {fit}"))
     if tried(room, silc, "--pool", "--best", "1", template="fit.ranges", out="fit").returncode:
         yield "there is no table of files that fit"
@@ -263,22 +292,23 @@ def fit_faults(room, silc, rows):
             files = [*unit["files"][:port], size - 1, *unit["files"][port + 1:]]
             smaller = [other | {"files": files} if other is unit else other for other in best["unit"]]
             (room / "smaller.toml").write_text(text_of(best | {"unit": smaller}))
-            done = subprocess.run([silc, "schedule", "source", "smaller.toml"], cwd=room, capture_output=True, text=True)
+            done = subprocess.run([silc, "schedule", "source", "smaller.toml"], cwd=room, capture_output=True,
+                                  text=True)
             if size > 1 and not done.stderr.startswith(f"silc: file full {unit['name']}.{port} "):
                 yield f"{unit['name']}.{port} has a plan with {size - 1} registers too: {done.stderr}"
     if subprocess.run([silc, "schedule", "source", "fit.toml"], cwd=room, capture_output=True).returncode:
         yield "there is no plan on fit.toml"
 
 
-def core_faults(room, silc):
-    """The biquads with delays in memory and in registers have the bits of the cores that tools/verilog makes of them. Their
-    templates have no range but for sizes that fit, so each table has one row."""
+def core_faults(room: Path, silc: Path) -> Iterator[str]:
+    """The biquads with delays in memory and in registers have the bits of the cores that tools/verilog makes of them.
+    Their templates have no range but for sizes that fit, so each table has one row."""
     text = (BIQUADS / "processors.ranges").read_text().replace("{24, 26, 27, 32, 48, 60}", "60")
     for hold in (0, 2):
         plain = re.sub(r"\{(\d+)[^{}]*\}", r"\1", text).replace("hold = 0", f"hold = {hold}")
         (room / "core.ranges").write_text(plain)
-        done = tried(room, silc, "--pool", "--best", "1", "--force", source=BIQUADS / "biquads.sil", template="core.ranges",
-                     out="core")
+        done = tried(room, silc, "--pool", "--best", "1", "--force", source=BIQUADS / "biquads.sil",
+                     template="core.ranges", out="core")
         lines = done.stdout.splitlines()
         if done.returncode or len(lines) != 2 or len((room / "core.csv").read_text().splitlines()) != 2:
             yield f"a template with {{fit}} alone: {done.returncode} {done.stdout} {done.stderr}"
@@ -288,17 +318,18 @@ def core_faults(room, silc):
                        cwd=room, check=True, capture_output=True)
         held = {name: int(count) * int(bits) for name, count, bits in re.findall(
             r"^file (\w+): (\d+) words, .* in (\d+) bits", (room / "core.map").read_text(), re.M)}
-        bits = [sum(of for name, of in held.items() if name.endswith("cells") == is_cells) for is_cells in (False, True)]
+        bits = [sum(of for name, of in held.items() if name.endswith("cells") == is_cells)
+                for is_cells in (False, True)]
         if list(map(int, lines[1].split()[4:6])) != bits:
             yield f"with hold = {hold} the core has {bits} bits, and the table {lines[1]}"
         for name in ("core.csv", "core.mic"):
             (room / name).unlink()
 
 
-def length_faults(room, silc):
+def length_faults(room: Path, silc: Path) -> Iterator[str]:
     """Of word lengths no one betters another: the shorter has fewer bits, and the longer less noise."""
-    (room / "lengths.silt").write_text(LENGTHS)
-    (room / "exact.sil").write_text(re.sub(r"\{W[^}]*\}", "32", re.sub(r"\{F[^}]*\}", "31", LENGTHS)))
+    (room / "lengths.silt").write_text(LENGTHS_HEAD + LENGTHS)
+    (room / "exact.sil").write_text(LENGTHS.replace("{W}", "32").replace("{F}", "31"))
     (room / "noise.txt").write_text("".join(f"{word * 7919 % 65536 - 32768}\n" for word in range(200)))
     (room / "lengths.ranges").write_text(LENGTHS_DATAPATH)
     done = tried(room, silc, "--pool", "--samples", "noise.txt", "--against", "exact.sil", source="lengths.silt",
@@ -309,11 +340,35 @@ def length_faults(room, silc):
         yield f"of word lengths the front is {done.stdout}{done.stderr}"
 
 
-def wrap_faults(room, silc):
+def linked_faults(room: Path, silc: Path) -> Iterator[str]:
+    """A source with a head has a row for each combination of its numbers, which is that of the source with these
+    numbers in the place of braces, or says in its file why it is none."""
+    (room / "linked.silt").write_text(LINKED)
+    (room / "linked.ranges").write_text(LENGTHS_DATAPATH.replace("period = 16", "period = {14, 16}"))
+    tried(room, silc, "--pool", source="linked.silt", template="linked.ranges", out="linked")
+    rows = list(csv.DictReader((room / "linked.csv").read_text().splitlines()))
+    if [(row["W"], row["N"], row["period"]) for row in rows] != LINKED_CHOICES:
+        yield f"the combinations of a source that is linked are {rows}"
+    for row in rows:
+        if row["N"] == "18":
+            if row["answer"] != "linked.silt:3:1: onepole: K = 17 is not in 1..16 (onepole.sil:13)":
+                yield f"a combination that a block does not take is {row}"
+            continue
+        source = ONEPOLE.replace("W", row["W"]).replace("K", str(int(row["N"]) - 1)).replace(
+            "S", str(int(row["W"]) + int(row["N"]) - 1))
+        (room / "plain.silt").write_text(source.replace("F", str(int(row["W"]) - 1)))
+        tried(room, silc, "--pool", "--force", source="plain.silt", template="linked.ranges", out="plain")
+        for plain in csv.DictReader((room / "plain.csv").read_text().splitlines()):
+            if plain["period"] == row["period"] and any(plain[name] != row[name]
+                                                        for name in ("answer", "taken", "cycles", "register_bits")):
+                yield f"{row} is {plain} where its numbers stand in the source"
+
+
+def wrap_faults(room: Path, silc: Path) -> Iterator[str]:
     """A word of 36 bits that is 64 times too great wraps by a multiple of 2^40, and is counted; no other sample is."""
-    source = "func main(x : fix<36,35>) y : fix<{W: 36},35> = begin y = fix<{W},35>(x) << 6; end;\n"
-    (room / "wraps.silt").write_text(source)
-    (room / "plain.sil").write_text(source.replace("{W: 36}", "36").replace("{W}", "36"))
+    source = "func main(x : fix<36,35>) y : fix<{W},35> = begin y = fix<{W},35>(x) << 6; end;\n"
+    (room / "wraps.silt").write_text(f"let W = 36 in 36;\n{source}")
+    (room / "plain.sil").write_text(source.replace("{W}", "36"))
     (room / "wraps.txt").write_text(f"{-1 << 35}\n1\n2\n")
     (room / "wraps.ranges").write_text(LENGTHS_DATAPATH.replace("word = 32", "word = 40"))
     done = tried(room, silc, "--pool", "--samples", "wraps.txt", "--against", "plain.sil", source="wraps.silt",
@@ -323,7 +378,7 @@ def wrap_faults(room, silc):
         yield f"of a word that wraps by 2^40 the row is {row} {done.stderr}"
 
 
-def dsp_faults(room, silc):
+def dsp_faults(room: Path, silc: Path) -> Iterator[str]:
     """--dsp has Yosys take multipliers, and the table of the front counts them. A script plays Yosys."""
     folder = room / "bin"
     folder.mkdir()
@@ -333,13 +388,55 @@ def dsp_faults(room, silc):
     (room / "dsp.sil").write_text((room / "exact.sil").read_text())
     os.environ["PATH"] = f"{folder}:{os.environ['PATH']}"
     for options, is_dsp in ((["--dsp"], True), ([], False)):
-        done = tried(room, silc, "--pool", "--area", "ice40", *options, source="dsp.sil", template="dsp.ranges", out="dsp")
+        done = tried(room, silc, "--pool", "--area", "ice40", *options, source="dsp.sil", template="dsp.ranges",
+                     out="dsp")
         script = (room / "yosys.log").read_text() if done.returncode == 0 else ""
         if ("synth_ice40 -dsp" in script) != is_dsp or ",multipliers\n" not in (room / "dsp.area.csv").read_text():
             yield f"--area ice40 {options}: {done.returncode} {done.stderr} {script}"
 
 
-def kept_faults(room, silc, whole):
+def over_stages(datapath: Path, stages: int) -> tuple[int, int, int] | None:
+    """The cycles, registers and last cell of the plan over so many stages that tests/overlap/plan.py finds, or
+    nothing."""
+    words = [ROOT / "tests" / "overlap" / "plan.py", ROOT / "docs" / "pictures" / "reverb.schedule", datapath,
+             str(stages)]
+    text = subprocess.run(words, capture_output=True, text=True).stdout
+    if not text:
+        return None
+    taken, _ = measured(text, 1)
+    ends = [int(cycle) + (2 if unit == "mul" else 1)
+            for cycle, unit in re.findall(r"^node \d+ cycle (\d+) unit (\S+)", text, re.M)]
+    return max(ends), taken, max(map(int, re.findall(r" op addr (\d+)", text)))
+
+
+def stages_faults(room: Path, silc: Path) -> Iterator[str]:
+    """Each datapath is planned over each number of stages: the rows are as tests/overlap/plan.py has them, and so is
+    the front, on which stages are a cost."""
+    plain = (REVERB / "one_multiplier.toml").read_text()
+    (room / "stages.ranges").write_text(plain.replace("period = 28", "period = {24, 28}"))
+    done = tried(room, silc, "--pool", "--stages", "1..4", source=REVERB / "reverb.sil", template="stages.ranges",
+                 out="stages")
+    rows = {(int(row["period"]), int(row["stages"])): row
+            for row in csv.DictReader((room / "stages.csv").read_text().splitlines())} if done.returncode == 0 else {}
+    wanted = {}
+    for period, stages in itertools.product((24, 28), range(1, 5)):
+        (room / "stages.toml").write_text(plain.replace("period = 28", f"period = {period}"))
+        wanted[period, stages] = over_stages(room / "stages.toml", stages)
+    made = {key: ((int(row["cycles"]), int(row["taken"]), int(row["cells"]) - key[1])
+                  if row["answer"] == "fits" else None)
+            for key, row in rows.items()}
+    if made != wanted:
+        yield f"over stages the table has {made}, and not {wanted}: {done.stderr}"
+    # The hardware is one, and the shorter period needs two stages.
+    front = {key for key, row in rows.items() if row["front"]}
+    if front != {(24, 2), (28, 1)}:
+        yield f"over stages the front is {front}"
+    titles = [shape.text for shape in Xml.parse(room / "stages.svg").getroot().iter(SVG + "text")] if rows else []
+    if "8 units, 2 stages: 2 fit, 0 do not" not in titles:
+        yield f"the picture has the panels {titles}"
+
+
+def kept_faults(room: Path, silc: Path, whole: str) -> Iterator[str]:
     """A run that was stopped leaves a table that goes on, and one that is another is written over by --force alone."""
     (room / "made.csv").write_text("a table of mine\n")
     done = tried(room, silc, "--pool")
@@ -350,7 +447,7 @@ def kept_faults(room, silc, whole):
         yield "a table over another one is not that of the template"
 
 
-def unfit_faults(room, silc):
+def unfit_faults(room: Path, silc: Path) -> Iterator[str]:
     """Where no combination fits, the exit status is 1, and the period that would be needed is told."""
     (room / "short.ranges").write_text(TEMPLATE.read_text().replace("{6..14 step 4}", "{3..4}"))
     done = tried(room, silc, "--pool", template="short.ranges", out="short")
@@ -359,7 +456,7 @@ def unfit_faults(room, silc):
         yield f"where none fits: {done.returncode} {done.stderr}"
 
 
-def main(words):
+def main(words: list[str]) -> int:
     if words and (words[0] != "--silc" or len(words) != 2):
         print(__doc__, file=sys.stderr)
         return 2
@@ -369,10 +466,11 @@ def main(words):
         os.environ["XDG_STATE_HOME"] = str(room / "state")
         rows = expected(room, silc)
         text, done = explored(room, silc, "--pool")
-        faults = [*faults_of(text, rows), *picture_faults(room, rows), *resumed_faults(room, silc, text), *copies_faults(),
-                  *reason_faults(rows, done.stderr), *best_faults(room, silc, rows),
+        faults = [*faults_of(text, rows), *picture_faults(room, rows), *resumed_faults(room, silc, text),
+                  *copies_faults(), *reason_faults(rows, done.stderr), *best_faults(room, silc, rows),
                   *fit_faults(room, silc, rows), *unfit_faults(room, silc), *core_faults(room, silc),
-                  *length_faults(room, silc), *wrap_faults(room, silc), *dsp_faults(room, silc), *kept_faults(room, silc, text)]
+                  *length_faults(room, silc), *linked_faults(room, silc), *wrap_faults(room, silc),
+                  *dsp_faults(room, silc), *stages_faults(room, silc), *kept_faults(room, silc, text)]
         front = done.stdout.splitlines()[1:]
         if len(front) != sum(row["front"] == "yes" for row in rows):
             faults.append(f"standard output has {len(front)} rows of the front")

@@ -3,15 +3,16 @@
 
 usage: tests/hardware/prove_increment.py [ROWS]
 
-ROWS is 2 where it is not given, or 1. In as many clocks after a reset as so many rows need, and a few more for waits, no row
-that is put is another than increment_proof.v says, whatever state the reset finds. So many rows can be put in that time, and
-cores with a wrong line are refuted. The last line is 'N passed, M failed, K skipped'; the exit status is 77 where there is no
-Yosys.
+ROWS is 2 where it is not given, or 1. In as many clocks after a reset as so many rows need, and a few more for waits,
+no row that is put is another than increment_proof.v says, whatever state the reset finds. So many rows can be put in
+that time, and cores with a wrong line are refuted. The last line is 'N passed, M failed, K skipped'; the exit status is
+77 where there is no Yosys.
 """
 import subprocess
 import sys
 import tempfile
 import time
+from collections.abc import Iterator
 from pathlib import Path
 
 from bench import ROOT, Fault, is_there, made
@@ -34,17 +35,17 @@ WRONG = [
 ]
 
 
-def made_in(folder):
+def made_in(folder: Path) -> None:
     why = made(MICROCODE, folder, "--name", "increment", "--datapath", DATAPATH)
     if why:
         raise Fault(why)
     (folder / "increment_proof.v").write_text((HERE / "increment_proof.v").read_text())
 
 
-def asked(folder, what, rows):
+def asked(folder: Path, what: str, rows: int) -> bool:
     """Whether Yosys proves that an output of increment_proof.v is 0 in so many clocks, or refutes it."""
-    done = subprocess.run(["yosys", "-p", f"{PREPARE.format(rows=rows)}; sat -seq {CLOCKS[rows]} -prove {what}"], cwd=folder,
-                          stdin=subprocess.DEVNULL, capture_output=True, text=True, timeout=MOST_SECONDS)
+    done = subprocess.run(["yosys", "-p", f"{PREPARE.format(rows=rows)}; sat -seq {CLOCKS[rows]} -prove {what}"],
+                          cwd=folder, stdin=subprocess.DEVNULL, capture_output=True, text=True, timeout=MOST_SECONDS)
     if "SAT proof finished - no model found: SUCCESS!" in done.stdout:
         return True
     if "SAT proof finished - model found: FAIL!" in done.stdout:
@@ -52,7 +53,7 @@ def asked(folder, what, rows):
     raise Fault(f"Yosys says {(done.stdout + done.stderr)[-300:]}")
 
 
-def checks(rows):
+def checks(rows: int) -> Iterator[tuple[str, tuple[str, str, str] | None, str, bool]]:
     """Each check by its name: the line that is changed, what is asked to be 0, and whether it is."""
     yield f"no wrong row among {rows}", None, "wrong 0", True
     # Were `rows` never so many, the proof would say nothing of them.
@@ -62,7 +63,7 @@ def checks(rows):
             yield f"refuted: {new}", (file, old, new), "wrong 0", False
 
 
-def check(folder, line, what, is_true, rows):
+def check(folder: Path, line: tuple[str, str, str] | None, what: str, is_true: bool, rows: int) -> None:
     made_in(folder)
     if line:
         file, old, new = line
@@ -74,7 +75,7 @@ def check(folder, line, what, is_true, rows):
         raise Fault("it is refuted" if is_true else "it is proved")
 
 
-def main(words):
+def main(words: list[str]) -> int:
     rows = int(words[0]) if words and words[0] in map(str, CLOCKS) else ROWS
     if len(words) > 1 or words and words != [str(rows)]:
         print(__doc__, file=sys.stderr)

@@ -1,6 +1,6 @@
 #!/usr/bin/env python3
-"""Whether `tools/link` makes the sources that it says, refuses what it says with the file and the place, and makes nothing
-then. Blocks and sources are those of this script.
+"""Whether `tools/link` makes the sources that it says, refuses what it says with the file and the place, and makes
+nothing then. Blocks and sources are those of this script.
 
 usage: tests/library/check_linker.py [--silc PROGRAM]
 
@@ -12,6 +12,7 @@ import os
 import subprocess
 import sys
 import tempfile
+from collections.abc import Iterator
 from dataclasses import dataclass
 from pathlib import Path
 
@@ -44,7 +45,8 @@ BLOCKS = {
     "round": "use trip as a;\nfunc round_trip(x : bool) y : bool = begin y = a(x); end;\n",
     "ring": "use trip as a;\nfunc ring(x : bool) y : bool = begin y = a(x); end;\n",
     "trip": "\nuse ring as b;\nfunc trip(x : bool) y : bool = begin y = b(x); end;\n",
-    "broken": "/* c */\nlet W = 8 in 4 .. 9;\n\nfunc broken(x : fix<{W},0>) y : fix<{W},0> =\nbegin\n  y = x + z;\nend;\n",
+    "broken": "/* c */\nlet W = 8 in 4 .. 9;\n\nfunc broken(x : fix<{W},0>) y : fix<{W},0> =\nbegin\n  y = x + z;\n"
+              "end;\n",
     "nameless": "func other(x : bool) y : bool = begin y = x; end;\n",
     "brace": "func brace(x : fix<8,0>) y : fix<{V},0> = begin y = x; end;\n",
     "corner": "let W = 8 in 8, 41;  /* bits */\nfunc corner(x : fix<{W},0>) y : fix<{W},0> = begin y = x; end;\n",
@@ -53,7 +55,7 @@ MAIN = "func main(x : fix<8,0>) y : fix<8,0> = begin y = {}; end;\n"
 CALLED = MAIN.replace("{}", "a(x)")
 
 
-def using(*lines, rest=CALLED):
+def using(*lines: str, rest: str = CALLED) -> str:
     return "".join(f"{line}\n" for line in lines) + rest
 
 
@@ -89,7 +91,8 @@ REFUSED = [
     (using("use ../gain as a;"), "main.sil:1:1:", "this is no `use BLOCK;`"),
     (MAIN.replace("{}", "a(x)") + "use gain as a;\n", "main.sil:2:", ""),
     (using("/* use gain as a; */"), "main.sil:2:", ""),
-    (using("use gain as a; use gain<W=8, K=2> as b;", "let N = 2", rest=""), "main.sil:2:1:", "`;` is missing after this let"),
+    (using("use gain as a; use gain<W=8, K=2> as b;", "let N = 2", rest=""), "main.sil:2:1:",
+     "`;` is missing after this let"),
     (using("let N = 3;", rest=MAIN.replace("{}", "x@{N")), "main.sil:2:", ""),
     (using("let N = 3 in 1 .. 5 step 0;"), "main.sil:1:1:", "no step above 0"),
 ]
@@ -105,27 +108,27 @@ class Done:
 class Room:
     """A folder with blocks in which the tool runs, in this process."""
 
-    def __init__(self, folder):
+    def __init__(self, folder: Path) -> None:
         self.folder = folder
         (folder / "blocks").mkdir()
         for name, text in BLOCKS.items():
             (folder / "blocks" / f"{name}.sil").write_text(text)
 
-    def put(self, text, name="main.sil"):
+    def put(self, text: str, name: str = "main.sil") -> None:
         (self.folder / name).write_text(text)
 
-    def link(self, *words):
+    def link(self, *words: str) -> Done:
         out, err = io.StringIO(), io.StringIO()
         with contextlib.chdir(self.folder), contextlib.redirect_stdout(out), contextlib.redirect_stderr(err):
             status = tool.main(list(words))
         return Done(status, out.getvalue(), err.getvalue())
 
-    def linked(self, text, *words):
+    def linked(self, text: str, *words: str) -> str:
         self.put(text)
         done = self.link("--library", "blocks", *words, "--force", "-o", "linked.sil", "main.sil")
         return (self.folder / "linked.sil").read_text() if done.returncode == 0 else f"{done.returncode} {done.stderr}"
 
-    def rows(self, text, samples):
+    def rows(self, text: str, samples: str) -> str:
         (self.folder / "made.sil").write_text(text)
         (self.folder / "samples").write_text(samples)
         done = subprocess.run([os.environ["SILC"], "eval", "made.sil", "samples", "/dev/stdout"], cwd=self.folder,
@@ -133,7 +136,7 @@ class Room:
         return done.stdout or done.stderr
 
 
-def refusal_faults(room):
+def refusal_faults(room: Room) -> Iterator[str]:
     for text, place, words in REFUSED:
         room.put(text)
         done = room.link("--library", "blocks", "-o", "out.sil", "main.sil")
@@ -145,34 +148,37 @@ def refusal_faults(room):
             (room.folder / "out.sil").unlink()
 
 
-def expect(name, made, *parts):
+def expect(name: str, made: str, *parts: str) -> list[str]:
     """A fault for each part that is not in what was made."""
     return [f"{name}: {part!r} is not in\n{made}" for part in parts if part not in made]
 
 
-def text_faults(room):
+def text_faults(room: Room) -> Iterator[str]:
     """Sources that are linked, with parts of what is made and their rows."""
     made = room.linked(using("/* A comment */", "use gain<W=8, K=2> as a;"))
     yield from expect("one block", made, "/* linked from main.sil ", "/* use gain<W=8, K=2> as a; */",
                       "/* from gain.sil:4: gain<W=8, K=2> */\nconst a_half : fix<8,0> = 64;",
-                      "/* from gain.sil:5: gain<W=8, K=2> */\nfunc a_more(x : fix<8,0>) y : fix<8,0> = begin y = x << 2; end;",
-                      "func a(x : fix<8,0>)", "low = a_more(x);", "y = low + a_half;")
+                      "/* from gain.sil:5: gain<W=8, K=2> */\nfunc a_more(x : fix<8,0>) y : fix<8,0> = begin y = x << "
+                      "2; end;", "func a(x : fix<8,0>)", "low = a_more(x);", "y = low + a_half;")
     yield from expect("its lines", "".join(made.split("\n")[2:3]), "func main(")
     yield from expect("its rows", room.rows(made, "1\n5\n"), "68\n84\n")
-    yield from expect("without a name", room.linked(using("use gain;", rest=MAIN.replace("{}", "gain(x)"))), "func gain(x")
+    yield from expect("without a name", room.linked(using("use gain;", rest=MAIN.replace("{}", "gain(x)"))),
+                      "func gain(x")
     made = room.linked(using("use gain<K=2> as a;", "use gain<W=8, K=1 + 1> as b;", rest=MAIN.replace("{}", "b(x)")))
     yield from expect("one set of numbers", made, "begin y = a(x); end;")
     if made.count("func a(") != 1 or "func b(" in made:
         yield f"one set of numbers is there twice:\n{made}"
     made = room.linked(using("use twice as low;", rest=MAIN.replace("{}", "low(x)")))
-    yield from expect("a block in a block, and a signal with a function's name", made, "func low(x", "func gain_W8_K2(x",
-                      "y = gain_W8_K2(x)", "var low_2 : fix<8,0>;", "low_2 = gain_W8_K2_more(x);")
+    yield from expect("a block in a block, and a signal with a function's name", made, "func low(x",
+                      "func gain_W8_K2(x", "y = gain_W8_K2(x)", "var low_2 : fix<8,0>;", "low_2 = gain_W8_K2_more(x);")
     yield from expect("its rows", room.rows(made, "1\n5\n"), "68\n84\n")
     text = "use twice;\n" + MAIN.replace("{}", "gain_W8_K2 + twice_half@1")
-    text = text.replace("begin y", "begin var gain_W8_K2, twice_half : fix<8,0>; gain_W8_K2 = twice(x); twice_half = x; y")
+    text = text.replace("begin y",
+                        "begin var gain_W8_K2, twice_half : fix<8,0>; gain_W8_K2 = twice(x); twice_half = x; y")
     yield from expect("names that are taken", room.linked(text.replace("; gain_W8_K2 = ", ";\n  gain_W8_K2 = ").replace(
         "begin var", "begin\nvar")), "func gain_W8_K2_2(x")
-    made = room.linked(using("use lists<N=3> as a;", rest="func main(x : fix<16,8>) y : fix<16,8> = begin y = a(x); end;"))
+    made = room.linked(using("use lists<N=3> as a;",
+                             rest="func main(x : fix<16,8>) y : fix<16,8> = begin y = a(x); end;"))
     yield from expect("a list", made, "const a_t[3] : fix<16,8> = (0.5, 1.5, 4.5);", "x * a_t[2]")
     made = room.linked(using("let N = 3; let M = 2 * N;", rest=MAIN.replace("{}", "x@{M - N} /* {N} */ + {1 / N}")))
     yield from expect("numbers", made, "x@3 /* {N} */ + 0.33333333333333333;")
@@ -186,8 +192,8 @@ def text_faults(room):
         yield "equal inputs give other bytes"
 
 
-def other_faults(room):
-    """Stale copies, places, templates, and files that are not written over."""
+def other_faults(room: Room) -> Iterator[str]:
+    """Stale copies, places, and files that are not written over."""
     room.put(using("use twice as a;"))
     words = ("--library", "blocks", "-o", "copy.sil", "main.sil")
     cases = [(words, 0, ""), (("--check", *words), 0, "")]
@@ -200,27 +206,31 @@ def other_faults(room):
     yield from expect("a place", room.link("--where", str(line), "copy.sil").stdout, "gain.sil:9\n")
     yield from expect("a place of its own", room.link("--where", "2", "copy.sil").stdout, "the source itself:2\n")
     (room.folder / "blocks" / "gain.sil").write_text(GAIN + "\n")
-    yield from expect("a stale copy", room.link("--check", *words).stderr, "link: copy.sil is stale: gain.sil is another\n")
+    yield from expect("a stale copy", room.link("--check", *words).stderr,
+                      "link: copy.sil is stale: gain.sil is another\n")
     (room.folder / "blocks" / "gain.sil").write_text(GAIN)
     (room.folder / "copy.sil").write_text(copy.replace("<< 2", "<< 3"))
-    yield from expect("a changed copy", room.link("--check", *words).stderr, "copy.sil is stale: it was changed by hand")
+    yield from expect("a changed copy", room.link("--check", *words).stderr,
+                      "copy.sil is stale: it was changed by hand")
     yield from expect("a file of one's own", room.link(*words).stderr, "copy.sil is there, and not as a tool made it")
-    made = room.linked(using("let N = 8 in 2, 4..16 step 4;", "let M = 3;", rest=MAIN.replace("{}", "x@{N} + x@{N} + {M}")),
-                       "--template")
-    yield from expect("a template", made, "y = x@{N: 2, 4 .. 16 step 4} + x@{N} + 3;")
-    said = room.linked(using("let N = 4 in 2, 4;", "use gain<W=N> as a;"), "--template")
-    yield from expect("a template that is none", said, "main.sil:2:1: `N` depends on N")
+    block = room.folder / "blocks" / "gain.sil"
+    for name in ("blocks/gain.sil", "./blocks/gain.sil", "main.sil"):
+        done = room.link("--library", "blocks", "--force", "-o", name, "main.sil")
+        yield from expect(f"an output that is an input, {name}", done.stderr, f"link: {name} is the input ")
+        if block.read_text() != GAIN:
+            yield "a block is written over"
     done = room.link("--library", "blocks", "--test", "corner")
-    yield from expect("a corner", done.stdout, "blocks/corner.sil:2: ", "(corner<W=41>)", "there are no rows beside it",
+    yield from expect("a corner", done.stdout, "blocks/corner.sil:2:", "(corner<W=41>)", "there are no rows beside it",
                       "1 blocks, 2 faults\n")
     (room.folder / "blocks" / "rows").mkdir()
-    (room.folder / "blocks" / "rows" / "gain.txt").write_text("gain<W=8, K=2>\n1 | 68\n5 | 84\ngain<W=9, K=0>\n1 | 128\n")
+    (room.folder / "blocks" / "rows"
+     / "gain.txt").write_text("gain<W=8, K=2>\n1 | 68\n5 | 84\ngain<W=9, K=0>\n1 | 128\n")
     done = room.link("--library", "blocks", "--test", "gain")
     yield from expect("rows", done.stdout, "blocks/gain.sil: gain<W=9, K=0>: row 1 is (129,) in the place of (128,)",
                       "1 blocks, 1 faults\n")
 
 
-def main(words):
+def main(words: list[str]) -> int:
     if words[:1] == ["--silc"] and len(words) == 2:
         os.environ["SILC"] = str(Path(words[1]).resolve())
     elif words:

@@ -1,6 +1,6 @@
 #!/usr/bin/env python3
-"""Whether blocks of library/ do what they are for, in sources that use them: coders and decoders together, loops that lock, filters
-that adapt, levels that are kept.
+"""Whether blocks of library/ do what they are for, in sources that use them: coders and decoders together, loops that
+lock, filters that adapt, levels that are kept.
 
 usage: tests/library/check_purpose.py [--silc PROGRAM]
 
@@ -10,6 +10,7 @@ import math
 import os
 import random
 import sys
+from collections.abc import Sequence
 from pathlib import Path
 
 from silc.designing.programs import evaluated
@@ -22,22 +23,22 @@ FULL = 2**15
 DICE = random.Random(1)
 
 
-def rows_of(uses, head, body, rows):
+def rows_of(uses: Sequence[str], head: str, body: str, rows: Sequence[Sequence[int]]) -> list[tuple[int, ...]]:
     """The rows of a source whose main has this head and body."""
     lines = [f"use {use};" for use in uses]
     text = "\n".join([*lines, f"func main{head} =", "begin", body, "end;", ""])
     return evaluated(link(Library(), Source(File("purpose.sil", text.encode()))).text, rows)
 
 
-def sine_of(count, share, size, phase=0.0):
+def sine_of(count: int, share: float, size: float, phase: float = 0.0) -> list[tuple[int]]:
     return [(round(size * FULL * math.sin(2 * math.pi * share * n + phase)),) for n in range(count)]
 
 
-def bits(count):
+def bits(count: int) -> list[int]:
     return [DICE.randint(0, 1) for _ in range(count)]
 
 
-def check_viterbi():
+def check_viterbi() -> bool:
     """Two coded bits in 34 are wrong, and the message comes out 15 samples later."""
     message = bits(600)
     coded = rows_of(["convolutional<K=3, A=7, B=5> as code"], "(x : bool) (a : bool, b : bool)", "(a, b) = code(x);",
@@ -47,16 +48,17 @@ def check_viterbi():
     return [bit for bit, in made[15:]] == message[:-15]
 
 
-def check_scrambler():
+def check_scrambler() -> bool:
     """The descrambler gives the message back, also when the first bits were not heard."""
     message = bits(300)
     made = rows_of(["scrambler<N=7, T=6> as hide", "descrambler<N=7, T=6> as find"], "(x : bool) (y : bool, z : bool)",
                    "  y = hide(x);\n  z = find(y);", [(bit,) for bit in message])
-    late = rows_of(["descrambler<N=7, T=6>"], "(x : bool) y : bool", "y = descrambler(x);", [(y,) for y, _ in made[50:]])
+    late = rows_of(["descrambler<N=7, T=6>"], "(x : bool) y : bool", "y = descrambler(x);",
+                   [(y,) for y, _ in made[50:]])
     return [z for _, z in made] == message and [bit for bit, in late[7:]] == message[57:]
 
 
-def check_differential():
+def check_differential() -> bool:
     """The message comes back, and also where the line is inverted, but for the first bit."""
     message = bits(200)
     made = rows_of(["differential as code", "differential_decode as find"], "(x : bool) (y : bool, z : bool)",
@@ -64,7 +66,7 @@ def check_differential():
     return [y for y, _ in made] == message and [z for _, z in made[1:]] == message[1:]
 
 
-def check_companders():
+def check_companders() -> bool:
     """A word comes back to within a step of its size."""
     words = [(x,) for x in range(-4000, 4001, 13)]
     mu = rows_of(["mulaw as code", "mulaw_decode as find"], "(x : fix<14,0>) y : fix<14,0>",
@@ -74,7 +76,7 @@ def check_companders():
     return all(abs(y - x) <= 1 + abs(x) / 32 + 33 / 32 for (x,), (y,) in [*zip(words, mu), *zip(words, a)])
 
 
-def check_costas():
+def check_costas() -> bool:
     """A carrier 0.0005 of the rate beside the oscillator, turned by bits: nearly all of it ends in i."""
     signs = [DICE.choice((-1, 1)) for _ in range(200)]
     words = [round(0.5 * FULL * signs[n // 40] * math.cos(2 * math.pi * 0.1005 * n + 1)) for n in range(8000)]
@@ -85,11 +87,11 @@ def check_costas():
     return all(abs(abs(i) - FULL / 4) < FULL / 16 and abs(q) < FULL / 32 for i, q in ends)
 
 
-def check_gardner():
+def check_gardner() -> bool:
     """Symbols of 4.03 samples, along half a cosine each: as many come out, and where the signal stands still."""
     symbols = [DICE.choice((-1, 1)) for _ in range(2100)]
 
-    def at(time):
+    def at(time: float) -> float:
         place = int(time // 4.03)
         share = (1 - math.cos(math.pi * (time / 4.03 - place))) / 2
         return symbols[place] + (symbols[place + 1] - symbols[place]) * share
@@ -100,45 +102,48 @@ def check_gardner():
     return abs(len(taken) - 8000 / 4.03) < 4 and all(0.5 < abs(y) < 0.61 for y in taken[-500:])
 
 
-def check_adaptive():
+def check_adaptive() -> bool:
     """A filter of four taps is found, by both rules, and the error is gone."""
     taps = (0.5, -0.3, 0.2, 0.1)
     x = [DICE.randint(-FULL // 2, FULL // 2) for _ in range(4000)]
     d = [round(sum(tap * x[n - k] for k, tap in enumerate(taps) if n >= k)) for n in range(len(x))]
     made = rows_of(["lms<M=3>", "nlms"], "(x : fix<16,15>, d : fix<16,15>) (e : fix<16,15>, f : fix<16,15>)",
                    "  var y, z : fix<16,15>;\n  (y, e) = lms(x, d);\n  (z, f) = nlms(x, d);", list(zip(x, d)))
-    return max(abs(word) for row in made[:100] for word in row) > 5000 and max(abs(word) for row in made[-500:] for word in row) < 30
+    first, last = (max(abs(word) for row in rows for word in row) for rows in (made[:100], made[-500:]))
+    return first > 5000 and last < 30
 
 
-def check_limiter():
+def check_limiter() -> bool:
     """Peaks of full scale stay below the level, and a soft signal comes out as it was, 15 samples later."""
     loud = [(DICE.choice((-FULL, FULL - 1, *range(-3000, 3000, 100))),) for _ in range(2000)]
     soft = [(DICE.randint(-8000, 8000),) for _ in range(500)]
-    made = [rows_of(["limiter"], "(x : fix<16,15>) y : fix<16,15>", "y = limiter(x, 0.25);", rows) for rows in (loud, soft)]
+    made = [rows_of(["limiter"], "(x : fix<16,15>) y : fix<16,15>", "y = limiter(x, 0.25);", rows)
+            for rows in (loud, soft)]
     return max(abs(y) for y, in made[0]) <= FULL // 4 and made[1][15:] == soft[:-15]
 
 
-def check_mixer():
+def check_mixer() -> bool:
     """A tone at the oscillator's frequency is a constant of half its size behind a low-pass."""
     step = round(0.25 * 2**31)
-    made = rows_of(["mixer", "onepole<K=6> as low"], "(x : fix<16,15>, step : fix<32,31>) (i : fix<16,15>, q : fix<16,15>)",
+    made = rows_of(["mixer", "onepole<K=6> as low"],
+                   "(x : fix<16,15>, step : fix<32,31>) (i : fix<16,15>, q : fix<16,15>)",
                    "  var a, b : fix<16,15>;\n  (a, b) = mixer(x, step);\n  i = low(a);\n  q = low(b);",
                    [(x, step) for x, in sine_of(2000, 0.125, 0.8, 0.3)])
     return all(abs(math.hypot(i, q) / FULL - 0.4) < 0.01 for i, q in made[-100:])
 
 
-def check_goertzel():
+def check_goertzel() -> bool:
     """The power of a tone of 8 periods in 64 samples, and of one of 9, at the eighth."""
     powers = []
     for periods in (8, 9):
         rows = [(x, round(2**17 * math.cos(2 * math.pi / 8))) for x, in sine_of(64, periods / 64, 0.5)]
-        made = rows_of(["goertzel"], "(x : fix<16,15>, c : fix<18,16>) (on : bool, power : fix<35,2>)", "(on, power) = goertzel(x, c);",
-                       rows)
+        made = rows_of(["goertzel"], "(x : fix<16,15>, c : fix<18,16>) (on : bool, power : fix<35,2>)",
+                       "(on, power) = goertzel(x, c);", rows)
         powers.append(made[-1])
     return powers[0][0] == 1 and powers[1][0] == 1 and powers[0][1] > 1000 * max(1, powers[1][1])
 
 
-def check_dcblock():
+def check_dcblock() -> bool:
     """A constant goes, and a tone stays."""
     made = rows_of(["dcblock<K=8>"], "(x : fix<16,15>) y : fix<16,15>", "y = dcblock(x);",
                    [(x + 9000,) for x, in sine_of(6000, 0.05, 0.5)])
@@ -149,7 +154,7 @@ def check_dcblock():
 CHECKS = [value for name, value in sorted(globals().items()) if name.startswith("check_")]
 
 
-def main(words):
+def main(words: list[str]) -> int:
     if words[:1] == ["--silc"] and len(words) == 2:
         os.environ["SILC"] = str(Path(words[1]).resolve())
     elif words:

@@ -1,18 +1,31 @@
-"""Models of the blocks of library/, from the mathematics of their pages: whole numbers and fractions without bounds, and nothing of
-`silc`. Where a page says that a word never passes its range, the model raises where it does.
+"""Models of the blocks of library/, from the mathematics of their pages: whole numbers and fractions without bounds,
+and nothing of `silc`. Where a page says that a word never passes its range, the model raises where it does.
 
 A model takes the numbers of a block and rows of raw words, and gives the rows of raw words that come out.
 """
 import math
+from collections.abc import Callable, Iterable, Sequence
 from fractions import Fraction
+from typing import Any, TypeAlias
+
+# Rows of words.
+Rows: TypeAlias = Sequence[Sequence[int]]
+# What a model makes of them.
+Made: TypeAlias = list[tuple[int, ...]]
+# The least and the greatest word of each input.
+Ends: TypeAlias = list[tuple[int, int]]
+# A model of a block, and what gives its inputs, by the block's numbers.
+Model: TypeAlias = Callable[..., Made]
+Inputs: TypeAlias = Callable[..., Ends]
 
 BOOL = (0, 1)
 MODELS, INPUTS, LINEAR = {}, {}, set()
 
 
-def model(inputs, is_linear=False):
-    """Makes a function the model of the block of its name; `inputs` gives the least and the greatest word of each input."""
-    def made(function):
+def model(inputs: Inputs, is_linear: bool = False) -> Callable[[Model], Model]:
+    """Makes a function the model of the block of its name; `inputs` gives the least and the greatest word of each
+    input."""
+    def made(function: Model) -> Model:
         name = function.__name__.rstrip("_")
         MODELS[name], INPUTS[name] = function, inputs
         if is_linear:
@@ -21,21 +34,21 @@ def model(inputs, is_linear=False):
     return made
 
 
-def word(bits):
+def word(bits: int) -> tuple[int, int]:
     return -(1 << bits - 1), (1 << bits - 1) - 1
 
 
-def nearest(number):
+def nearest(number: int | float | Fraction) -> int:
     """The nearest whole number, and up from the middle."""
     return math.floor(Fraction(number) + Fraction(1, 2))
 
 
-def clipped(number, bits):
+def clipped(number: int, bits: int) -> int:
     low, high = word(bits)
     return max(low, min(high, number))
 
 
-def held(number, bits):
+def held(number: int, bits: int) -> int:
     """The number, which is to be in the range of a word."""
     low, high = word(bits)
     if not low <= number <= high:
@@ -43,12 +56,12 @@ def held(number, bits):
     return number
 
 
-def wrapped(number, bits):
+def wrapped(number: int, bits: int) -> int:
     low, high = word(bits)
     return (number - low) % (high - low + 1) + low
 
 
-def past(rows, at, back):
+def past(rows: Sequence[Any], at: int, back: int) -> Any:
     """An item of a list some places before one, and 0 before the first."""
     return rows[at - back] if at >= back else 0
 
@@ -57,7 +70,7 @@ def past(rows, at, back):
 
 
 @model(lambda W, F, K: [word(W)], is_linear=True)
-def onepole(rows, W, F, K):
+def onepole(rows: Rows, W: int, F: int, K: int) -> Made:
     total, y, made = 0, 0, []
     for (x,) in rows:
         total = held(total + x - y, W + K)
@@ -67,16 +80,16 @@ def onepole(rows, W, F, K):
 
 
 @model(lambda W, F, K: [word(W)], is_linear=True)
-def dcblock(rows, W, F, K):
+def dcblock(rows: Rows, W: int, F: int, K: int) -> Made:
     return [(clipped(x - m, W),) for (x,), (m,) in zip(rows, onepole(rows, W, F, K))]
 
 
-def coefficients(W, F, C, D):
+def coefficients(W: int, F: int, C: int, D: int) -> Ends:
     return [word(W), *[word(C)] * 5]
 
 
 @model(coefficients)
-def biquad(rows, W, F, C, D):
+def biquad(rows: Rows, W: int, F: int, C: int, D: int) -> Made:
     x, y = [row[0] for row in rows], []
     for n, (_, b0, b1, b2, a1, a2) in enumerate(rows):
         total = b0 * x[n] + b1 * past(x, n, 1) + b2 * past(x, n, 2) - a1 * past(y, n, 1) - a2 * past(y, n, 2)
@@ -85,7 +98,7 @@ def biquad(rows, W, F, C, D):
 
 
 @model(coefficients)
-def biquad_t(rows, W, F, C, D):
+def biquad_t(rows: Rows, W: int, F: int, C: int, D: int) -> Made:
     """Each coefficient with which a word was multiplied is that of the word's own sample."""
     y = []
     for n, (x, b0, *_) in enumerate(rows):
@@ -98,11 +111,12 @@ def biquad_t(rows, W, F, C, D):
     return [(out,) for out in y]
 
 
-def with_taps(W, C, **_):
+def with_taps(W: int, C: int, **_: int) -> Ends:
     return [word(W), word(C)]
 
 
-def tapped(rows, taps_of, D, W):
+def tapped(rows: Rows, taps_of: Callable[[Callable[[int], int]], Iterable[tuple[int, int | Fraction]]], D: int,
+           W: int) -> Made:
     """Rows of a filter whose taps at a sample are made of the last words of the second input."""
     x, c, made = [row[0] for row in rows], [row[1] for row in rows], []
     for n in range(len(rows)):
@@ -112,29 +126,29 @@ def tapped(rows, taps_of, D, W):
 
 
 @model(with_taps)
-def fir(rows, N, W, F, C, D):
+def fir(rows: Rows, N: int, W: int, F: int, C: int, D: int) -> Made:
     return tapped(rows, lambda h: [(k, h(k)) for k in range(N)], D, W)
 
 
 @model(with_taps)
-def fir_symmetric(rows, N, W, F, C, D):
+def fir_symmetric(rows: Rows, N: int, W: int, F: int, C: int, D: int) -> Made:
     return tapped(rows, lambda h: [(k, h(min(k, 2 * N - 1 - k))) for k in range(2 * N)], D, W)
 
 
 @model(with_taps)
-def halfband(rows, N, W, F, C, D):
-    def taps(h):
+def halfband(rows: Rows, N: int, W: int, F: int, C: int, D: int) -> Made:
+    def taps(h: Callable[[int], int]) -> list[tuple[int, int | Fraction]]:
         ends = [(2 * k, h(k)) for k in range(N)]
         return [*ends, (2 * N - 1, Fraction(2**D, 2)), *((4 * N - 2 - back, tap) for back, tap in ends)]
     return tapped(rows, taps, D, W)
 
 
-def with_gain(W, C, **_):
+def with_gain(W: int, C: int, **_: int) -> Ends:
     return [word(W), word(C)]
 
 
 @model(with_gain)
-def allpass(rows, N, W, F, C, D):
+def allpass(rows: Rows, N: int, W: int, F: int, C: int, D: int) -> Made:
     x, y = [row[0] for row in rows], []
     for n, (_, g) in enumerate(rows):
         y.append(clipped(nearest(past(x, n, N) + Fraction(g * (past(y, n, N) - x[n]), 2**D)), W))
@@ -142,7 +156,7 @@ def allpass(rows, N, W, F, C, D):
 
 
 @model(with_gain)
-def comb(rows, N, W, F, C, D):
+def comb(rows: Rows, N: int, W: int, F: int, C: int, D: int) -> Made:
     y = []
     for n, (x, g) in enumerate(rows):
         y.append(clipped(nearest(x + Fraction(g * past(y, n, N), 2**D)), W))
@@ -152,7 +166,7 @@ def comb(rows, N, W, F, C, D):
 # Rates
 
 
-def boxes(R, N):
+def boxes(R: int, N: int) -> list[int]:
     """The answer of N sums over R words, one after another, to a single 1."""
     answer = [1]
     for _ in range(N):
@@ -160,19 +174,19 @@ def boxes(R, N):
     return answer
 
 
-def filtered(words, answer):
+def filtered(words: Sequence[int], answer: Sequence[int]) -> list[int]:
     return [sum(tap * past(words, n, k) for k, tap in enumerate(answer) if k <= n) for n in range(len(words))]
 
 
 @model(lambda R, N, W, F: [word(W)] * R)
-def cic_down(rows, R, N, W, F):
+def cic_down(rows: Rows, R: int, N: int, W: int, F: int) -> Made:
     words = [x for row in rows for x in row]
     width = W + math.ceil(math.log2(R)) * N
     return [(held(y, width),) for y in filtered(words, boxes(R, N))[R - 1::R]]
 
 
 @model(lambda R, N, W, F: [word(W)])
-def cic_up(rows, R, N, W, F):
+def cic_up(rows: Rows, R: int, N: int, W: int, F: int) -> Made:
     words = [x if k == 0 else 0 for (x,) in rows for k in range(R)]
     width = W + math.ceil(math.log2(R)) * (N - 1)
     made = [held(y, width) for y in filtered(words, boxes(R, N))]
@@ -183,7 +197,7 @@ def cic_up(rows, R, N, W, F):
 
 
 @model(lambda W: [word(W)])
-def saw(rows, W):
+def saw(rows: Rows, W: int) -> Made:
     total, made = 0, []
     for (step,) in rows:
         total += step
@@ -192,18 +206,18 @@ def saw(rows, W):
 
 
 @model(lambda W: [word(W)])
-def sine(rows, W):
+def sine(rows: Rows, W: int) -> Made:
     return [(sine_of(p, W),) for (p,) in rows]
 
 
-def sine_of(p, W):
+def sine_of(p: int, W: int) -> int:
     """The polynomial with its roundings, which is held against the sine itself."""
     turn, places = 2**W, W + 2
     folded = p if abs(p) * 4 <= turn else wrapped(turn // 2 - p, W)
     a = [nearest(Fraction(text) * 2**places) for text in ("1.570794851", "-0.645920978", "0.079487663", "-0.004362476")]
     t = Fraction(folded * 2, 2**(W - 1))
 
-    def cut(number):
+    def cut(number: Fraction) -> Fraction:
         return Fraction(held(nearest(number * 2**places), W + 4), 2**places)
 
     square = cut(t * t)
@@ -217,7 +231,7 @@ def sine_of(p, W):
 
 
 @model(lambda W, C: [word(C)] * 2)
-def rotor(rows, W, C):
+def rotor(rows: Rows, W: int, C: int) -> Made:
     u, v, made = 2**(W - 2), 0, []
     for c, s in rows:
         u, v = (clipped(nearest(Fraction(part, 2**(C - 1))), W) for part in (c * u - s * v, s * u + c * v))
@@ -225,7 +239,7 @@ def rotor(rows, W, C):
     return made
 
 
-def series(above, below, count):
+def series(above: int, below: int, count: int) -> list[int]:
     """The coefficients of a quotient of two polynomials over GF(2), which are numbers with the bit k for x^k."""
     made, rest = [], above
     for k in range(count):
@@ -236,7 +250,7 @@ def series(above, below, count):
 
 
 @model(lambda N, T: [BOOL])
-def pn(rows, N, T):
+def pn(rows: Rows, N: int, T: int) -> Made:
     bits = [1, *series(1 << N - 1 | 1 << T - 1, 1 | 1 << N | 1 << T, len(rows))]
     made, at = [], 0
     for (run,) in rows:
@@ -246,7 +260,7 @@ def pn(rows, N, T):
 
 
 @model(lambda W, F: [BOOL])
-def noise(rows, W, F):
+def noise(rows: Rows, W: int, F: int) -> Made:
     bits = series(1 << 30 | 1 << 27, 1 | 1 << 31 | 1 << 28, len(rows) * W)
     made, at, y = [], 0, 0
     for (run,) in rows:
@@ -261,7 +275,7 @@ def noise(rows, W, F):
 
 
 @model(lambda W, F: [word(W)])
-def softclip(rows, W, F):
+def softclip(rows: Rows, W: int, F: int) -> Made:
     made = []
     for (x,) in rows:
         v = Fraction(clipped(x, F + 1), 2**F)
@@ -274,7 +288,7 @@ def softclip(rows, W, F):
 
 
 @model(lambda W, F, A, R: [word(W)])
-def envelope(rows, W, F, A, R):
+def envelope(rows: Rows, W: int, F: int, A: int, R: int) -> Made:
     e, made = 0, []
     for (x,) in rows:
         distance = min(abs(x), word(W)[1]) * 2**R - e
@@ -289,7 +303,7 @@ STEPS = [(0, 0)] + [(((2 * m + 32) << s) - 33 if s or m else 0, ((2 * m + 33) <<
 
 
 @model(lambda W: [word(W)])
-def mulaw(rows, W):
+def mulaw(rows: Rows, W: int) -> Made:
     made = []
     for (x,) in rows:
         top = math.floor(Fraction(x, 2**(W - 14)))
@@ -300,7 +314,7 @@ def mulaw(rows, W):
 
 
 @model(lambda W: [word(8)])
-def mulaw_decode(rows, W):
+def mulaw_decode(rows: Rows, W: int) -> Made:
     made = []
     for (code,) in rows:
         bits = ~code % 256
@@ -313,7 +327,7 @@ def mulaw_decode(rows, W):
 
 
 @model(lambda W, P: [word(W), word(P)])
-def mixer(rows, W, P):
+def mixer(rows: Rows, W: int, P: int) -> Made:
     phases = saw([(step,) for _, step in rows], P)
     made = []
     for (x, _), (phase,) in zip(rows, phases):
@@ -324,7 +338,7 @@ def mixer(rows, W, P):
 
 
 @model(lambda N, P, I: [BOOL, BOOL])
-def crc(rows, N, P, I):
+def crc(rows: Rows, N: int, P: int, I: int) -> Made:
     """The remainder of the message behind N bits I, which is 0 before the first start."""
     made, message, start = [], 0, 0
     for bit, is_start in rows:
@@ -343,14 +357,14 @@ def crc(rows, N, P, I):
 
 
 @model(lambda W, B, F: [word(W)])
-def dither(rows, W, B, F):
+def dither(rows: Rows, W: int, B: int, F: int) -> Made:
     noises = [0, *(n for n, in noise([(1,)] * len(rows), W - B, 0))]
     return [(clipped(nearest(Fraction(x + now - before, 2**(W - B))), B),)
             for (x,), now, before in zip(rows, noises[1:], noises)]
 
 
 @model(lambda W, F, H: [word(W)])
-def zero_cross(rows, W, F, H):
+def zero_cross(rows: Rows, W: int, F: int, H: int) -> Made:
     is_up, made = False, []
     for (x,) in rows:
         was, is_up = is_up, True if x > H else False if x < -H else is_up
@@ -358,11 +372,11 @@ def zero_cross(rows, W, F, H):
     return made
 
 
-def bits_of(rows):
+def bits_of(rows: Rows) -> int:
     return sum(row[0] << k for k, row in enumerate(rows))
 
 
-def multiplied(one, two):
+def multiplied(one: int, two: int) -> int:
     """The product of two polynomials over GF(2)."""
     made = 0
     for k in range(two.bit_length()):
@@ -371,39 +385,39 @@ def multiplied(one, two):
     return made
 
 
-def rows_of_bits(number, count):
+def rows_of_bits(number: int, count: int) -> Made:
     return [(number >> k & 1,) for k in range(count)]
 
 
 @model(lambda: [BOOL])
-def differential(rows):
+def differential(rows: Rows) -> Made:
     return [(sum(x for (x,) in rows[:n + 1]) % 2,) for n in range(len(rows))]
 
 
 @model(lambda: [BOOL])
-def differential_decode(rows):
+def differential_decode(rows: Rows) -> Made:
     return rows_of_bits(multiplied(bits_of(rows), 0b11), len(rows))
 
 
 @model(lambda N, T: [BOOL])
-def scrambler(rows, N, T):
+def scrambler(rows: Rows, N: int, T: int) -> Made:
     return [(bit,) for bit in series(bits_of(rows), 1 ^ 1 << T ^ 1 << N, len(rows))]
 
 
 @model(lambda N, T: [BOOL])
-def descrambler(rows, N, T):
+def descrambler(rows: Rows, N: int, T: int) -> Made:
     return rows_of_bits(multiplied(bits_of(rows), 1 ^ 1 << T ^ 1 << N), len(rows))
 
 
 @model(lambda K, A, B: [BOOL])
-def convolutional(rows, K, A, B):
+def convolutional(rows: Rows, K: int, A: int, B: int) -> Made:
     """Products with the polynomials, whose bits the numbers have the other way round."""
     first, second = (multiplied(bits_of(rows), int(f"{number:0{K}b}"[::-1], 2)) for number in (A, B))
     return [(first >> k & 1, second >> k & 1) for k in range(len(rows))]
 
 
 @model(lambda D: [BOOL, BOOL])
-def viterbi(rows, D):
+def viterbi(rows: Rows, D: int) -> Made:
     """The likeliest path into each of the states (x, x@1), with all its bits from the first on."""
     paths = {(0, 0): (0, [0] * D), (0, 1): (8, [0] * D), (1, 0): (8, [0] * D), (1, 1): (8, [0] * D)}
     made = []
@@ -422,18 +436,18 @@ def viterbi(rows, D):
 
 
 @model(lambda W: [word(W)] * 2)
-def pulse(rows, W):
+def pulse(rows: Rows, W: int) -> Made:
     phases = saw([(step,) for step, _ in rows], W)
     return [(int(phase < width),) for (phase,), (_, width) in zip(phases, rows)]
 
 
 @model(lambda W, F: [word(W), BOOL])
-def sample_hold(rows, W, F):
+def sample_hold(rows: Rows, W: int, F: int) -> Made:
     return [(next((x for x, take in reversed(rows[:n + 1]) if take), 0),) for n in range(len(rows))]
 
 
 @model(lambda R, W, C, **_: [*[word(W)] * R, word(C)])
-def polyphase_down(rows, R, N, W, F, C, D):
+def polyphase_down(rows: Rows, R: int, N: int, W: int, F: int, C: int, D: int) -> Made:
     words, made = [x for row in rows for x in row[:R]], []
     for n in range(len(rows)):
         at = R * n + R - 1
@@ -443,7 +457,7 @@ def polyphase_down(rows, R, N, W, F, C, D):
 
 
 @model(with_taps)
-def polyphase_up(rows, R, N, W, F, C, D):
+def polyphase_up(rows: Rows, R: int, N: int, W: int, F: int, C: int, D: int) -> Made:
     made = []
     for n in range(len(rows)):
         taps = [past([c for _, c in rows], n, k) for k in range(R * N)]
@@ -454,20 +468,20 @@ def polyphase_up(rows, R, N, W, F, C, D):
 
 
 @model(with_taps)
-def hilbert(rows, N, W, F, C, D):
-    def taps(h):
+def hilbert(rows: Rows, N: int, W: int, F: int, C: int, D: int) -> Made:
+    def taps(h: Callable[[int], int]) -> list[tuple[int, int | Fraction]]:
         return [(2 * k, h(k)) for k in range(N)] + [(4 * N - 2 - 2 * k, -h(k)) for k in range(N)]
     q = tapped(rows, taps, D, W)
     return [(past(rows, n, 2 * N - 1)[0] if n >= 2 * N - 1 else 0, out) for n, (out,) in enumerate(q)]
 
 
 @model(lambda W, K: [word(W)])
-def level(rows, W, K):
+def level(rows: Rows, W: int, K: int) -> Made:
     return onepole([(clipped(nearest(Fraction(x * x, 2**(W - 1))), W),) for (x,) in rows], W, W - 1, K)
 
 
 @model(lambda N, W, C, M: [word(W)] * 2)
-def lms(rows, N, W, C, M):
+def lms(rows: Rows, N: int, W: int, C: int, M: int) -> Made:
     weights, made, x = [0] * N, [], [row[0] for row in rows]
     for n, (_, d) in enumerate(rows):
         y = clipped(nearest(Fraction(sum(w * past(x, n, k) for k, w in enumerate(weights)), 2**(C - 2))), W)
@@ -480,7 +494,7 @@ def lms(rows, N, W, C, M):
 
 
 @model(lambda W, F, C: [word(W), word(C), word(C)])
-def svf(rows, W, F, C):
+def svf(rows: Rows, W: int, F: int, C: int) -> Made:
     low, band, made = 0, 0, []
     for x, f, q in rows:
         low = clipped(nearest(low + Fraction(f * band, 2**(C - 2))), W)
@@ -491,7 +505,7 @@ def svf(rows, W, F, C):
 
 
 @model(with_taps)
-def lattice(rows, N, W, F, C):
+def lattice(rows: Rows, N: int, W: int, F: int, C: int) -> Made:
     g, made = [0] * (N + 1), []
     for n, (x, _) in enumerate(rows):
         k = [past([c for _, c in rows], n, m) for m in range(N)]
@@ -505,7 +519,7 @@ def lattice(rows, N, W, F, C):
 
 
 @model(lambda W, G, K: [word(W)] * 2)
-def agc(rows, W, G, K):
+def agc(rows: Rows, W: int, G: int, K: int) -> Made:
     gain, made = Fraction(1), []
     unit = 2**(W + K - 1)
     most = Fraction(2**(W + K + G - 1) - 1, unit)
@@ -519,7 +533,7 @@ def agc(rows, W, G, K):
 
 
 @model(lambda W, A, D, R: [BOOL, word(W)])
-def adsr(rows, W, A, D, R):
+def adsr(rows: Rows, W: int, A: int, D: int, R: int) -> Made:
     e, is_up, was, made = 0, False, 0, []
     unit = 2**(W + 14)
     top = Fraction(unit) - Fraction(unit, 2**(W - 1))
@@ -537,7 +551,7 @@ def adsr(rows, W, A, D, R):
 
 
 @model(lambda W, T, S: [word(W)] * 2)
-def gate(rows, W, T, S):
+def gate(rows: Rows, W: int, T: int, S: int) -> Made:
     wait, gain, made = 0, Fraction(0), []
     for x, bound in rows:
         size = min(abs(x), word(W)[1])
@@ -556,7 +570,7 @@ A_STEPS = [(2 * m, 2 * m + 1) for m in range(32)] + [((16 + m) << s, ((32 + 2 * 
 
 
 @model(lambda W: [word(W)])
-def alaw(rows, W):
+def alaw(rows: Rows, W: int) -> Made:
     made = []
     for (x,) in rows:
         top = math.floor(Fraction(x, 2**(W - 13)))
@@ -566,7 +580,7 @@ def alaw(rows, W):
 
 
 @model(lambda W: [word(8)])
-def alaw_decode(rows, W):
+def alaw_decode(rows: Rows, W: int) -> Made:
     made = []
     for (code,) in rows:
         plain = code % 256 ^ 0x55
@@ -575,7 +589,7 @@ def alaw_decode(rows, W):
     return made
 
 
-def steps_of(p, q, z, N, W, is_up):
+def steps_of(p: int, q: int, z: int, N: int, W: int, is_up: Callable[[int, int], bool]) -> tuple[int, int, int]:
     """The steps of CORDIC on whole numbers, and the angle that they leave."""
     for k in range(N):
         turn = nearest(Fraction(math.atan(2.0**-k) / math.pi) * 2**(W + 3))
@@ -584,19 +598,20 @@ def steps_of(p, q, z, N, W, is_up):
     return held(p, W + 6), held(q, W + 6), z
 
 
-def growth(N):
+def growth(N: int) -> float:
     return math.prod(math.sqrt(1 + 4.0**-k) for k in range(N))
 
 
 @model(lambda N, W: [word(W)] * 3)
-def cordic(rows, N, W):
+def cordic(rows: Rows, N: int, W: int) -> Made:
     made = []
     for x, y, a in rows:
         is_far = abs(a) > 2**(W - 2)
         sign, b = (-1, wrapped(a + 2**(W - 1), W)) if is_far else (1, a)
         p, q, _ = steps_of(sign * x * 16, sign * y * 16, held(b, W) * 16, N, W, lambda q, z: z >= 0)
         u, v = (held(nearest(Fraction(part, 16)), W + 2) for part in (p, q))
-        ideal = growth(N) * complex(x, y) * complex(math.cos(math.pi * a / 2**(W - 1)), math.sin(math.pi * a / 2**(W - 1)))
+        ideal = growth(N) * complex(x, y) * complex(math.cos(math.pi * a / 2**(W - 1)),
+                                                    math.sin(math.pi * a / 2**(W - 1)))
         if abs(complex(u, v) - ideal) > 4 + 2.0**(1 - N) * abs(ideal):
             raise ArithmeticError(f"{x}, {y} turned by {a} are {u}, {v}")
         made.append((u, v))
@@ -604,7 +619,7 @@ def cordic(rows, N, W):
 
 
 @model(lambda N, W: [word(W)] * 2)
-def polar(rows, N, W):
+def polar(rows: Rows, N: int, W: int) -> Made:
     made = []
     for x, y in rows:
         sign, z = (1, 0) if x >= 0 else (-1, -(2**(W + 3)) if y < 0 else 2**(W + 3))
@@ -621,7 +636,7 @@ def polar(rows, N, W):
 
 
 @model(lambda N, W, F, C: [word(W), word(C)])
-def goertzel(rows, N, W, F, C):
+def goertzel(rows: Rows, N: int, W: int, F: int, C: int) -> Made:
     made, power, more = [], 0, N.bit_length() * 2
     for n, (x, c) in enumerate(rows):
         if n % N == 0:
@@ -635,14 +650,14 @@ def goertzel(rows, N, W, F, C):
 
 
 @model(lambda N, W, F: [word(W)] * 2)
-def divide(rows, N, W, F):
-    def quotient(a, b):
+def divide(rows: Rows, N: int, W: int, F: int) -> Made:
+    def quotient(a: int, b: int) -> int:
         return 2**N - 1 if b <= 0 or a >= b else math.floor(Fraction(max(a, 0) * 2**N, b))
     return [(quotient(a, b),) for a, b in rows]
 
 
 @model(lambda B, W, N: [word(W)] * 2)
-def limiter(rows, B, W, N):
+def limiter(rows: Rows, B: int, W: int, N: int) -> Made:
     ahead, gains, made = 2**B, [], []
     sizes = [min(abs(x), word(W)[1]) for x, _ in rows]
     for n, (_, level) in enumerate(rows):
@@ -658,11 +673,11 @@ def limiter(rows, B, W, N):
     return made
 
 
-def following(W, A, R):
+def following(W: int, A: int, R: int) -> Callable[[int], int]:
     """The level of `envelope`, a word after another."""
     e = 0
 
-    def level(x):
+    def level(x: int) -> int:
         nonlocal e
         distance = min(abs(x), word(W)[1]) * 2**R - e
         e += math.floor(Fraction(distance, 2**(A if distance > 0 else R)))
@@ -671,7 +686,7 @@ def following(W, A, R):
 
 
 @model(lambda W, A, R, S: [word(W)] * 2)
-def compressor(rows, W, A, R, S):
+def compressor(rows: Rows, W: int, A: int, R: int, S: int) -> Made:
     level, gain, made, one = following(W, A, R), 2**(W - 1), [], 2**(W - 1)
     for x, t in rows:
         y = held(nearest(Fraction(gain * x, one)), W)
@@ -680,11 +695,11 @@ def compressor(rows, W, A, R, S):
     return made
 
 
-def smoothing(W, K):
+def smoothing(W: int, K: int) -> Callable[[int], int]:
     """`onepole`, a word after another."""
     total, y = 0, 0
 
-    def smooth(x):
+    def smooth(x: int) -> int:
         nonlocal total, y
         total += x - y
         y = nearest(Fraction(total, 2**K))
@@ -693,7 +708,7 @@ def smoothing(W, K):
 
 
 @model(lambda W, P, K, A, B: [word(W), word(P)])
-def costas(rows, W, P, K, A, B):
+def costas(rows: Rows, W: int, P: int, K: int, A: int, B: int) -> Made:
     arms, made = (smoothing(W, K), smoothing(W, K)), []
     phase, turns, error = 0, 0, 0
     for x, step in rows:
@@ -708,7 +723,7 @@ def costas(rows, W, P, K, A, B):
 
 
 @model(lambda W, L, A, B: [word(W)])
-def gardner(rows, W, L, A, B):
+def gardner(rows: Rows, W: int, L: int, A: int, B: int) -> Made:
     unit, one = 2**30, 2**(W - 1)
     count, stays, error, is_symbol, made = 0, 0, 0, False, []
     before, symbol, half = 0, 0, 0
@@ -734,7 +749,7 @@ def gardner(rows, W, L, A, B):
 
 
 @model(lambda N, W, C, M: [word(W)] * 2)
-def nlms(rows, N, W, C, M):
+def nlms(rows: Rows, N: int, W: int, C: int, M: int) -> Made:
     weights, made, x, one = [0] * N, [], [row[0] for row in rows], 2**(W - 1)
     for n, (_, d) in enumerate(rows):
         y = clipped(nearest(Fraction(sum(w * past(x, n, k) for k, w in enumerate(weights)), 2**(C - 2))), W)

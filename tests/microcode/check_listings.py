@@ -13,6 +13,7 @@ import random
 import subprocess
 import sys
 import tempfile
+from collections.abc import Iterator, Sequence
 from pathlib import Path
 
 from images import directed_images, random_images
@@ -27,7 +28,7 @@ RANDOM, ROWS, SMALL, SKIPPED = 60, 6, 60_000, 77
 HALF = 1 << 39
 
 
-def ends_of_ranges():
+def ends_of_ranges() -> bytes:
     """Each number at both ends of its range, in an image of 16 inputs and outputs, 32 units and 32 buses."""
     units = [unit(kind, 8 if number < 16 else 1, 8 if number < 8 else 1, cells=cells_of(number),
                   ram=30 if number > 15 else 6) for number, kind in enumerate(list(KINDS) * 4)]
@@ -39,11 +40,11 @@ def ends_of_ranges():
     return image(4096, 1, [0, 1, 40] * 5 + [1], 16, units, 32, [first] + [word()] * 4094 + [last])
 
 
-def cells_of(number):
+def cells_of(number: int) -> list[int]:
     return [0] * 65535 + [-HALF] if number == 6 else [0] * (number + 1)
 
 
-def images():
+def images() -> Iterator[tuple[str, bytes]]:
     """Microcode of version 1 with its name."""
     for file in sorted((ROOT / "tests").glob("*/*.mic")):
         yield str(file.relative_to(ROOT)), file.read_bytes()
@@ -55,26 +56,27 @@ def images():
     yield "the ends of ranges", ends_of_ranges()
 
 
-def samples_for(inputs):
+def samples_for(inputs: Sequence[int]) -> str:
     """Rows of words of these widths, the same each time."""
     rng = random.Random(str(inputs))
     return "".join(",".join(str(word_of(rng, width)) for width in inputs) + "\n" for _ in range(ROWS))
 
 
-def word_of(rng, width):
+def word_of(rng: random.Random, width: int) -> int:
     half = 1 << max(width - 1, 0)
     return rng.choice([-half, half - 1, rng.randrange(-half, half)]) if width else rng.randrange(2)
 
 
-def ran(silc, folder, *words):
+def ran(silc: Path, folder: Path, *words: str) -> tuple[int, str, str, str | None]:
     (folder / "OUT").unlink(missing_ok=True)
     done = subprocess.run([silc, *words], cwd=folder, stdin=subprocess.DEVNULL, capture_output=True, text=True)
     out = folder / "OUT"
     return done.returncode, done.stdout, done.stderr, out.read_text() if out.exists() else None
 
 
-def faults_of(silc, folder, data):
-    """How the program reads the image of these bytes otherwise than python/silc/micro_file, or otherwise in one version."""
+def faults_of(silc: Path, folder: Path, data: bytes) -> Iterator[str]:
+    """How the program reads the image of these bytes otherwise than python/silc/micro_file, or otherwise in one
+    version."""
     made, runs = micro_file.image_of(data), []
     (folder / "SAMPLES").write_text(samples_for(made.inputs))
     for version in micro_file.VERSIONS:
@@ -87,7 +89,7 @@ def faults_of(silc, folder, data):
         yield f"sim ends with {runs[0][0]}, {runs[0][2]} and {runs[1][0]}, {runs[1][2]}, or the rows are others"
 
 
-def main(words):
+def main(words: list[str]) -> int:
     if words and (len(words) != 2 or words[0] != "--silc"):
         print(__doc__, file=sys.stderr)
         return 2

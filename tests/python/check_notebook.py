@@ -1,11 +1,11 @@
 #!/usr/bin/env python3
-"""Whether the cells of docs/notebook.ipynb give what stands below them. It runs their code in order, through the package
-alone: no Jupyter is needed.
+"""Whether the cells of docs/notebook.ipynb give what stands below them. It runs their code in order, through the
+package alone: no Jupyter is needed.
 
 usage: tests/python/check_notebook.py [--write]
 
-With --write it puts what they give into the notebook. It runs the built `silc` and `silc_show`, or those that `SILC` and
-`SILC_SHOW` name, with NumPy or without.
+With --write it puts what they give into the notebook. It runs the built `silc` and `silc_show`, or those that `SILC`
+and `SILC_SHOW` name, with NumPy or without.
 """
 import ast
 import contextlib

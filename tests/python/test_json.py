@@ -28,13 +28,15 @@ class Printed(unittest.TestCase):
         self.room.cleanup()
 
     def printed(self, *words: object, status: int = 0) -> object:
-        done = subprocess.run([TOP / "tools" / str(words[0]), *words[1:]], capture_output=True, text=True, cwd=self.room.name)
+        done = subprocess.run([TOP / "tools" / str(words[0]), *words[1:]], capture_output=True, text=True,
+                              cwd=self.room.name)
         self.assertEqual(done.returncode, status, done.stderr)
         return json.loads(done.stdout)
 
     def test_plan(self) -> None:
         made = self.printed("explain", "--json", "schedule", DATA / "eq.sil", DATA / "processor.toml")
-        self.assertEqual(made, json.loads(json.dumps(silc.Source(DATA / "eq.sil").plan(DATA / "processor.toml").as_json())))
+        self.assertEqual(made,
+                         json.loads(json.dumps(silc.Source(DATA / "eq.sil").plan(DATA / "processor.toml").as_json())))
         self.assertLessEqual({*made, *made["operations"][0]}, keys_of("a plan"))
 
     def test_image(self) -> None:
@@ -47,7 +49,8 @@ class Printed(unittest.TestCase):
         self.assertEqual((made["status"], made["said"]), (4, "line 1: bad byte"))
 
     def test_values(self) -> None:
-        self.assertEqual(self.printed("values", "--json", DATA / "eq.sil", self.samples, "w[0]"), {"w[0]": [32768, -32768]})
+        self.assertEqual(self.printed("values", "--json", DATA / "eq.sil", self.samples, "w[0]"),
+                         {"w[0]": [32768, -32768]})
 
     def test_ranges(self) -> None:
         made = self.printed("ranges", "--json", DATA / "eq.sil", self.samples)

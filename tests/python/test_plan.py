@@ -4,7 +4,9 @@ import math
 import tempfile
 import tomllib
 import unittest
+from collections.abc import Callable
 from pathlib import Path
+from typing import Any
 
 import silc
 from silc.hardware.netlist import NoCore
@@ -46,6 +48,35 @@ class Plans(unittest.TestCase):
         self.assertEqual(silc.Source(text=INCREMENT).plan(tree).text, silc.Source(text=INCREMENT).plan(PLAIN).text)
 
 
+class Frames(unittest.TestCase):
+    def setUp(self) -> None:
+        self.source = silc.Source(text="func main(x : fix<8,0>) y : fix<8,0> = begin y = x + x@1; end;")
+        self.datapath = tomllib.loads(PLAIN.read_text()) | {"hold": 1}
+
+    def test_down(self) -> None:
+        microcode = self.source.frame(self.datapath, 2, down=[0])
+        assert microcode.origin
+        self.assertEqual(list(map(str, microcode.origin.inputs)), ["x.0 : fix<8,0>", "x.1 : fix<8,0>"])
+        self.assertEqual([port.name for port in microcode.origin.outputs], ["y"])
+        self.assertEqual(microcode.run([(1, 2), (3, 4), (5, 6)]), [1, 5, 9])
+        self.assertEqual(microcode.run([(1.0, 2.4)], real=True), [1.0])
+
+    def test_up(self) -> None:
+        microcode = self.source.frame(self.datapath, 2, up={0})
+        self.assertEqual(microcode.run([4, 9]), [(4, 4), (9, 9)])
+        self.assertEqual(microcode.run([4.0], real=True), [(4.0, 4.0)])
+
+    def test_one_sample(self) -> None:
+        self.assertEqual(self.source.frame(self.datapath).data, self.source.plan(self.datapath).microcode.data)
+
+    def test_refused(self) -> None:
+        for phases, status in ((2, 15), (9, 2)):
+            with self.assertRaises(silc.Refused) as caught:
+                self.source.frame(self.datapath, phases, down=[1])
+            self.assertEqual(caught.exception.status, status)
+            self.assertTrue(caught.exception.cure)
+
+
 class Runs(unittest.TestCase):
     def setUp(self) -> None:
         self.source = silc.Source(text=INCREMENT)
@@ -70,7 +101,8 @@ class Runs(unittest.TestCase):
     def test_core(self) -> None:
         with tempfile.TemporaryDirectory() as folder:
             names = self.microcode.verilog(folder, name="increment")
-            self.assertEqual(names, ["increment.map", "increment.v", "increment_code.hex", "increment_tb.v", "silc_parts.v"])
+            self.assertEqual(names,
+                             ["increment.map", "increment.v", "increment_code.hex", "increment_tb.v", "silc_parts.v"])
             self.assertEqual(self.microcode.verilog(folder, name="increment"), names)
             Path(folder, "increment.v").write_text("mine")
             with self.assertRaises(NotMade):
@@ -96,13 +128,14 @@ class Many(unittest.TestCase):
         self.assertIn("<svg", found._repr_svg_())
         json.dumps(found.as_json())
 
-    def sweep(self, as_rows) -> None:
+    def sweep(self, as_rows: Callable[[list[int]], Any]) -> None:
         rows = [int(8000000 * math.sin(number / 9)) for number in range(300)]
         finest = silc.Source(text=ROUNDED.replace("{W}", "30").replace("{F}", "28"))
         points = silc.sweep(ROUNDED, {"W": range(12, 15), "F": (8, 10, 14)}, as_rows(rows), against=finest, jobs=2)
         self.assertEqual([point.choice for point in points],
                          [{"W": width, "F": places} for width in (12, 13, 14) for places in (8, 10, 14)])
-        self.assertEqual([bool(point.refused) for point in points], [False, False, True, False, False, True, False, False, False])
+        self.assertEqual([bool(point.refused) for point in points],
+                         [False, False, True, False, False, True, False, False, False])
         self.assertEqual(points[2].refused.status, 4)
         self.assertTrue(points[0].ratio < points[1].ratio < 70)
         self.assertEqual(points[0].ratio, points[3].ratio)

@@ -1,7 +1,8 @@
-"""Sources from Python: rows as lists and arrays, streams, inner words, and what is refused. Expected rows are worked out by
-hand, or stand in the examples."""
+"""Sources from Python: rows as lists and arrays, streams, inner words, and what is refused. Expected rows are worked
+out by hand, or stand in the examples."""
 import math
 import unittest
+from collections.abc import Callable, Iterator
 from pathlib import Path
 
 import silc
@@ -59,7 +60,7 @@ class Rows(unittest.TestCase):
     def test_a_stream_asks_for_no_block_ahead(self) -> None:
         asked = []
 
-        def blocks():
+        def blocks() -> Iterator[list[int]]:
             for number in range(3):
                 asked.append(number)
                 yield [number]
@@ -70,7 +71,7 @@ class Rows(unittest.TestCase):
         stream.close()
 
     def test_a_fault_of_the_blocks_comes_through(self) -> None:
-        def blocks():
+        def blocks() -> Iterator[list[int]]:
             yield [1]
             raise KeyError("mine")
 
@@ -104,15 +105,17 @@ class Arrays(unittest.TestCase):
     def test_streams_and_inner_words(self) -> None:
         numpy = words.numpy()
         source = silc.Source(text=INCREMENT)
-        self.assertEqual([block.tolist() for block in source.stream([numpy.array([1, 2]), numpy.array([3])])], [[2, 3], [4]])
+        self.assertEqual([block.tolist() for block in source.stream([numpy.array([1, 2]), numpy.array([3])])],
+                         [[2, 3], [4]])
         self.assertEqual(source.values(numpy.array([1, 2]), "y")["y"].tolist(), [2, 3])
 
 
 class Inner(unittest.TestCase):
     def test_names(self) -> None:
         found = silc.Source(DATA / "eq.sil").values([16384, 0], ["w[*]", "e"])
-        self.assertEqual(found, {"w[0]": [32768, 0], "w[1]": [16384, 16384], "w[2]": [8192, 16384], "w[3]": [4096, 12288],
-                                 "e": [4096, 12288]})
+        self.assertEqual(found,
+                         {"w[0]": [32768, 0], "w[1]": [16384, 16384], "w[2]": [8192, 16384], "w[3]": [4096, 12288],
+                          "e": [4096, 12288]})
 
     def test_no_such_name(self) -> None:
         with self.assertRaisesRegex(KeyError, "no element is called z"):
@@ -129,7 +132,8 @@ class Measures(unittest.TestCase):
 
     def test_ranges(self) -> None:
         found = {each.name: each for each in silc.Source(text=INCREMENT).ranges([126, 127])}
-        self.assertEqual((found["y"].least, found["y"].greatest, found["y"].said), (127, 128, "wraps at sample 2, 1 in all"))
+        self.assertEqual((found["y"].least, found["y"].greatest, found["y"].said),
+                         (127, 128, "wraps at sample 2, 1 in all"))
         bounds = {each.name: each for each in silc.Source(text=INCREMENT).ranges(seconds=1)}
         self.assertEqual((bounds["y"].least, bounds["y"].greatest), (-128, 128))
 
@@ -145,7 +149,7 @@ class Measures(unittest.TestCase):
 
 
 class Refusals(unittest.TestCase):
-    def refused(self, run) -> silc.Refused:
+    def refused(self, run: Callable[[], object]) -> silc.Refused:
         with self.assertRaises(silc.Refused) as caught:
             run()
         return caught.exception

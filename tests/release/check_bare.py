@@ -3,9 +3,10 @@
 
 usage: tests/release/check_bare.py [ROOT]
 
-It packs the built programs, or those that `SILC` and `SILC_SHOW` name, and installs the package in a root that debootstrap makes,
-with Python beside what is essential, or in a copy of the root ROOT that was made so before. It needs root, and to make a root
-the network and some minutes. Without debootstrap, dpkg-deb or the rights it is skipped, and ends with 77; without a program 70.
+It packs the built programs, or those that `SILC` and `SILC_SHOW` name, and installs the package in a root that
+debootstrap makes, with Python beside what is essential, or in a copy of the root ROOT that was made so before. It needs
+root, and to make a root the network and some minutes. Without debootstrap, dpkg-deb or the rights it is skipped, and
+ends with 77; without a program 70.
 """
 import os
 import shlex
@@ -13,17 +14,17 @@ import shutil
 import subprocess
 import sys
 import tempfile
+from collections.abc import Iterator
 from pathlib import Path
 
 from check_session import PICTURE, SKIPPED, released, tutorial
-from copies import ROOT  # noqa: F401  (sets the way to the page's functions)
 from check_tutorial import MARK, faults_of, script_of
 
 USER, HOME = "1234:1234", "/home/user"
 PATH = "/usr/local/sbin:/usr/local/bin:/usr/sbin:/usr/bin:/sbin:/bin"
 
 
-def lacking(words):
+def lacking(words: list[str]) -> str | None:
     """What is not there that makes a root, with what brings it."""
     if os.geteuid() != 0:
         return "only root makes a root and goes into it"
@@ -36,14 +37,14 @@ def lacking(words):
 ENTER = 'mount -t proc proc "$0/proc" 2>/dev/null; exec chroot "$@"'
 
 
-def inside(root, *words, user="0:0"):
+def inside(root: Path, *words: str | Path, user: str = "0:0") -> subprocess.CompletedProcess[str]:
     """Runs a command in the root."""
-    return subprocess.run(["unshare", "--mount", "sh", "-c", ENTER, root, f"--userspec={user}", root, *words], text=True,
-                          stdin=subprocess.DEVNULL, stdout=subprocess.PIPE, stderr=subprocess.STDOUT,
+    return subprocess.run(["unshare", "--mount", "sh", "-c", ENTER, root, f"--userspec={user}", root, *words],
+                          text=True, stdin=subprocess.DEVNULL, stdout=subprocess.PIPE, stderr=subprocess.STDOUT,
                           env={"PATH": PATH, "HOME": HOME, "LC_ALL": "C.UTF-8"})
 
 
-def made_root(root, words):
+def made_root(root: Path, words: list[str]) -> None:
     if words:
         subprocess.run(["cp", "-a", f"{words[0]}/.", root], check=True)
     else:
@@ -53,7 +54,7 @@ def made_root(root, words):
     os.chown(root / HOME.strip("/"), *map(int, USER.split(":")))
 
 
-def page_faults(root):
+def page_faults(root: Path) -> Iterator[str]:
     """What the commands of the page give there in another way, for a user who has nothing."""
     page, blocks, shown = tutorial()
     done = inside(root, "bash", "-c", f"cd {shlex.quote(HOME)}\n{script_of(blocks)}pwd", user=USER)
@@ -62,7 +63,7 @@ def page_faults(root):
     yield from faults_of(page, shown, outputs, {PICTURE: picture.read_text() if picture.is_file() else ""})
 
 
-def faults_in(root, package):
+def faults_in(root: Path, package: Path) -> Iterator[str]:
     """Installs the package, runs the page and takes the package away."""
     if shutil.which("rt", path=":".join(f"{root}{folder}" for folder in PATH.split(":"))):
         yield "the toolchain is there"
@@ -84,7 +85,7 @@ def faults_in(root, package):
         yield f"dpkg -r ends with {removed.returncode} and leaves {left}: {removed.stdout}"
 
 
-def main(words):
+def main(words: list[str]) -> int:
     if len(words) > 1 or words[:1] == ["--help"]:
         print(__doc__, file=sys.stderr)
         return 2

@@ -1,10 +1,11 @@
 #!/usr/bin/env python3
-"""Whether tools/release packs what it should and nothing else, gives equal bytes for equal inputs, and refuses a program that is
-not made from the sources at hand.
+"""Whether tools/release packs what it should and nothing else, gives equal bytes for equal inputs, and refuses a
+program that is not made from the sources at hand.
 
 usage: tests/release/check_release.py
 
-It packs a copy of this repository, whose programs are played by scripts. Without dpkg-deb it is skipped, and ends with 77.
+It packs a copy of this repository, whose programs are played by scripts. Without dpkg-deb it is skipped, and ends with
+77.
 """
 import hashlib
 import os
@@ -16,7 +17,7 @@ import tempfile
 import time
 from pathlib import Path
 
-from copies import LINE, ROOT, copy_of, mark, module_of, users
+from copies import LINE, ROOT, copy_of, module_of, users
 
 SKIPPED = 77
 VERSION = "7.8.9"
@@ -24,17 +25,18 @@ PLAYED = f'#!/bin/sh\necho "silc {VERSION}"\n'
 NAMES = {f"silc-{VERSION}-linux-x86_64.tar.gz", f"silc_{VERSION}_amd64.deb", "SHA256SUMS"}
 TOP = f"silc-{VERSION}"
 # What a user needs, and what is no user's.
-WANTED = ("silc", "RELEASE", "README.md", "crates/silc_main/out/silc_main", "crates/silc_show/out/silc_show", "docs/TUTORIAL.md",
-          "docs/pictures/smooth.svg", "completions/silc.bash", "completions/_silc", "editor/lsp/silc-lsp", "hardware/silc_parts.v",
-          "examples/biquads/biquads.sil", "examples/pipeline")
-UNWANTED = ("tools/build", "tools/release", "tools/trusted", "tools/antt/modules.py", "tests/all", "crates.txt", "examples/run",
-            "crates/low/src/lib.rt", "docs/junk.txt")
+WANTED = ("silc", "RELEASE", "README.md", "crates/silc_main/out/silc_main", "crates/silc_show/out/silc_show",
+          "docs/TUTORIAL.md",
+          "docs/pictures/smooth.svg", "completions/silc.bash", "completions/_silc", "editor/lsp/silc-lsp",
+          "hardware/silc_parts.v", "examples/biquads/biquads.sil", "examples/pipeline")
+UNWANTED = ("tools/build", "tools/release", "tools/trusted", "tools/antt/modules.py", "tests/all", "crates.txt",
+            "examples/run", "crates/low/src/lib.rt", "docs/junk.txt")
 
 
 class Room:
     """A copy of the repository, and what has been seen to be wrong there."""
 
-    def __init__(self, folder):
+    def __init__(self, folder: Path) -> None:
         self.folder, self.top, self.faults = folder, folder / "top", []
         script = folder / "script"
         script.write_text(PLAYED)
@@ -44,26 +46,27 @@ class Room:
         (self.top / "docs" / "__pycache__").mkdir()
         (self.top / "docs" / "__pycache__" / "junk.pyc").touch()
 
-    def release(self, out, **more):
+    def release(self, out: str, **more: str) -> tuple[subprocess.CompletedProcess[str], dict[str, bytes]]:
         """Packs into a folder of this name, and gives how that ended with the files that are there."""
-        done = subprocess.run([self.top / "tools" / "release", self.folder / out], env=users(self.folder, **more), cwd=self.folder,
-                              stdin=subprocess.DEVNULL, capture_output=True, text=True)
+        done = subprocess.run([self.top / "tools" / "release", self.folder / out], env=users(self.folder, **more),
+                              cwd=self.folder, stdin=subprocess.DEVNULL, capture_output=True, text=True)
         made = {path.name: path.read_bytes() for path in (self.folder / out).glob("*")}
         return done, made
 
-    def expect(self, holds, what):
+    def expect(self, holds: object, what: str) -> None:
         if not holds:
             self.faults.append(what)
 
 
-def check_refusals(room):
+def check_refusals(room: Room) -> None:
     """No program, none that says of what it is made, one of other sources, and programs of two toolchains."""
     kept = room.top / "crates" / "silc_main" / "out"
     source = room.top / "crates" / "low" / "src" / "lib.rt"
 
-    def refused(what, said="silc_main is not made from the sources at hand"):
+    def refused(what: str, said: str = "silc_main is not made from the sources at hand") -> None:
         done, made = room.release("refused")
-        room.expect(done.returncode == 1 and said in done.stderr and not made, f"{what}: {done.returncode} {done.stderr!r} {set(made)}")
+        room.expect(done.returncode == 1 and said in done.stderr and not made,
+                    f"{what}: {done.returncode} {done.stderr!r} {set(made)}")
 
     for file in ("silc_main", "silc_main.made-from"):
         (kept / file).rename(room.folder / "away")
@@ -83,7 +86,7 @@ def check_refusals(room):
     shutil.copy2(room.programs["silc_main"], kept / "silc_main")
 
 
-def check_bytes(room):
+def check_bytes(room: Room) -> None:
     """The same inputs, with other times, rights and places in their folders, and read under another mask and zone."""
     first, made = room.release("first")
     room.expect(first.returncode == 0 and set(made) == NAMES, f"{first.returncode} {first.stderr!r} {set(made)}")
@@ -105,24 +108,26 @@ def check_bytes(room):
     for name in sorted(NAMES):
         room.expect(made.get(name) == others.get(name), f"{name} has other bytes: {again.stderr!r}")
     later, others = room.release("later", SOURCE_DATE_EPOCH="1700000000")
-    room.expect(others.keys() == NAMES and all(others[name] != made[name] for name in NAMES), f"another time: {later.stderr!r}")
+    room.expect(others.keys() == NAMES and all(others[name] != made[name] for name in NAMES),
+                f"another time: {later.stderr!r}")
     for line in made["SHA256SUMS"].decode().splitlines():
         told, name = line.split("  ")
         room.expect(hashlib.sha256(made[name]).hexdigest() == told, f"the sum of {name} is another")
     room.expect(made["SHA256SUMS"].decode().count("\n") == len(NAMES) - 1, "there are other sums")
 
 
-def check_tarball(room):
+def check_tarball(room: Room) -> None:
     """What is packed, whose it is, and what its RELEASE says."""
     with tarfile.open(room.folder / "first" / f"{TOP}-linux-x86_64.tar.gz") as tar:
         members = tar.getmembers()
         held = {member.name.removeprefix(f"{TOP}/"): member for member in members}
         told = tar.extractfile(held["RELEASE"]).read().decode()
         tar.extractall(room.folder / "unpacked", filter="data")
-    room.expect([member.name for member in members] == sorted((member.name for member in members), key=lambda name: name.split("/")),
+    room.expect([member.name for member in members]
+                == sorted((member.name for member in members), key=lambda name: name.split("/")),
                 "the names are in no order")
-    room.expect({(member.uid, member.gid, member.uname, member.mtime) for member in members} == {(0, 0, "root", members[0].mtime)},
-                "owners or times differ")
+    room.expect({(member.uid, member.gid, member.uname, member.mtime) for member in members}
+                == {(0, 0, "root", members[0].mtime)}, "owners or times differ")
     room.expect({member.mode for member in members if not member.issym()} == {0o644, 0o755}, "there are other rights")
     release = module_of(ROOT / "tools" / "release")
     words = {name for name in os.listdir(room.top / "tools") if (room.top / "tools" / name).is_file()}
@@ -136,34 +141,40 @@ def check_tarball(room):
     for line in (f"silc {VERSION}", f"toolchain: {made_from[0]}", f"sources of silc_main: {made_from[1]}",
                  f"program silc_show: {hashlib.sha256(PLAYED.encode()).hexdigest()}", "commit: unknown"):
         room.expect(line in told.splitlines(), f"RELEASE has no line {line!r}: {told!r}")
-    said = subprocess.run([room.folder / "unpacked" / TOP / "silc", "--version"], env=users(room.folder), capture_output=True, text=True)
+    said = subprocess.run([room.folder / "unpacked" / TOP / "silc", "--version"], env=users(room.folder),
+                          capture_output=True, text=True)
     room.expect(said.stdout == f"silc {VERSION}\n", f"what is unpacked says {said.stdout!r} {said.stderr!r}")
 
 
-def check_package(room):
+def check_package(room: Room) -> None:
     """The package has the files of the tarball, and its version is what the program says."""
     deb = room.folder / "first" / f"silc_{VERSION}_amd64.deb"
     field = subprocess.run(["dpkg-deb", "-f", deb, "Version", "Package"], capture_output=True, text=True).stdout
-    room.expect(field == f"Version: {VERSION}\nPackage: silc\n" or field == f"Package: silc\nVersion: {VERSION}\n", f"fields: {field!r}")
+    room.expect(field == f"Version: {VERSION}\nPackage: silc\n" or field == f"Package: silc\nVersion: {VERSION}\n",
+                f"fields: {field!r}")
     tree = room.folder / "installed"
     subprocess.run(["dpkg-deb", "-x", deb, tree], check=True)
-    same = subprocess.run(["diff", "-r", tree / "usr" / "lib" / "silc", room.folder / "unpacked" / TOP], capture_output=True, text=True)
+    same = subprocess.run(["diff", "-r", tree / "usr" / "lib" / "silc", room.folder / "unpacked" / TOP],
+                          capture_output=True, text=True)
     room.expect(same.returncode == 0, f"the package and the tarball differ: {same.stdout[:500]!r}")
-    for link in ("usr/bin/silc", "usr/share/bash-completion/completions/silc", "usr/share/zsh/vendor-completions/_silc"):
+    for link in ("usr/bin/silc", "usr/share/bash-completion/completions/silc",
+                 "usr/share/zsh/vendor-completions/_silc"):
         room.expect((tree / link).is_symlink() and (tree / link).exists(), f"{link} leads nowhere")
-    said = subprocess.run([tree / "usr" / "bin" / "silc", "--version"], env=users(room.folder), capture_output=True, text=True)
+    said = subprocess.run([tree / "usr" / "bin" / "silc", "--version"], env=users(room.folder), capture_output=True,
+                          text=True)
     room.expect(said.stdout == f"silc {VERSION}\n", f"what is installed says {said.stdout!r} {said.stderr!r}")
     listed = subprocess.run(["dpkg-deb", "-c", deb], capture_output=True, text=True).stdout.splitlines()
     room.expect({line.split()[1] for line in listed} == {"root/root"}, "the package has other owners")
 
 
-def check_git(room):
+def check_git(room: Room) -> None:
     """Of a repository of git's what it knows is packed, with the time of the commit; and changes are told."""
     git = ["git", "-C", room.top, "-c", "user.name=x", "-c", "user.email=x", "-c", "commit.gpgsign=false"]
     date = {"GIT_COMMITTER_DATE": "1600000000 +0000", "GIT_AUTHOR_DATE": "1600000000 +0000"}
     for words in (["init", "-q"], ["add", "-A", "-f", "--", ":!docs/__pycache__"], ["commit", "-qm", "x"]):
         subprocess.run([*git, *words], check=True, env=users(room.folder, **date), stdin=subprocess.DEVNULL)
-    commit = subprocess.run([*git, "rev-parse", "HEAD"], capture_output=True, text=True, env=users(room.folder)).stdout.strip()
+    commit = subprocess.run([*git, "rev-parse", "HEAD"], capture_output=True, text=True,
+                            env=users(room.folder)).stdout.strip()
     (room.top / "docs" / "junk.txt").touch()
     for out, told in (("clean", f"commit: {commit}\n"), ("changed", f"commit: {commit}, with changes\n")):
         done, made = room.release(out)
@@ -171,11 +182,12 @@ def check_git(room):
         with tarfile.open(room.folder / out / f"{TOP}-linux-x86_64.tar.gz") as tar:
             room.expect(f"{TOP}/docs/junk.txt" not in tar.getnames(), "a file is packed that git does not know")
             room.expect(tar.getmember(f"{TOP}/silc").mtime == 1_600_000_000, "the time is not that of the commit")
-            room.expect(tar.extractfile(f"{TOP}/RELEASE").read().decode().endswith(told), f"RELEASE does not end with {told!r}")
+            room.expect(tar.extractfile(f"{TOP}/RELEASE").read().decode().endswith(told),
+                        f"RELEASE does not end with {told!r}")
         (room.top / "README.md").write_text("other")
 
 
-def main():
+def main() -> int:
     if not shutil.which("dpkg-deb"):
         print("release: skipped, since there is no dpkg-deb: apt-get install dpkg")
         return SKIPPED

@@ -1,30 +1,31 @@
 #!/usr/bin/env python3
-"""Whether a user who has only what is released gets what docs/TUTORIAL.md shows: the tarball is unpacked, and the commands of the
-page run in an empty HOME, with neither the toolchain nor this repository in the PATH.
+"""Whether a user who has only what is released gets what docs/TUTORIAL.md shows: the tarball is unpacked, and the
+commands of the page run in an empty HOME, with neither the toolchain nor this repository in the PATH.
 
 usage: tests/release/check_session.py
 
-It packs the built programs, or those that `SILC` and `SILC_SHOW` name, with what this repository has. The exit status is 70
-where a program is not built, and 77 without dpkg-deb.
+It packs the built programs, or those that `SILC` and `SILC_SHOW` name, with what this repository has. The exit status
+is 70 where a program is not built, and 77 without dpkg-deb.
 """
 import shutil
 import subprocess
 import sys
 import tarfile
 import tempfile
+from collections.abc import Iterator
 from pathlib import Path
 
 from copies import ROOT, built, copy_of, users
 
 sys.path.insert(0, str(ROOT / "tests"))
-from check_tutorial import BLOCK, CONSOLE, carry_out, commands_in, faults_of  # noqa: E402
+from check_tutorial import BLOCK, CONSOLE, Command, carry_out, commands_in, faults_of
 
 NOT_BUILT, SKIPPED = 70, 77
 PICTURE = "smooth.svg"
 RECORD = Path(".local/state/silc/made")
 
 
-def released(room):
+def released(room: Path) -> dict[str, Path] | int:
     """The files of a release of these programs, by their endings, or why there are none."""
     programs, missing = built()
     if missing:
@@ -39,14 +40,15 @@ def released(room):
     return {path.suffix: path for path in (room / "release").iterdir()}
 
 
-def tutorial():
+def tutorial() -> tuple[Path, list[tuple[str, ...]], list[Command]]:
     """The page, its blocks, and the commands with what it shows of them."""
     page = ROOT / "docs" / "TUTORIAL.md"
     blocks = [found.groups() for found in BLOCK.finditer(page.read_text())]
-    return page, blocks, [command for language, _, part in blocks if language == CONSOLE for command in commands_in(part)]
+    return page, blocks, [command for language, _, part in blocks if language == CONSOLE
+                          for command in commands_in(part)]
 
 
-def session_faults(top, room):
+def session_faults(top: Path, room: Path) -> Iterator[str]:
     """What the commands give in another way than the page shows, where `silc` is that of a folder."""
     page, blocks, shown = tutorial()
     outputs, last = carry_out(blocks, top, users(room))
@@ -54,20 +56,20 @@ def session_faults(top, room):
     yield from faults_of(page, shown, outputs, drawn)
 
 
-def trace_faults(top):
+def trace_faults(top: Path) -> Iterator[str]:
     """The files that name this repository's folder."""
     for path in top.rglob("*"):
         if path.is_file() and f"{ROOT}/".encode() in path.read_bytes():
             yield f"{path.relative_to(top)} names {ROOT}"
 
 
-def left_faults(home):
+def left_faults(home: Path) -> list[str]:
     """The files that the commands leave in HOME, but for the record of what tools made."""
     left = {path.relative_to(home) for path in home.rglob("*") if not path.is_dir()}
     return [f"the session leaves {path} in HOME" for path in sorted(left - {RECORD})]
 
 
-def main():
+def main() -> int:
     with tempfile.TemporaryDirectory(prefix="silc-session-") as folder:
         room = Path(folder).resolve()
         made = released(room)

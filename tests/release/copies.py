@@ -1,11 +1,14 @@
-"""A copy of what tools/release reads of the repository, with crates that are only named, and programs that are given."""
+"""A copy of what tools/release reads of the repository, with crates that are only named, and programs that are
+given."""
 import os
 import shutil
 import sys
 from collections import Counter
+from collections.abc import Iterable
 from importlib.machinery import SourceFileLoader
 from importlib.util import module_from_spec, spec_from_loader
 from pathlib import Path
+from typing import Any
 
 ROOT = Path(__file__).resolve().parent.parent.parent
 # The folders with many files, and those of their files that are not left out.
@@ -13,7 +16,7 @@ LARGE, WANTED = {"docs", "examples", "tests"}, {"TUTORIAL.md", "smooth.svg", "bi
 LINE = "a line of the toolchain"
 
 
-def module_of(script):
+def module_of(script: Path) -> Any:
     """The functions of a script of tools/, of this repository or of a copy."""
     loader = SourceFileLoader(script.name, str(script))
     module = module_from_spec(spec_from_loader(script.name, loader))
@@ -22,9 +25,9 @@ def module_of(script):
     return module
 
 
-def copy_of(top, programs, most=None):
-    """Makes the copy, in which the programs are made from the sources at hand; each has a crate of its own, above one. Of a
-    folder of files no more than so many may be there."""
+def copy_of(top: Path, programs: dict[str, Path], most: int | None = None) -> None:
+    """Makes the copy, in which the programs are made from the sources at hand; each has a crate of its own, above one.
+    Of a folder of files no more than so many may be there."""
     release = module_of(ROOT / "tools" / "release")
     taken = Counter()
     for name in [*release.files(), "tools/release", "tools/build"]:
@@ -44,7 +47,7 @@ def copy_of(top, programs, most=None):
     mark(top, programs)
 
 
-def mark(top, names):
+def mark(top: Path, names: Iterable[str]) -> None:
     """Says beside programs that they are made from what the copy holds now."""
     build = module_of(top / "tools" / "build")
     line = build.said_by_rt("version") or LINE
@@ -52,15 +55,16 @@ def mark(top, names):
         build.beside(name, build.FROM).write_text(build.origin_of(build.dependencies(), name, line))
 
 
-def built():
+def built() -> tuple[dict[str, Path], list[Path]]:
     """The programs that are built, or those that `SILC` and `SILC_SHOW` name; which of them are not there."""
     programs = {name: Path(os.environ.get(variable) or ROOT / "crates" / name / "out" / name).resolve()
                 for name, variable in (("silc_main", "SILC"), ("silc_show", "SILC_SHOW"))}
     return programs, [program for program in programs.values() if not os.access(program, os.X_OK)]
 
 
-def users(room, **more):
-    """The environment of somebody whose HOME is empty, and who has of programs this Python and the host's, in a room."""
+def users(room: Path, **more: str) -> dict[str, str]:
+    """The environment of somebody whose HOME is empty, and who has of programs this Python and the host's, in a
+    room."""
     programs, home = room / "bin", room / "home"
     if not programs.exists():
         programs.mkdir()

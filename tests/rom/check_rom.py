@@ -14,6 +14,7 @@ import shutil
 import subprocess
 import sys
 import tempfile
+from collections.abc import Iterator
 from pathlib import Path
 
 from silc import micro_file
@@ -36,14 +37,14 @@ class Wrong(Exception):
     """What tools/rom prints, and should not."""
 
 
-def said(*words):
+def said(*words: str | Path) -> str:
     done = subprocess.run([ROM, *words], capture_output=True, text=True, check=False)
     if done.returncode or done.stderr:
         raise Wrong(f"{words} ended with {done.returncode}: {done.stderr}")
     return done.stdout
 
 
-def from_readmemh(text):
+def from_readmemh(text: str) -> bytes:
     """The words of a memory of bytes, from address 0 on."""
     words = text.split()
     if any(not re.fullmatch(r"[0-9a-f]{2}", word) for word in words):
@@ -51,7 +52,7 @@ def from_readmemh(text):
     return bytes(int(word, 16) for word in words)
 
 
-def from_intel(text):
+def from_intel(text: str) -> bytes:
     """The bytes by their addresses. Each record adds up to 0, and the last one ends the file."""
     data, page = {}, 0
     *records, last = [bytes.fromhex(line.removeprefix(":")) for line in text.splitlines()]
@@ -71,7 +72,7 @@ def from_intel(text):
     return bytes(data[address] for address in range(len(data)))
 
 
-def from_c(text, folder):
+def from_c(text: str, folder: Path) -> bytes:
     """The bytes of the array, by a C compiler where there is one, or else by its digits."""
     if not shutil.which("cc"):
         return bytes(int(digits, 16) for digits in re.findall(r"0x([0-9a-f]{2}),", text))
@@ -80,7 +81,7 @@ def from_c(text, folder):
     return subprocess.run([folder / "image"], capture_output=True, check=True).stdout
 
 
-def check_map(text, data):
+def check_map(text: str, data: bytes) -> None:
     """The fields follow one another from the first bit to the last, and each has the number that its bits are."""
     bits, at = "".join(format(byte, "08b") for byte in data), 0
     for line in text.splitlines()[1:]:
@@ -96,7 +97,7 @@ def check_map(text, data):
         raise Wrong(f"the map ends at bit {at} of {len(bits)}")
 
 
-def of_hex(name):
+def of_hex(name: str) -> bytes:
     """The bytes of a file of hex digits in tests, where '#' begins a comment and 'XX*N' stands for N times XX."""
     data = b""
     for line in (ROOT / "tests" / name).read_text().splitlines():
@@ -106,13 +107,13 @@ def of_hex(name):
     return data
 
 
-def rows_between(begin, end):
+def rows_between(begin: str, end: str) -> list[list[str]]:
     """The cells of the rows of the table in docs/MICROCODE.md between two texts."""
     text = TABLES.read_text().partition(begin)[2].partition(end)[0]
     return [line.strip("| ").split(" | ") for line in text.splitlines() if re.match(r"\| \d", line)]
 
 
-def check_bytes(begin, end, data):
+def check_bytes(begin: str, end: str, data: bytes) -> None:
     """Each row of a table of bytes begins where the one before ends, and has the bytes that stand there."""
     at = 0
     for place, text, *_ in rows_between(begin, end):
@@ -127,13 +128,13 @@ def check_bytes(begin, end, data):
         raise Wrong(f"the table ends at byte {at}")
 
 
-def times_two(text):
+def times_two(text: str) -> str:
     """What stands behind 'twice', twice."""
     before, twice, behind = text.partition("twice ")
     return f"{before} {behind}, {behind}" if twice else text
 
 
-def check_bits(begin, end, data):
+def check_bits(begin: str, end: str, data: bytes) -> None:
     """The rows of bits follow one another from byte 5 on, and are the bits of the file."""
     bits, at = "".join(format(byte, "08b") for byte in data), 40
     for place, text, _ in rows_between(begin, end):
@@ -147,13 +148,13 @@ def check_bits(begin, end, data):
         raise Wrong(f"the table ends at bit {at}")
 
 
-def check_page():
-    check_bytes("57 bytes in version 2", "Behind the version its bits", of_hex("increment/packed.hex"))
-    check_bits("Behind the version its bits", "In version 1 it has", of_hex("increment/packed.hex"))
+def check_page() -> None:
+    check_bytes("57 bytes in version 2", "After the version its bits", of_hex("increment/packed.hex"))
+    check_bits("After the version its bits", "In version 1 it has", of_hex("increment/packed.hex"))
     check_bytes("In version 1 it has", "are these two files", of_hex("increment/increment.hex"))
 
 
-def check_versions(*names):
+def check_versions(*names: str) -> None:
     """Two files hold one image, in version 1 and 2, and each is what the image of the other is written as."""
     files = {version: of_hex(name) for version, name in zip(micro_file.VERSIONS, names)}
     for data in files.values():
@@ -162,7 +163,7 @@ def check_versions(*names):
             raise Wrong("an image is written otherwise than by hand")
 
 
-def check(data, folder, is_mapped=True):
+def check(data: bytes, folder: Path, is_mapped: bool = True) -> None:
     file = folder / "image.mic"
     file.write_bytes(data)
     ways = {"--readmemh": from_readmemh, "--intel": from_intel, "--c": lambda text: from_c(text, folder)}
@@ -173,7 +174,7 @@ def check(data, folder, is_mapped=True):
         check_map(said("--map", file), data)
 
 
-def files():
+def files() -> Iterator[tuple[str, bytes, bool]]:
     """Microcode with its name, and whether its map is looked at."""
     for file in sorted((ROOT / "tests").glob("*/*.mic")):
         image = micro_file.image_of(file.read_bytes())
@@ -182,7 +183,7 @@ def files():
     yield f"microcode of {LARGE} bytes", crowded(LARGE), False
 
 
-def main(words):
+def main(words: list[str]) -> int:
     if words:
         print(__doc__, file=sys.stderr)
         return 2

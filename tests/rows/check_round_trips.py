@@ -9,21 +9,24 @@ import sys
 import tempfile
 import time
 import wave
+from collections.abc import Callable
 from pathlib import Path
 
 TOOL = Path(__file__).resolve().parent.parent.parent / "tools" / "rows"
 WORDS = range(-(1 << 15), 1 << 15)
-# Shapes that have each word of fix<16,15>, what such a word is times there, numbers of channels, and of bits in the sound.
-SHAPES = [("16,15", 1, 1, 16), ("32,30", 1 << 15, 2, 16), ("16,15", 1, 1, 24), ("24,22", 1 << 7, 2, 24), ("17,15", 1, 2, 32)]
+# Shapes that have each word of fix<16,15>, what such a word is times there, numbers of channels, and of bits in the
+# sound.
+SHAPES = [("16,15", 1, 1, 16), ("32,30", 1 << 15, 2, 16), ("16,15", 1, 1, 24), ("24,22", 1 << 7, 2, 24),
+          ("17,15", 1, 2, 32)]
 # How many seconds a tool may take to do what it is waited for.
 PATIENCE = 20
 
 
-def rows(*words, given=b""):
+def rows(*words: str | Path, given: bytes = b"") -> str:
     return subprocess.run([TOOL, *words], input=given, capture_output=True, check=True).stdout.decode()
 
 
-def is_sound(file, channels, bits):
+def is_sound(file: Path, channels: int, bits: int) -> bool:
     """Whether Python's reader finds the words in the file."""
     with wave.open(str(file)) as sound:
         data, size = sound.readframes(len(WORDS)), bits // 8
@@ -32,7 +35,7 @@ def is_sound(file, channels, bits):
     return form == (channels, size, 48000, len(WORDS) // channels) and words == [word << (bits - 16) for word in WORDS]
 
 
-def comes_back(room, shape, factor, channels, bits):
+def comes_back(room: Path, shape: str, factor: int, channels: int, bits: int) -> bool:
     words = [str(word * factor) for word in WORDS]
     text = "".join(",".join(words[k : k + channels]) + "\n" for k in range(0, len(words), channels))
     (room / "rows").write_text(text)
@@ -41,11 +44,12 @@ def comes_back(room, shape, factor, channels, bits):
     back = rows("from-wav", room / "first.wav", shape)
     rows(*making, "-", shape, "48000", room / "second.wav", given=back.encode())
     sound = (room / "first.wav").read_bytes()
-    return (is_sound(room / "first.wav", channels, bits) and back == text and sound == (room / "second.wav").read_bytes()
+    return (is_sound(room / "first.wav", channels, bits) and back == text
+            and sound == (room / "second.wav").read_bytes()
             and rows("from-wav", "-", shape, given=sound) == text)
 
 
-def is_kept(room):
+def is_kept(room: Path) -> bool:
     """Whether a sound that is made of standard input is whole up to where a signal stops it."""
     with subprocess.Popen([TOOL, "to-wav", "-", "16,15", "48000", room / "kept.wav"], stdin=subprocess.PIPE) as making:
         making.stdin.write(b"1\n2\n3\n")
@@ -54,16 +58,17 @@ def is_kept(room):
         making.send_signal(signal.SIGTERM)
         making.wait(timeout=PATIENCE)
     with wave.open(str(room / "kept.wav")) as sound:
-        return sound.getnframes() == 3 and sound.readframes(3) == bytes([1, 0, 2, 0, 3, 0]) and not list(room.glob(".kept*"))
+        return sound.getnframes() == 3 and sound.readframes(3) == bytes([1, 0, 2, 0, 3,
+                                                                         0]) and not list(room.glob(".kept*"))
 
 
-def wait_for(is_so):
+def wait_for(is_so: Callable[[], bool]) -> None:
     end = time.monotonic() + PATIENCE
     while not is_so() and time.monotonic() < end:
         time.sleep(0.02)
 
 
-def main():
+def main() -> int:
     with tempfile.TemporaryDirectory(prefix="silc-rows-") as folder:
         os.environ["XDG_STATE_HOME"] = folder
         faults = [f"the words of fix<{shape}> do not come back from {bits} bits"

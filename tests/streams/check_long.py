@@ -1,19 +1,23 @@
 #!/usr/bin/env python3
-"""Whether a stream of 5 GB, which lies on no disk, is refused where its first 2^32 bytes are read, and its rows are answered.
+"""Whether a stream of 5 GB, which lies on no disk, is refused where its first 2^32 bytes are read, and its rows are
+answered.
 
 usage: tests/streams/check_long.py [--silc PROGRAM] [sim|eval|run ..]     by default sim alone
 
-It gives rows through a pipe and reads those that come back, and says after each 256 MB how far it is. It takes some minutes
-a command, so it is run by hand and no part of tests/all. Rows are of eight bytes, so that 2^32 stands between two of them.
+It gives rows through a pipe and reads those that come back, and says after each 256 MB how far it is. It takes some
+minutes a command, so it is run by hand and no part of tests/all. Rows are of eight bytes, so that 2^32 stands between
+two of them.
 """
 import os
 import subprocess
 import sys
 import tempfile
 import time
+from collections.abc import Iterator
 from contextlib import suppress
 from pathlib import Path
 from threading import Thread
+from typing import IO
 
 ROOT = Path(__file__).resolve().parent.parent.parent
 SILC = ROOT / "crates" / "silc_main" / "out" / "silc_main"
@@ -32,7 +36,7 @@ MOST_MEMORY = 8 << 20
 TOO_LONG, LINE = 11, b"silc: samples too long\n"
 
 
-def give(stream, told):
+def give(stream: IO[bytes], told: list[int]) -> None:
     """Gives rows until all are given, or nobody reads them any more."""
     with suppress(BrokenPipeError), stream:
         rows = ROW * (PIECE // len(ROW))
@@ -41,8 +45,9 @@ def give(stream, told):
             told[0] += len(rows)
 
 
-def answers(process, told, name):
-    """How many bytes come back, all of them of the right rows, and the most memory that the program was seen to take."""
+def answers(process: subprocess.Popen[bytes], told: list[int], name: str) -> tuple[int, int]:
+    """How many bytes come back, all of them of the right rows, and the most memory that the program was seen to
+    take."""
     count, peak, began, next_step = 0, 0, time.monotonic(), STEP
     cycle = ANSWER * (PIECE + 1)
     while piece := os.read(process.stdout.fileno(), PIECE):
@@ -55,15 +60,17 @@ def answers(process, told, name):
             with suppress(OSError, StopIteration):
                 status = Path(f"/proc/{process.pid}/status").read_text().splitlines()
                 peak = max(peak, next(int(line.split()[1]) * 1024 for line in status if line.startswith("VmHWM")))
-            print(f"{name}: {told[0] / 1e6:6.0f} of {END / 1e6:.0f} MB, {time.monotonic() - began:4.0f} s, {peak >> 10} KiB", flush=True)
+            print(
+                f"{name}: {told[0] / 1e6:6.0f} of {END / 1e6:.0f} MB, {time.monotonic() - began:4.0f} s, {peak >> 10} "
+                f"KiB", flush=True)
     return count, peak
 
 
-def faults_of(silc, name):
+def faults_of(silc: Path, name: str) -> Iterator[str]:
     words = [silc, *COMMANDS[name], "/dev/stdin", "/dev/stdout"]
     told = [0]
-    with tempfile.TemporaryFile() as said, subprocess.Popen(words, stdin=subprocess.PIPE, stdout=subprocess.PIPE, stderr=said,
-                                                            bufsize=0) as process:
+    with tempfile.TemporaryFile() as said, subprocess.Popen(words, stdin=subprocess.PIPE, stdout=subprocess.PIPE,
+                                                            stderr=said, bufsize=0) as process:
         giver = Thread(target=give, args=(process.stdin, told))
         process.stdin = None
         giver.start()
@@ -81,7 +88,7 @@ def faults_of(silc, name):
         yield f"it took {peak} bytes of memory"
 
 
-def main(words):
+def main(words: list[str]) -> int:
     silc = SILC
     if words[:1] == ["--silc"] and len(words) > 1:
         silc, words = Path(words[1]).resolve(), words[2:]

@@ -1,7 +1,7 @@
 #!/usr/bin/env python3
-"""Whether `/dev/stdin` and `/dev/stdout` are the streams that the program was given: files that others write to as well,
-sockets, terminals, and streams that are closed; whether the pieces in which samples come change nothing; and whether a
-filter can stand between two sounds in a pipeline.
+"""Whether `/dev/stdin` and `/dev/stdout` are the streams that the program was given: files that others write to as
+well, sockets, terminals, and streams that are closed; whether the pieces in which samples come change nothing; and
+whether a filter can stand between two sounds in a pipeline.
 
 usage: tests/streams/check_streams.py [--silc PROGRAM]
 
@@ -17,8 +17,13 @@ import sys
 import tempfile
 import tty
 import wave
+from collections.abc import Iterator, Sequence
 from contextlib import suppress
 from pathlib import Path
+from typing import Any, TypeAlias
+
+# What was done, what came of it, and what had to.
+Outcomes: TypeAlias = Iterator[tuple[str, Any, Any]]
 
 ROOT = Path(__file__).resolve().parent.parent.parent
 SILC = Path(os.environ.get("SILC", ROOT / "crates" / "silc_main" / "out" / "silc_main")).resolve()
@@ -32,19 +37,19 @@ SECONDS = 120
 ANSWER_SECONDS = 20
 
 
-def sim(silc, samples, out, **streams):
+def sim(silc: Path, samples: str | Path, out: str | Path, **streams: Any) -> tuple[int, bytes]:
     """How `sim` of y = x + 1 ends, and what it writes to standard error."""
     done = subprocess.run([silc, "sim", MICROCODE, samples, out], stderr=subprocess.PIPE, timeout=SECONDS, **streams)
     return done.returncode, done.stderr
 
 
-def shell(silc, room, line):
+def shell(silc: Path, room: Path, line: str) -> bytes:
     done = subprocess.run(["sh", "-c", line], cwd=room, timeout=SECONDS, capture_output=True,
                           env=os.environ | {"SILC": str(silc), "MIC": str(MICROCODE)})
     return done.stdout + done.stderr
 
 
-def shared_files(silc, room):
+def shared_files(silc: Path, room: Path) -> Outcomes:
     """Files that have something before, and that others write to."""
     (room / "samples").write_text("1\n2\n")
     run = '"$SILC" sim "$MIC" samples /dev/stdout'
@@ -55,7 +60,7 @@ def shared_files(silc, room):
     yield "the rest of a file", shell(silc, room, f"( read row; {rest} ) < samples"), b"3\n"
 
 
-def sockets(silc, _room):
+def sockets(silc: Path, _room: Path) -> Outcomes:
     ours, its = socket.socketpair()
     with ours, its:
         ours.sendall(b"1\n2\n")
@@ -65,7 +70,7 @@ def sockets(silc, _room):
         yield "a socket", (ended, ours.recv(100)), ((0, b""), b"2\n3\n")
 
 
-def came(end, length):
+def came(end: int, length: int) -> bytes:
     """So many bytes of a terminal, or fewer where no more come in time."""
     said = b""
     while len(said) < length and select.select([end], [], [], ANSWER_SECONDS)[0]:
@@ -73,11 +78,12 @@ def came(end, length):
     return said
 
 
-def terminals(silc, _room):
+def terminals(silc: Path, _room: Path) -> Outcomes:
     master, slave = pty.openpty()
     tty.setraw(slave)
     os.write(master, b"1\n")
-    process = subprocess.Popen([silc, "sim", MICROCODE, "/dev/stdin", "/dev/stdout"], stdin=slave, stdout=slave, stderr=slave)
+    process = subprocess.Popen([silc, "sim", MICROCODE, "/dev/stdin", "/dev/stdout"], stdin=slave, stdout=slave,
+                               stderr=slave)
     first = came(master, 2)
     os.write(master, b"2\n")
     yield "a terminal, row by row", (first, came(master, 2)), (b"2\n", b"3\n")
@@ -87,16 +93,17 @@ def terminals(silc, _room):
         os.close(end)
 
 
-def closed_streams(silc, room):
+def closed_streams(silc: Path, room: Path) -> Outcomes:
     (room / "samples").write_text("1\n")
     code = 'echo "$?"'
     for what, line in (("input", f'"$SILC" sim "$MIC" /dev/stdin out <&- 2>&1; {code}'),
                        ("output", f'{{ "$SILC" sim "$MIC" samples /dev/stdout >&- 2>&3; {code}; }} 3>&1'),
-                       ("input and output", f'{{ "$SILC" sim "$MIC" /dev/stdin /dev/stdout <&- >&- 2>&3; {code}; }} 3>&1')):
+                       ("input and output",
+                        f'{{ "$SILC" sim "$MIC" /dev/stdin /dev/stdout <&- >&- 2>&3; {code}; }} 3>&1')):
         yield f"a closed {what}", shell(silc, room, line), FAULT[1] + b"3\n"
 
 
-def gone_readers(silc, room):
+def gone_readers(silc: Path, room: Path) -> Outcomes:
     """A pipe that nobody reads any more, from the start on."""
     (room / "samples").write_text("1\n")
     reader, writer = os.pipe()
@@ -105,8 +112,9 @@ def gone_readers(silc, room):
     os.close(writer)
 
 
-def in_pieces(command, content, size, room):
-    """How a command ends over bytes that come in pieces of this size, each of which is taken by one read, and its rows."""
+def in_pieces(command: Sequence[str | Path], content: bytes, size: int, room: Path) -> tuple[int, bytes, bytes]:
+    """How a command ends over bytes that come in pieces of this size, each of which is taken by one read, and its
+    rows."""
     reader, writer = os.pipe2(os.O_DIRECT)
     process = subprocess.Popen([*command, "/dev/stdin", room / "rows"], stdin=reader, stderr=subprocess.PIPE)
     os.close(reader)
@@ -117,7 +125,7 @@ def in_pieces(command, content, size, room):
     return process.returncode, said, (room / "rows").read_bytes()
 
 
-def pieces(silc, room):
+def pieces(silc: Path, room: Path) -> Outcomes:
     """Impulses through a filter of 16 taps, of which the first gives its coefficients."""
     (room / "path.toml").write_text(PATH.read_text().replace("period = 1024", "period = 256"))
     content = (b"16384\n" + b"0\n" * 15) * 300
@@ -128,14 +136,15 @@ def pieces(silc, room):
             yield f"{command[1]} over pieces of {size} bytes", in_pieces(command, content, size, room), (0, b"", rows)
 
 
-def tone(file):
+def tone(file: Path) -> None:
     """A second of a tone in steps, which repeats after 40 samples."""
     with wave.open(str(file), "wb") as sound:
         sound.setparams((1, 2, 8000, 0, "NONE", "not compressed"))
-        sound.writeframes(b"".join((1500 * (place % 40) - 30000).to_bytes(2, "little", signed=True) for place in range(8000)))
+        sound.writeframes(b"".join((1500 * (place % 40) - 30000).to_bytes(2, "little", signed=True)
+                                   for place in range(8000)))
 
 
-def sounds(silc, room):
+def sounds(silc: Path, room: Path) -> Outcomes:
     """A filter between two sounds gives what it gives of files."""
     tone(room / "in.wav")
     rows = subprocess.run([ROWS, "from-wav", room / "in.wav", "16,15"], check=True, capture_output=True).stdout
@@ -159,7 +168,7 @@ def sounds(silc, room):
 CHECKS = (shared_files, sockets, terminals, closed_streams, gone_readers, pieces, sounds)
 
 
-def main(words):
+def main(words: list[str]) -> int:
     silc = SILC
     if words[:1] == ["--silc"] and len(words) == 2:
         silc = Path(words[1]).resolve()

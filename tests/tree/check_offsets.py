@@ -12,7 +12,7 @@ ROLES = r"(?:word|left|right|operand|subscript|delay|amount|from|to|condition|va
 LINE = re.compile(rf" *(?:{ROLES} (?=\w+ |\w+$))?(.+?) at (\d+)(?: : (.+))?$")
 
 
-def begins(node, source):
+def begins(node: str, source: str) -> object:
     """Whether the source begins as the node does."""
     kind, *rest = node.split()
     if kind == "number":
@@ -30,7 +30,7 @@ def begins(node, source):
     return source.startswith(firsts[kind])
 
 
-def main():
+def main() -> int:
     wrong = count = 0
     for tree in sorted(HERE.glob("*.tree")):
         source = tree.with_suffix(".sil").read_bytes()

@@ -12,6 +12,7 @@ import subprocess
 import sys
 import tempfile
 import tomllib
+from collections.abc import Collection, Iterable, Iterator, Sequence
 from dataclasses import dataclass, field
 from pathlib import Path
 
@@ -42,7 +43,7 @@ class BadFile(Exception):
     """Why a text is no file of value changes."""
 
 
-def wanted(holds, why):
+def wanted(holds: object, why: str) -> None:
     if not holds:
         raise BadFile(why)
 
@@ -52,14 +53,14 @@ class Signal:
     """A signal with its values, each with the time from which it has it on."""
     type: str
     bits: int
-    values: list = field(default_factory=list)
+    values: list[tuple[int, str]] = field(default_factory=list)
 
-    def at(self, time):
+    def at(self, time: int) -> str | None:
         """What it shows at a time."""
         found = [value for since, value in self.values if since <= time]
         return found[-1] if found else None
 
-    def changes(self):
+    def changes(self) -> list[tuple[int, str]]:
         """The times at which it shows another value than before, with the values."""
         last, found = {}, []
         for time, value in self.values:
@@ -73,23 +74,23 @@ class Signal:
 @dataclass
 class Waves:
     """The signals of a file by their paths, and the last time in it."""
-    signals: dict = field(default_factory=dict)
+    signals: dict[str, Signal] = field(default_factory=dict)
     end: int = 0
 
 
 class Reader:
     """The words of a file, and what of it was read."""
 
-    def __init__(self, text):
+    def __init__(self, text: str) -> None:
         self.words, self.place = text.split(), 0
         self.waves, self.codes, self.scopes = Waves(), {}, []
 
-    def next(self):
+    def next(self) -> str:
         wanted(self.place < len(self.words), "it ends too early")
         self.place += 1
         return self.words[self.place - 1]
 
-    def to_end(self):
+    def to_end(self) -> list[str]:
         """The words up to the next $end."""
         found = []
         while (word := self.next()) != "$end":
@@ -97,11 +98,11 @@ class Reader:
             found.append(word)
         return found
 
-    def scope(self, words):
+    def scope(self, words: list[str]) -> None:
         wanted(len(words) == 2 and words[0] in SCOPES and NAME.fullmatch(words[1]), f"no scope: {words}")
         self.scopes.append(words[1])
 
-    def var(self, words):
+    def var(self, words: list[str]) -> None:
         wanted(len(words) in (4, 5) and words[0] in TYPES, f"no signal: {words}")
         kind, size, code, name, *span = words
         bits = int(size)
@@ -112,7 +113,7 @@ class Reader:
         wanted(self.scopes and path not in self.waves.signals and code not in self.codes, f"there twice: {words}")
         self.waves.signals[path] = self.codes[code] = Signal(kind, bits)
 
-    def head(self):
+    def head(self) -> None:
         """The definitions."""
         timescales = 0
         while (command := self.next()) != "$enddefinitions":
@@ -132,7 +133,7 @@ class Reader:
         wanted(not self.to_end() and not self.scopes, "the definitions end in a scope")
         wanted(timescales == 1, f"{timescales} timescales")
 
-    def change(self, word):
+    def change(self, word: str) -> None:
         """A change of a value."""
         if word[0] in "01xXzZ":
             self.put(word[1:], word[0], ("wire", "reg"), 1)
@@ -144,13 +145,13 @@ class Reader:
         else:
             raise BadFile(f"no change: {word}")
 
-    def put(self, code, value, types, size):
+    def put(self, code: str, value: str, types: Collection[str], size: int) -> None:
         wanted(code in self.codes, f"no signal has the code {code}")
         signal = self.codes[code]
         wanted(signal.type in types and size <= signal.bits, f"{value} is no value of {code}")
         signal.values.append((self.waves.end, value))
 
-    def body(self):
+    def body(self) -> None:
         """The changes, each after its time."""
         timed, dumping = False, False
         while self.place < len(self.words):
@@ -173,7 +174,7 @@ class Reader:
         wanted(not dumping, "it ends in a dump")
 
 
-def read(text):
+def read(text: str) -> Waves:
     reader = Reader(text)
     reader.head()
     reader.body()
@@ -182,7 +183,7 @@ def read(text):
     return reader.waves
 
 
-def word_of(signal, value):
+def word_of(signal: Signal, value: str) -> int | str | None:
     """A value as a signed number, a text, or nothing where all bits are z."""
     if signal.type == "string" or set(value) == {"z"}:
         return None if value in ("z", "-") else value
@@ -191,7 +192,7 @@ def word_of(signal, value):
     return number - (1 << signal.bits) if signal.bits == 40 and bits[0] == "1" else number
 
 
-def changes(waves, path):
+def changes(waves: Waves, path: str) -> list[tuple[int, int | str | None]]:
     signal = waves.signals[path]
     return [(time, word_of(signal, value)) for time, value in signal.changes()]
 
@@ -205,7 +206,7 @@ WRONG = [("b1 !", "b1 ?"), ("#3", "#0"), ("bz !", "b100 !"), ("bz !", "1!?"), ("
          ("$upscope $end ", ""), ("bz !", "stext !"), ("#0 ", ""), ("module a", "a"), ("wire", "wires"), ("bz !", "bz")]
 
 
-def reader_faults():
+def reader_faults() -> Iterator[str]:
     """Wrong texts that the reader takes for files."""
     if changes(read(GOOD), "a.x") != [(0, 1), (3, None)]:
         yield "the reader reads another value than is there"
@@ -247,7 +248,7 @@ INCREMENT = {
 IDLE = [f"units.add.port{port}.r{register}" for port in (0, 1) for register in range(1, 8)] + ["units.outp.port0.r1"]
 
 
-def made(room, microcode, datapath, samples):
+def made(room: Path, microcode: Path, datapath: Path, samples: Path) -> Waves:
     """The waveform that the tool makes."""
     out = room / "out.vcd"
     subprocess.run([ROOT / "tools" / "vcd", microcode, datapath, samples, out], check=True, stdout=subprocess.DEVNULL,
@@ -255,7 +256,7 @@ def made(room, microcode, datapath, samples):
     return read(out.read_text())
 
 
-def increment_faults(room):
+def increment_faults(room: Path) -> Iterator[str]:
     samples = room / "samples"
     samples.write_text("5\n127\n")
     waves = made(room, ROOT / "tests" / "increment" / "add-8-1.mic", PLAIN, samples)
@@ -283,7 +284,7 @@ CONFLICT = {
 }
 
 
-def conflict_faults(room):
+def conflict_faults(room: Path) -> Iterator[str]:
     samples = room / "samples"
     samples.write_text("7\n8\n")
     microcode = ROOT / "tests" / "machine" / "two-drivers.mic"
@@ -310,7 +311,7 @@ LINES = {
 }
 
 
-def facts_of(text):
+def facts_of(text: str) -> Iterator[tuple[str, tuple[str, ...]]]:
     """The lines of a trace: what each says, with its numbers and words."""
     for line in text.splitlines():
         found = [(what, match.groups()) for what, form in LINES.items() if (match := form.fullmatch(line))]
@@ -322,47 +323,47 @@ def facts_of(text):
 class Shown:
     """What a waveform shows in the cycles of a trace, and the rows of the trace."""
 
-    def __init__(self, waves, units, buses):
+    def __init__(self, waves: Waves, units: Sequence[str], buses: Sequence[str]) -> None:
         self.waves, self.units, self.buses = waves, units, buses
         self.cycle, self.period, self.carried, self.rows = 0, None, set(), []
 
-    def at(self, path, later=0):
+    def at(self, path: str, later: int = 0) -> int | str | None:
         """What a signal shows in this cycle, or so many later."""
         signal = self.waves.signals[f"silc.{path}"]
         return word_of(signal, signal.at(self.cycle + later))
 
-    def unit(self, number):
+    def unit(self, number: str) -> str:
         return f"units.{self.units[int(number)]}"
 
-    def begin(self, cycle, sample, word):
+    def begin(self, cycle: str, sample: str, word: str) -> bool:
         self.cycle, self.carried = int(cycle), set()
         return self.at("sample") == int(sample) and self.at("word") == int(word)
 
-    def issue(self, unit, operation):
+    def issue(self, unit: str, operation: str) -> bool:
         return self.at(f"{self.unit(unit)}.operation") == operation
 
-    def bus(self, bus, unit, word):
+    def bus(self, bus: str, unit: str, word: str) -> bool:
         self.carried.add(word)
         return self.at(f"buses.{self.buses[int(bus)]}") == int(word) == self.at(f"{self.unit(unit)}.result")
 
-    def register(self, unit, port, register, word):
+    def register(self, unit: str, port: str, register: str, word: str) -> bool:
         """What comes into a register is what a bus carries."""
         return word in self.carried and self.at(f"{self.unit(unit)}.port{port}.r{register}", 1) == int(word)
 
-    def cell(self, ram, cell, word):
+    def cell(self, ram: str, cell: str, word: str) -> bool:
         return self.at(f"{self.unit(ram)}.cells.c{cell}", 1) == int(word)
 
-    def latch(self, output, word):
+    def latch(self, output: str, word: str) -> bool:
         return self.at(f"latches.out{output}", 1) == int(word)
 
-    def row(self, text):
+    def row(self, text: str) -> bool:
         self.period = self.period or self.cycle + 1
         self.rows.append(text)
         words = [str(self.at(f"latches.out{output}", 1)) for output in range(len(text.split(",")))]
         return words == text.split(",") and (self.cycle + 1) % self.period == 0
 
 
-def shown_faults(shown, facts, expected):
+def shown_faults(shown: Shown, facts: Iterable[tuple[str, tuple[str, ...]]], expected: Sequence[str]) -> Iterator[str]:
     """Where a waveform shows something else than a trace says, or the trace other rows than are expected."""
     for what, said in facts:
         if not getattr(shown, what)(*said):
@@ -371,7 +372,7 @@ def shown_faults(shown, facts, expected):
         yield f"{EXAMPLE}: rows {shown.rows}, expected {expected}"
 
 
-def example_faults(room):
+def example_faults(room: Path) -> Iterator[str]:
     home = ROOT / "examples" / EXAMPLE
     microcode, samples = room / "example.mic", room / "rows"
     subprocess.run([SILC, "compile", next(home.glob("*.sil")), home / DATAPATH, microcode], check=True)
@@ -393,7 +394,7 @@ def example_faults(room):
 WINDOW = 205, 290
 
 
-def waves_of(room, *more):
+def waves_of(room: Path, *more: str) -> Waves:
     """The waveform of the example that `example_faults` left there, or of a part of it."""
     datapath, out = ROOT / "examples" / EXAMPLE / DATAPATH, room / "part.vcd"
     subprocess.run([ROOT / "tools" / "vcd", room / "example.mic", datapath, room / "rows", out, *more], check=True,
@@ -401,13 +402,14 @@ def waves_of(room, *more):
     return read(out.read_text())
 
 
-def window_faults(room):
+def window_faults(room: Path) -> Iterator[str]:
     """A waveform of some cycles shows in each of them, and after the last, what that of the whole run shows."""
     whole, part = waves_of(room), waves_of(room, *map(str, WINDOW))
     for path, signal in part.signals.items():
         for time in range(*WINDOW):
             if signal.at(time) != whole.signals[path].at(time):
-                yield f"from {WINDOW[0]} on: {path} is {signal.at(time)} at {time}, and not {whole.signals[path].at(time)}"
+                yield (f"from {WINDOW[0]} on: {path} is {signal.at(time)} at {time}, and not "
+                       f"{whole.signals[path].at(time)}")
         if min(time for time, _ in signal.values) < WINDOW[0]:
             yield f"from {WINDOW[0]} on: {path} has a value before"
     missing = [path for path, signal in whole.signals.items()
@@ -416,7 +418,7 @@ def window_faults(room):
         yield f"from {WINDOW[0]} on: no {missing}, and the end is {part.end}"
 
 
-def main(words):
+def main(words: list[str]) -> int:
     if words:
         print(__doc__, file=sys.stderr)
         return 2

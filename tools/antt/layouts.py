@@ -1,10 +1,12 @@
-"""Lays an .antt file out anew: where its lines break, how far in they begin, and on how many `use` lines names stand."""
+"""Lays an .antt file out anew: where its lines break, how far in they begin, and on how many `use` lines names
+stand."""
 import re
+from collections.abc import Sequence
 
-from .items import items_of, outline
+from .items import Item, items_of, outline
 from .printing import WIDTH, Printer
-from .terms import Node, node_of, elements_of
-from .tokens import tokens_of, words_of
+from .terms import Node, Tree, elements_of, node_of
+from .tokens import Token, tokens_of, words_of
 
 # Breaking a line can leave lines that are to be broken again.
 MOST_PASSES = 8
@@ -16,7 +18,7 @@ class Changed(Exception):
     """A new layout that would not say the same."""
 
 
-def laid_out(text):
+def laid_out(text: str) -> str:
     """The text with its long lines broken."""
     for _ in range(MOST_PASSES):
         new = once(text)
@@ -26,7 +28,7 @@ def laid_out(text):
     return text
 
 
-def checked(text):
+def checked(text: str) -> str:
     """The text laid out, after a comparison of its tokens and items with those before."""
     new = laid_out(text)
     if new == text:
@@ -39,16 +41,16 @@ def checked(text):
     return new
 
 
-def names_of(use):
+def names_of(use: re.Match[str]) -> list[str]:
     return [name.strip() for name in use[3].split(",") if name.strip()]
 
 
-def apart(text):
+def apart(text: str) -> str:
     """The text with a `use` line for each name, since on how many lines they stand says nothing."""
     return USE.sub(lambda use: "\n".join(f"{use[1]}{use[2]}{{{name}}}" for name in names_of(use)), text)
 
 
-def once(text):
+def once(text: str) -> str:
     lines = text.split("\n")
     tokens = tokens_of(text)
     new = {}
@@ -61,7 +63,8 @@ def once(text):
     return "\n".join(joined(lines, tokens, new, {item.lines()[0] for item in items}))
 
 
-def joined(lines, tokens, new, begins):
+def joined(lines: Sequence[str], tokens: Sequence[Token], new: dict[int, tuple[int, list[str]]],
+           begins: set[int]) -> list[str]:
     """The lines, with items that were laid out in their places, and each other line that is too long broken."""
     by_line = {}
     for token in tokens:
@@ -77,7 +80,7 @@ def joined(lines, tokens, new, begins):
     return found
 
 
-def of_item(item, lines):
+def of_item(item: Item, lines: Sequence[str]) -> list[str] | None:
     """A `use`, a header or a statement that does not fit on a line, laid out; None where its lines stay as they are."""
     role = item.role()
     if role == "other" or any(token.is_comment() for token in item.tokens) or shares_line(item, lines):
@@ -97,17 +100,17 @@ def of_item(item, lines):
     return printer.done()
 
 
-def breaks_alike(whole, lines):
+def breaks_alike(whole: Sequence[str], lines: Sequence[str]) -> bool:
     """Whether lines break where others do. How far in they begin is for `rt fmt` to say."""
     return [line.strip() for line in whole] == [line.strip() for line in lines]
 
 
-def shares_line(item, lines):
+def shares_line(item: Item, lines: Sequence[str]) -> bool:
     """Whether tokens of another item stand on the item's lines."""
     return len("".join(lines).replace(" ", "")) != sum(len(token.text.replace(" ", "")) for token in item.tokens)
 
 
-def imports(lines):
+def imports(lines: Sequence[str]) -> list[str] | None:
     """`use path.{names}` as lines that each bring in as many of the names as fit, or None where it has no names."""
     use = USE.fullmatch("\n".join(lines))
     if not use:
@@ -120,7 +123,7 @@ def imports(lines):
     return [head + ", ".join(names) + "}" for names in found]
 
 
-def statement(printer, node):
+def statement(printer: Printer, node: Node) -> None:
     """`name : type`, its binders on the first line where they fit, and each premise and the conclusion on a line."""
     name, kind = node.children
     first = kind.children[0] if is_arrows(kind) else kind
@@ -132,17 +135,17 @@ def statement(printer, node):
     printer.tree(kind)
 
 
-def is_arrows(kind):
+def is_arrows(kind: Tree) -> bool:
     return isinstance(kind, Node) and kind.kind == "operators" and kind.marks[0] == "→"
 
 
-def has_head(printer, kind):
+def has_head(printer: Printer, kind: Tree) -> bool:
     """Whether the first operand of a type that is no function's fits behind the name."""
     first = kind.children[0] if isinstance(kind, Node) and kind.kind == "operators" else None
     return first is not None and printer.fits(" " + first.flat(), 0)
 
 
-def broken(line, tokens, begins_item):
+def broken(line: str, tokens: Sequence[Token], begins_item: bool) -> list[str]:
     """The lines of one line."""
     if len(line) <= WIDTH or not tokens:
         return [line]
@@ -156,7 +159,7 @@ def broken(line, tokens, begins_item):
     return found if [one.strip() for one in found] != [line.strip()] else [line]
 
 
-def comment(line):
+def comment(line: str) -> list[str]:
     """A comment, as many words on a line as fit."""
     indent = line[: len(line) - len(line.lstrip())]
     sign, *words = line.split()

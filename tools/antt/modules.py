@@ -1,11 +1,12 @@
 """The modules of .antt files, of the crates and of the kit: what each declares, brings in and passes on."""
 import json
 import subprocess
+from collections.abc import Iterable
 from dataclasses import dataclass, field
 from functools import cache
 from pathlib import Path
 
-from .items import MARKS, items_of
+from .items import MARKS, Item, items_of
 from .tokens import tokens_of
 
 ROOT = Path(__file__).resolve().parent.parent.parent
@@ -14,18 +15,19 @@ CRATES = ROOT / "crates"
 
 @dataclass
 class Module:
-    """A module: the names that it declares, those that it brings in and their paths, and the globs that it passes on."""
+    """A module: the names that it declares, those that it brings in and their paths, and the globs that it passes
+    on."""
     path: str
     file: Path
-    items: list
-    declared: set = field(default_factory=set)
-    brought: dict = field(default_factory=dict)
-    passed: set = field(default_factory=set)
-    globs: list = field(default_factory=list)
-    modules: dict = field(default_factory=dict)
+    items: list[Item]
+    declared: set[str] = field(default_factory=set)
+    brought: dict[str, tuple[str, str]] = field(default_factory=dict)
+    passed: set[str] = field(default_factory=set)
+    globs: list[str] = field(default_factory=list)
+    modules: dict[str, str] = field(default_factory=dict)
 
 
-def kit():
+def kit() -> Path | None:
     """The kit's folder of sources, or None where there is no toolchain."""
     try:
         page = subprocess.run(["rt", "doc"], capture_output=True, text=True, check=True).stdout.strip()
@@ -36,7 +38,7 @@ def kit():
 
 
 @cache
-def roots():
+def roots() -> dict[str, Path]:
     """The folders of the libraries, by their names."""
     folder, found = kit(), {}
     if folder:
@@ -46,7 +48,7 @@ def roots():
     return found | {f"Rattle.{path.name}": path for path in CRATES.iterdir() if path.is_dir()}
 
 
-def file_of(path):
+def file_of(path: str) -> Path | None:
     """The file of a module, if it is in a folder that is known."""
     words = path.split(".")
     for count in (2, 1):
@@ -60,19 +62,19 @@ def file_of(path):
 
 
 @cache
-def module_of(path):
+def module_of(path: str) -> Module | None:
     """The module at a path, or None where there is no such file."""
     file = file_of(path)
     return read(path, file) if file else None
 
 
-def path_of(file, root, name):
+def path_of(file: Path, root: Path, name: str) -> str:
     """The path of the module that a file of a library holds."""
     words = file.relative_to(root).with_suffix("").parts
     return ".".join((name, *(words[:-1] if words[-1] == "Lib" else words)))
 
 
-def read(path, file):
+def read(path: str, file: Path) -> Module:
     module = Module(path, file, items_of(tokens_of(file.read_text())))
     for item in module.items:
         role = item.role()
@@ -83,7 +85,7 @@ def read(path, file):
     return module
 
 
-def declare(module, item, role):
+def declare(module: Module, item: Item, role: str) -> None:
     words = item.words()
     while words and words[0] in MARKS:
         words = words[1:]
@@ -93,7 +95,7 @@ def declare(module, item, role):
         module.declared.update(words[: words.index(":")] if "{" not in words[: words.index(":")] else words[:1])
 
 
-def bring(module, item):
+def bring(module: Module, item: Item) -> None:
     """`use M.{a, b as c}`, `use M.N as Q` or `use M.*`."""
     words = item.words()
     is_passed = "pub" in words[: words.index("use")]
@@ -105,7 +107,7 @@ def bring(module, item):
         bring_name(module, prefix, entry, is_passed)
 
 
-def bring_module(module, words, is_passed):
+def bring_module(module: Module, words: list[str], is_passed: bool) -> None:
     if words[-1] == "*":
         module.globs.append(module.path.rpartition(".")[0] + "." + "".join(words[:-1]).rstrip("."))
     elif words[-2:-1] == ["as"]:
@@ -114,7 +116,7 @@ def bring_module(module, words, is_passed):
         module.modules[words[-1]] = "".join(words).removeprefix("package.")
 
 
-def bring_name(module, prefix, entry, is_passed):
+def bring_name(module: Module, prefix: str, entry: list[str], is_passed: bool) -> None:
     name = entry[-1]
     path = "".join(entry[:-2]) if entry[-2:-1] == ["as"] else "".join(entry)
     module.brought[name] = (prefix, path)
@@ -122,7 +124,7 @@ def bring_name(module, prefix, entry, is_passed):
         module.passed.add(name)
 
 
-def split(words):
+def split(words: Iterable[str]) -> list[list[str]]:
     """The parts of a list with commas."""
     parts = [[]]
     for word in words:
@@ -134,7 +136,7 @@ def split(words):
 
 
 @cache
-def defined(path, name):
+def defined(path: str, name: str) -> str:
     """The whole path of what a module declares or passes on under a name."""
     *inner, last = name.split(".")
     if inner:
@@ -150,7 +152,7 @@ def defined(path, name):
     return f"{path}.{last}"
 
 
-def resolved(module, name):
+def resolved(module: Module, name: str) -> str | None:
     """The whole path of a name as a module reads it, or None where it is not one of a declaration or a `use` line."""
     if name in module.declared:
         return f"{module.path}.{name}"

@@ -1,9 +1,11 @@
 """Prints a tree within a number of columns, by breaking it at its outermost boundaries.
 
-What does not fit goes on four columns further in than the line on which it began, the fields of a record and the cases of
-an `elim` two. An application, and a chain of operators or `let`s, that begins its line goes on in its own column.
+What does not fit goes on four columns further in than the line on which it began, the fields of a record and the cases
+of an `elim` two. An application, and a chain of operators or `let`s, that begins its line goes on in its own column.
 """
-from .terms import SPREADS, RANK_OF, Element, Group, Node
+from collections.abc import Sequence
+
+from .terms import RANK_OF, SPREADS, Element, Group, Node, Tree
 
 WIDTH, DEEPER, FIELDS, SHORT, NARROW = 120, 4, 2, 16, 8
 
@@ -11,43 +13,44 @@ WIDTH, DEEPER, FIELDS, SHORT, NARROW = 120, 4, 2, 16, 8
 class Printer:
     """Writes lines. `tail` is the number of columns that what follows a tree on its line needs."""
 
-    def __init__(self, column, begins_item):
+    def __init__(self, column: int, begins_item: bool) -> None:
         self.lines, self.line, self.indent, self.begins_item = [], " " * column, column, begins_item
 
     # ---- lines
 
-    def put(self, text):
+    def put(self, text: str) -> None:
         self.line += text
 
-    def space(self):
+    def space(self) -> None:
         if self.line.strip():
             self.line += " "
 
-    def next_line(self, indent):
+    def next_line(self, indent: int) -> None:
         if self.line.strip():
             self.lines.append(self.line.rstrip())
         self.line, self.indent = " " * indent, indent
 
-    def done(self):
+    def done(self) -> list[str]:
         self.lines.append(self.line.rstrip())
         return self.lines
 
-    def column(self):
+    def column(self) -> int:
         return len(self.line)
 
-    def fits(self, text, tail):
+    def fits(self, text: str, tail: int) -> bool:
         return len(self.line) + len(text) + tail <= WIDTH
 
-    def begins_line(self):
+    def begins_line(self) -> bool:
         """Whether nothing but brackets stands before here, and what follows may go on in this column."""
-        return not self.line.strip(" ([{|") and not (self.begins_item and not self.lines and self.column() == self.indent)
+        return not self.line.strip(" ([{|") and not (self.begins_item and not self.lines
+                                                     and self.column() == self.indent)
 
-    def deeper(self):
+    def deeper(self) -> int:
         return self.indent + DEEPER
 
     # ---- trees
 
-    def tree(self, tree, tail=0):
+    def tree(self, tree: Tree, tail: int = 0) -> None:
         if self.fits(tree.flat(), tail):
             self.put(tree.flat())
         elif isinstance(tree, Element):
@@ -55,7 +58,7 @@ class Printer:
         else:
             getattr(self, tree.kind.replace("lambda", "abstraction").replace("list", "parts"))(tree, tail)
 
-    def element(self, element, tail):
+    def element(self, element: Element, tail: int) -> None:
         for place, part in enumerate(element.parts):
             behind = sum(len(other) if isinstance(other, str) else 1 for other in element.parts[place + 1 :])
             if isinstance(part, str):
@@ -63,7 +66,7 @@ class Printer:
             else:
                 self.group(part, tail + behind)
 
-    def group(self, group, tail):
+    def group(self, group: Group, tail: int) -> None:
         """A bracket; a record's fields and an `elim`'s cases stand on lines of their own."""
         if self.fits(group.flat(), tail):
             self.put(group.flat())
@@ -78,7 +81,7 @@ class Printer:
             self.tree(group.body, tail + len(group.closer) + group.spaced_end)
             self.put(" " * group.spaced_end + group.closer)
 
-    def block(self, group):
+    def block(self, group: Group) -> None:
         indent = self.indent
         for child in group.body.children:
             self.next_line(indent + FIELDS)
@@ -87,7 +90,7 @@ class Printer:
             self.next_line(indent)
             self.put(group.closer)
 
-    def parts(self, node, tail):
+    def parts(self, node: Node, tail: int) -> None:
         """The parts of a list: fields a line each, and of a tuple as many on a line as fit."""
         indent = self.column() if self.begins_line() else self.deeper()
         one_a_line = any(child.flat().endswith(";") for child in node.children)
@@ -95,8 +98,9 @@ class Printer:
             behind = tail if place == len(node.children) - 1 else 0
             self.item(child, behind, place, indent, one_a_line)
 
-    def item(self, child, tail, place, indent, apart):
-        """One of several children: behind the one before it, if that was one line and this fits, else on the next line."""
+    def item(self, child: Tree, tail: int, place: int, indent: int, apart: bool) -> None:
+        """One of several children: behind the one before it, if that was one line and this fits, else on the next
+        line."""
         if place == 0:
             self.lines_before = len(self.lines)
         elif apart or len(self.lines) > self.lines_before or not self.fits(" " + child.flat(), tail):
@@ -106,34 +110,35 @@ class Printer:
         self.lines_before = len(self.lines)
         self.tree(child, tail)
 
-    def marked(self, node, tail):
+    def marked(self, node: Node, tail: int) -> None:
         self.tree(node.children[0], tail + len(node.marks[0]))
         self.put(node.marks[0])
 
-    def closed(self, node, tail):
+    def closed(self, node: Node, tail: int) -> None:
         self.tree(node.children[0], tail + len(node.marks[0]) + 1)
         self.put(" " + node.marks[0])
 
-    def steps(self, node, tail):
+    def steps(self, node: Node, tail: int) -> None:
         indent = self.indent
         for place, child in enumerate(node.children):
             if place:
                 self.next_line(indent)
             self.tree(child, tail if place else 0)
 
-    def alternatives(self, node, tail):
+    def alternatives(self, node: Node, tail: int) -> None:
         indent = self.column() if self.begins_line() else self.deeper()
         for place, child in enumerate(node.children):
             if place:
                 self.next_line(indent)
             self.tree(child, tail if place == len(node.children) - 1 else 0)
 
-    def prefixed(self, node, tail):
+    def prefixed(self, node: Node, tail: int) -> None:
         self.put("| ")
         self.tree(node.children[0], tail)
 
-    def define(self, node, tail):
-        """`a = e`: what does not fit behind the sign goes to the next line, unless it begins with what may stand there."""
+    def define(self, node: Node, tail: int) -> None:
+        """`a = e`: what does not fit behind the sign goes to the next line, unless it begins with what may stand
+        there."""
         left, right = node.children
         sign, deeper = node.marks[0], self.deeper()
         if left:
@@ -148,17 +153,17 @@ class Printer:
             self.next_line(deeper)
         self.tree(right, tail)
 
-    def takes_define(self, right, deeper, tail):
+    def takes_define(self, right: Tree, deeper: int, tail: int) -> bool:
         """Whether the right side begins behind the sign; a record or cases that fit on the next line stand there."""
         is_lambda = isinstance(right, Node) and right.kind == "lambda"
         return self.takes_head(right) and (is_lambda or deeper + len(right.flat()) + tail > WIDTH)
 
-    def takes_head(self, tree):
+    def takes_head(self, tree: Tree) -> bool:
         """Whether a tree that is to be broken may begin on this line: its first line ends in `{`, `[` or `λ x.`."""
         head = head_of(tree)
         return head is not None and self.fits(" " + head, 0)
 
-    def abstraction(self, node, tail):
+    def abstraction(self, node: Node, tail: int) -> None:
         *binders, body = node.children
         deeper = self.deeper()
         for place, binder in enumerate(binders):
@@ -171,10 +176,10 @@ class Printer:
             self.next_line(deeper)
         self.tree(body, tail)
 
-    def takes_block(self, tree):
+    def takes_block(self, tree: Tree) -> bool:
         return not isinstance(tree, Node) or tree.kind != "lambda" and self.takes_head(tree)
 
-    def let(self, node, tail):
+    def let(self, node: Node, tail: int) -> None:
         """Each binding on a line of its own, and the body in the same column."""
         if not self.begins_line() and self.line.endswith(" "):
             self.next_line(self.deeper())
@@ -194,7 +199,7 @@ class Printer:
         else:
             self.tree(body, tail)
 
-    def operators(self, node, tail):
+    def operators(self, node: Node, tail: int) -> None:
         """Each operator before its right operand, which stands on the next line where it does not fit."""
         indent = self.column() if self.begins_line() else self.deeper()
         apart = RANK_OF[node.marks[0]] in SPREADS
@@ -216,7 +221,7 @@ class Printer:
                 self.space()
                 self.tree(operand, behind)
 
-    def apply(self, node, tail):
+    def apply(self, node: Node, tail: int) -> None:
         """A function and its arguments, as many on a line as fit."""
         deeper = self.column() if self.begins_line() else self.deeper()
         last = len(node.children) - 1
@@ -229,7 +234,7 @@ class Printer:
             else:
                 self.item(child, behind, place, deeper, False)
 
-    def stays(self, child, tail, deeper):
+    def stays(self, child: Tree, tail: int, deeper: int) -> bool:
         """Whether an argument that no line holds is begun on this line."""
         if self.fits(" " + child.flat(), tail) or deeper + len(child.flat()) + tail <= WIDTH:
             return False
@@ -241,14 +246,14 @@ class Printer:
         return group is not None and (stands_apart(group) or self.takes_head(child)) and self.fits(" {", 0)
 
 
-def is_of_record(children, place):
+def is_of_record(children: Sequence[Tree | None], place: int) -> bool:
     """Whether an argument is the braces of `record { .. }` or `record r { .. }`."""
     before = children[max(0, place - 2) : place]
     return isinstance(children[place], Element) and children[place].group() is not None \
         and any(isinstance(child, Element) and child.is_word("record") for child in before)
 
 
-def stands_apart(group):
+def stands_apart(group: Group) -> bool:
     """Whether a bracket holds fields or cases, with spaces inside, so that each may stand on a line."""
     body = group.body
     if not isinstance(body, Node) or not (group.spaced and (group.spaced_end or not group.closer)):
@@ -257,16 +262,16 @@ def stands_apart(group):
     return group.opener == "[" or (group.opener == "{" and has_fields)
 
 
-def is_short(tree):
+def is_short(tree: Tree | None) -> bool:
     """Whether a tree is to stay on its line, as the universe of a record is."""
     return tree is not None and len(tree.flat()) <= SHORT
 
 
-def is_field(child):
+def is_field(child: Tree) -> bool:
     return isinstance(child, Node) and child.kind == "define" and child.marks[0] == "="
 
 
-def head_of(tree):
+def head_of(tree: Tree) -> str | None:
     """How a tree begins whose further lines stand deeper: up to `{`, `[` or the dot of a `λ`; else None."""
     if isinstance(tree, Element):
         group = tree.group()

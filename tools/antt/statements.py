@@ -1,11 +1,22 @@
-"""Statements in a form in which those that say the same are equal: bound variables by number, names by their whole paths."""
+"""Statements in a form in which those that say the same are equal: bound variables by number, names by their whole
+paths."""
+from __future__ import annotations
+
+from collections.abc import Iterable, Iterator, Sequence
 from dataclasses import dataclass
 from itertools import count
+from pathlib import Path
+from typing import TypeAlias
 
-from .items import MARKS
-from .modules import resolved
+from .items import MARKS, Item
+from .modules import Module, resolved
 from .terms import RANK_OF, elements_of, node_of
-from .tokens import CLOSERS, OPENERS
+from .tokens import CLOSERS, OPENERS, Token
+
+# The words of a statement, in which a variable is a number: equal where two state the same.
+Form: TypeAlias = tuple[str | int, ...]
+# The variables that are bound at a place, by their names.
+Scope: TypeAlias = dict[str, int]
 
 # What ends an operand, and what a bracket that holds it is kept for.
 ENDS = {",", ";", "|", "↦", "=", ":", "in", "."}
@@ -18,9 +29,9 @@ class Bracket:
     """A bracket with its content, or a token alone, which has no content."""
     text: str
     touches: bool
-    content: list = None
+    content: list[Bracket] | None = None
 
-    def is_binder(self):
+    def is_binder(self) -> bool:
         """Whether it is `(x y : A)` or `{x : A}`."""
         words = [part.text for part in self.content or []]
         if self.text not in "({" or ":" not in words[1:]:
@@ -28,7 +39,7 @@ class Bracket:
         names = self.content[: words.index(":")]
         return all(part.content is None and part.text not in ("=", ",", "λ") for part in names)
 
-    def binder(self):
+    def binder(self) -> tuple[list[str], list[Bracket]]:
         """The names that it binds, and their type."""
         place = [part.text for part in self.content].index(":")
         return [part.text for part in self.content[:place]], self.content[place + 1 :]
@@ -38,16 +49,16 @@ class Bracket:
 class Statement:
     """A lemma or a definition: where it stands, how long it is, and its form."""
     path: str
-    file: object
+    file: Path
     line: int
     lines: int
     text: str
-    form: tuple
+    form: Form
     is_definition: bool
     is_public: bool
 
 
-def nested(tokens):
+def nested(tokens: Iterable[Token]) -> list[Bracket]:
     """The tokens with what stands in each bracket as one part, without brackets that change nothing."""
     stack = [[]]
     for token in tokens:
@@ -64,7 +75,7 @@ def nested(tokens):
     return stripped(stack[0])
 
 
-def stripped(parts):
+def stripped(parts: list[Bracket]) -> list[Bracket]:
     """The parts of one level, with those in brackets in the open where the brackets change nothing."""
     found = []
     for place, part in enumerate(parts):
@@ -72,7 +83,7 @@ def stripped(parts):
     return found
 
 
-def is_idle(parts, place):
+def is_idle(parts: list[Bracket], place: int) -> bool:
     """Whether a bracket is a whole operand whose own operators bind more than those beside it."""
     part = parts[place]
     if part.text != "(" or part.content is None or not part.content:
@@ -84,7 +95,7 @@ def is_idle(parts, place):
     return own > max(left, right) or (own == 0 and left == 0 and right < 0)
 
 
-def beside(parts, place):
+def beside(parts: list[Bracket], place: int) -> int | None:
     """The rank of the operator at a place, -1 where the level or a part of it ends there, or None."""
     if not 0 <= place < len(parts):
         return -1
@@ -94,7 +105,7 @@ def beside(parts, place):
     return -1 if part.text in ENDS else RANK_OF.get(part.text)
 
 
-def loosest(parts):
+def loosest(parts: list[Bracket]) -> int | None:
     """The least rank of the operators of a level, or None where it is no term that could stand in the open."""
     ranks = [len(RANK_OF)]
     for part in parts:
@@ -105,16 +116,17 @@ def loosest(parts):
     return min(ranks)
 
 
-class Form:
-    """Makes the form of terms of a module. A variable is a number, an unused binder is left out of a function's type."""
+class Forms:
+    """Makes the form of terms of a module. A variable is a number, an unused binder is left out of a function's
+    type."""
 
-    def __init__(self, module):
+    def __init__(self, module: Module) -> None:
         self.module, self.fresh = module, count()
 
-    def bind(self, names, scope):
+    def bind(self, names: Iterable[str], scope: Scope) -> Scope:
         return scope | {name: next(self.fresh) for name in names}
 
-    def term(self, parts, scope):
+    def term(self, parts: list[Bracket], scope: Scope) -> Form:
         """The form of the parts of one bracket, from the first on."""
         if not parts:
             return ()
@@ -131,14 +143,15 @@ class Form:
             return (first.text, *self.inside(first, scope), *self.term(parts[1:], scope))
         return self.name(parts, scope)
 
-    def binders(self, binders, rest, scope):
+    def binders(self, binders: list[Bracket], rest: list[Bracket], scope: Scope) -> Form:
         """`(x : A) → B` where x stands in B, and `A → B` where it does not."""
         if not binders:
             return self.term(rest, scope)
         names, kind = binders[0].binder()
         return self.one_by_one(binders[0].text, names, kind, binders[1:], rest, scope)
 
-    def one_by_one(self, opener, names, kind, others, rest, scope):
+    def one_by_one(self, opener: str, names: Sequence[str], kind: list[Bracket], others: list[Bracket],
+                   rest: list[Bracket], scope: Scope) -> Form:
         is_function = bool(rest) and rest[0].text == "→"
         inner = self.bind(names[:1], scope)
         number = inner[names[0]]
@@ -151,13 +164,14 @@ class Form:
             return (*of, "→", *below)
         return (opener, number, ":", *of, ")", *(("→",) if is_function else ()), *below)
 
-    def abstraction(self, parts, scope):
-        end = next((place for place, part in enumerate(parts) if part.text == "." and part.content is None), len(parts) - 1)
+    def abstraction(self, parts: list[Bracket], scope: Scope) -> Form:
+        end = next((place for place, part in enumerate(parts) if part.text == "." and part.content is None),
+                   len(parts) - 1)
         names = [name for part in parts[1:end] for name in names_in(part)]
         inner = self.bind(names, scope)
         return ("λ", *(inner[name] for name in names), ".", *self.term(parts[end + 1 :], inner))
 
-    def binding(self, parts, scope):
+    def binding(self, parts: list[Bracket], scope: Scope) -> Form:
         """`let x : T = e in b`"""
         equal = next((place for place, part in enumerate(parts) if part.text == "="), None)
         end = matching_in(parts)
@@ -168,14 +182,14 @@ class Form:
         return ("let", *(inner[name] for name in names), "=", *self.term(parts[equal + 1 : end], scope), "in",
                 *self.term(parts[end + 1 :], inner))
 
-    def inside(self, part, scope):
+    def inside(self, part: Bracket, scope: Scope) -> Form:
         """What stands in a bracket; in the cases of an `elim` and the fields of a record each for itself."""
         found = []
         for mark, pieces in pieces_of(part.content):
             found += [*self.piece(pieces, scope), mark]
         return (*found, ")")
 
-    def piece(self, pieces, scope):
+    def piece(self, pieces: list[Bracket], scope: Scope) -> Form:
         arrow = next((place for place, part in enumerate(pieces) if part.text == "↦"), None)
         if arrow is None:
             return self.term(pieces, scope)
@@ -183,7 +197,7 @@ class Form:
         inner = self.bind(names, scope)
         return (*self.term(pieces[:arrow], inner), "↦", *self.term(pieces[arrow + 1 :], inner))
 
-    def name(self, parts, scope):
+    def name(self, parts: list[Bracket], scope: Scope) -> Form:
         """A name with its fields, or a mark, and what follows it."""
         name, place = parts[0].text, 1
         while place + 1 < len(parts) and parts[place].text == "." and parts[place].touches and parts[place + 1].touches:
@@ -191,7 +205,7 @@ class Form:
         path = "".join(part.text for part in parts[1:place] if part.content is None)
         return (*self.head(name, path, scope), *self.term(parts[place:], scope))
 
-    def head(self, name, path, scope):
+    def head(self, name: str, path: str, scope: Scope) -> Form:
         if name in scope:
             return (scope[name], path) if path else (scope[name],)
         for spelled in (name, f"◌{name}◌", f"{name}◌"):
@@ -202,7 +216,7 @@ class Form:
         return (name + path,)
 
 
-def pieces_of(parts):
+def pieces_of(parts: list[Bracket]) -> Iterator[tuple[str, list[Bracket]]]:
     """The parts between commas, semicolons and bars, each with the mark behind it."""
     piece = []
     for part in parts:
@@ -214,19 +228,19 @@ def pieces_of(parts):
     yield "", piece
 
 
-def names_in(part):
+def names_in(part: Bracket) -> list[str]:
     """The names that a binder or a pattern binds."""
     if part.content is None:
         return [] if part.text in "_,:=." else [part.text]
     return [name for inner in before_colon(part.content) for name in names_in(inner)]
 
 
-def before_colon(parts):
+def before_colon(parts: list[Bracket]) -> list[Bracket]:
     place = next((place for place, part in enumerate(parts) if part.text == ":"), len(parts))
     return parts[:place]
 
 
-def matching_in(parts):
+def matching_in(parts: list[Bracket]) -> int | None:
     depth = 0
     for place, part in enumerate(parts):
         depth += (part.text == "let") - (part.text == "in")
@@ -235,15 +249,15 @@ def matching_in(parts):
     return None
 
 
-def numbered(form):
+def numbered(form: Form) -> Form:
     """The form with its variables numbered in the order in which they come."""
     numbers = {}
     return tuple(numbers.setdefault(part, len(numbers)) if isinstance(part, int) else part for part in form)
 
 
-def used(parameters, parts, siblings):
-    """The parameters of the blocks around a statement that it names, and those that are about named ones alone; all where
-    it names what the blocks declare, which has them unseen."""
+def used(parameters: list[Bracket], parts: list[Bracket], siblings: set[str]) -> list[Bracket]:
+    """The parameters of the blocks around a statement that it names, and those that are about named ones alone; all
+    where it names what the blocks declare, which has them unseen."""
     names = all_names(parts)
     if names & siblings:
         return parameters
@@ -260,14 +274,14 @@ def used(parameters, parts, siblings):
     return [binder for binder in parameters if binder in kept or binder in about]
 
 
-def all_names(parts):
+def all_names(parts: list[Bracket]) -> set[str]:
     found = set()
     for part in parts:
         found |= all_names(part.content) if part.content is not None else {part.text}
     return found
 
 
-def statements_of(module):
+def statements_of(module: Module) -> list[Statement]:
     """The lemmas and definitions of a module that stand in no `where` block of a proof."""
     found, blocks = [], []
     for place, item in enumerate(module.items):
@@ -285,7 +299,7 @@ def statements_of(module):
     return found
 
 
-def declared_in(module, place):
+def declared_in(module: Module, place: int) -> set[str]:
     """The names that the block under a header declares."""
     depth, names = module.items[place].depth, set()
     for item in module.items[place + 1 :]:
@@ -299,11 +313,11 @@ def declared_in(module, place):
     return names
 
 
-def is_mutual(item):
+def is_mutual(item: Item) -> bool:
     return item.words() in (["mutual"], ["unfoldable", "mutual"], ["abbrev", "mutual"])
 
 
-def statement(module, place, parameters, siblings):
+def statement(module: Module, place: int, parameters: list[Bracket], siblings: set[str]) -> Statement:
     item = module.items[place]
     tokens = [token for token in item.tokens if not token.is_comment()]
     while tokens[0].text in MARKS:
@@ -311,7 +325,7 @@ def statement(module, place, parameters, siblings):
     colon = next(at for at, token in enumerate(tokens) if token.text == ":")
     parts = nested(tokens[colon + 1 :])
     body = body_of(module, place)
-    form = Form(module)
+    form = Forms(module)
     binders = used(parameters, parts, siblings)
     of = form.term([*binders, *([Bracket("→", False)] if binders else []), *parts], {})
     is_definition = defines(of)
@@ -323,7 +337,7 @@ def statement(module, place, parameters, siblings):
                      "pub" in item.words()[:3])
 
 
-def body_of(module, place):
+def body_of(module: Module, place: int) -> list[Item]:
     """The items of a declaration's body: the clauses, and what stands in blocks in them."""
     depth, found = module.items[place].depth, []
     for item in module.items[place + 1 :]:
@@ -335,7 +349,7 @@ def body_of(module, place):
     return found
 
 
-def clauses(form, body, name):
+def clauses(form: Forms, body: Sequence[Item], name: str) -> list[str | int]:
     """The form of a definition's clauses, in which its own name and its patterns' variables are bound."""
     found = []
     for item in body:
@@ -347,8 +361,9 @@ def clauses(form, body, name):
     return found
 
 
-def defines(form):
-    """Whether the form is the type of a definition: what it ends in is no relation, and names no variable but of a type."""
+def defines(form: Form) -> bool:
+    """Whether the form is the type of a definition: what it ends in is no relation, and names no variable but of a
+    type."""
     depth, last = 0, []
     for part in form:
         depth += (part in ("(", "{", "[")) - (part == ")")
@@ -357,11 +372,11 @@ def defines(form):
     return "Type" in last or not (is_about or any(is_relation(part) for part in last))
 
 
-def is_relation(part):
+def is_relation(part: str | int) -> bool:
     return isinstance(part, str) and part.rsplit(".", 1)[-1].strip("◌") in RELATIONS
 
 
-def types_in(form):
+def types_in(form: Form) -> set[str | int]:
     """The variables that are bound as types."""
     return {form[place] for place in range(len(form) - 2)
             if isinstance(form[place], int) and form[place + 1] == ":" and form[place + 2] == "Type"}

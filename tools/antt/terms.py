@@ -1,11 +1,12 @@
 """Terms as trees, for layout alone: brackets, lists, `x = e`, `λ`, `let`, operators by rank, applications.
 
-A tree keeps the text of its tokens and which of them touch. A piece of a text need not have both brackets of a pair: one
-that lacks is taken as standing before the piece's first token, or behind its last.
+A tree keeps the text of its tokens and which of them touch. A piece of a text need not have both brackets of a pair:
+one that lacks is taken as standing before the piece's first token, or behind its last.
 """
+from collections.abc import Iterable
 from dataclasses import dataclass, field
 
-from .tokens import CLOSERS, OPENERS
+from .tokens import CLOSERS, OPENERS, Token
 
 # Operators, those that bind the least first. A rank whose operators all stand on lines of their own is in `SPREADS`.
 RANKS = [["→"], ["then", "else"], ["↔", "≃"], ["⊎"], ["×"], ["≡", "≢", "<", "≤", "<ℤ", "≤ℤ", "∈"], ["||"], ["&&"],
@@ -18,7 +19,7 @@ SPREADS = set(range(5))
 class Tree:
     """What has a text on one line, which is kept."""
 
-    def flat(self):
+    def flat(self) -> str:
         if not hasattr(self, "text"):
             self.text = self.on_one_line()
         return self.text
@@ -28,12 +29,12 @@ class Tree:
 class Group(Tree):
     """What stands in brackets, and whether spaces stand behind the first one and before the last."""
     opener: str
-    body: object
+    body: Tree | None
     closer: str
     spaced: bool
     spaced_end: bool
 
-    def on_one_line(self):
+    def on_one_line(self) -> str:
         inside = self.body.flat() if self.body else ""
         return self.opener + " " * self.spaced + inside + " " * self.spaced_end + self.closer
 
@@ -41,18 +42,18 @@ class Group(Tree):
 @dataclass
 class Element(Tree):
     """Tokens that touch, as texts and groups."""
-    parts: list
+    parts: list[str | Group]
 
-    def on_one_line(self):
+    def on_one_line(self) -> str:
         return "".join(part if isinstance(part, str) else part.flat() for part in self.parts)
 
-    def is_word(self, *words):
+    def is_word(self, *words: str) -> bool:
         return len(self.parts) == 1 and self.parts[0] in words
 
-    def ends_in(self, mark):
+    def ends_in(self, mark: str) -> bool:
         return self.parts[-1] == mark
 
-    def group(self):
+    def group(self) -> Group | None:
         """The group that it is or ends in, if any."""
         return self.parts[-1] if isinstance(self.parts[-1], Group) else None
 
@@ -74,13 +75,13 @@ class Node(Tree):
     apply         a function and its arguments, as elements
     """
     kind: str
-    children: list
-    marks: list
+    children: list[Tree | None]
+    marks: list[str]
 
-    def on_one_line(self):
+    def on_one_line(self) -> str:
         return " ".join(self.words())
 
-    def words(self):
+    def words(self) -> list[str]:
         texts = [child.flat() for child in self.children if child]
         if self.kind == "marked":
             return ["".join(texts) + self.marks[0]]
@@ -92,7 +93,7 @@ class Node(Tree):
         return self.marks + texts if self.kind == "prefixed" else texts + self.marks
 
 
-def interleaved(texts, marks):
+def interleaved(texts: list[str | None], marks: list[str]) -> list[str]:
     """The texts with the marks between them; a text may lack."""
     between = [word for pair in zip(texts, marks + [None]) for word in pair]
     return [word for word in between if word]
@@ -104,9 +105,9 @@ class Frame:
     opener: str = ""
     touches: bool = False
     spaced: bool = False
-    elements: list = field(default_factory=list)
+    elements: list[Element] = field(default_factory=list)
 
-    def put(self, part, touches):
+    def put(self, part: str | Group, touches: bool) -> None:
         if self.elements and touches:
             self.elements[-1].parts.append(part)
         else:
@@ -114,7 +115,7 @@ class Frame:
             self.elements.append(Element([part]))
 
 
-def elements_of(tokens):
+def elements_of(tokens: Iterable[Token]) -> list[Element]:
     """The elements of a sequence of tokens, its brackets matched."""
     frames = [Frame()]
     for token in tokens:
@@ -129,7 +130,7 @@ def elements_of(tokens):
     return frames[0].elements
 
 
-def close(frames, closer, touches):
+def close(frames: list[Frame], closer: str, touches: bool) -> None:
     """Makes a group of what stands in the innermost open bracket, or of all so far where none is open."""
     frame = frames.pop()
     if not frames:
@@ -138,11 +139,11 @@ def close(frames, closer, touches):
     frames[-1].put(Group(frame.opener, body, closer, frame.spaced and bool(frame.opener), not touches), frame.touches)
 
 
-def operator_of(element):
+def operator_of(element: Element) -> int | None:
     return RANK_OF.get(element.parts[0]) if len(element.parts) == 1 and isinstance(element.parts[0], str) else None
 
 
-def node_of(elements):
+def node_of(elements: list[Tree]) -> Tree:
     """The tree of the elements of one bracket."""
     for mark in (";", ","):
         if any(element.ends_in(mark) for element in elements):
@@ -152,7 +153,7 @@ def node_of(elements):
     return clause(elements)
 
 
-def listed(elements, mark):
+def listed(elements: list[Tree], mark: str) -> Node:
     """The parts of a list; each but perhaps the last ends in the mark."""
     parts, part = [], []
     for element in elements:
@@ -164,7 +165,7 @@ def listed(elements, mark):
     return Node("list", [node_of_part(one) for one in parts], [])
 
 
-def node_of_part(elements):
+def node_of_part(elements: list[Tree]) -> Tree:
     """The tree of a list's part, with its mark at its end."""
     *others, last = elements
     if last.parts[-1] not in (";", ","):
@@ -175,7 +176,7 @@ def node_of_part(elements):
     return Node("marked", [node_of(others + inner)], [last.parts[-1] if inner else " " + last.parts[-1]])
 
 
-def alternatives(elements):
+def alternatives(elements: list[Tree]) -> Node:
     parts = [[]]
     for element in elements:
         if element.is_word("|"):
@@ -184,13 +185,13 @@ def alternatives(elements):
     return Node("alternatives", [alternative(part) for part in parts if part], [])
 
 
-def alternative(elements):
+def alternative(elements: list[Tree]) -> Tree:
     if elements[0].is_word("|") and len(elements) > 1:
         return Node("prefixed", [clause(elements[1:])], ["|"])
     return clause(elements)
 
 
-def clause(elements):
+def clause(elements: list[Tree]) -> Tree:
     """`a = e`, `p ↦ e`, `x : T`, or a term."""
     for place, element in enumerate(elements):
         if element.is_word("λ", "let"):
@@ -205,12 +206,12 @@ def clause(elements):
     return term(elements)
 
 
-def define(elements, place):
+def define(elements: list[Tree], place: int) -> Node:
     left, right = elements[:place], elements[place + 1 :]
     return Node("define", [clause(left) if left else None, term(right) if right else None], [elements[place].parts[0]])
 
 
-def ends_binding(elements):
+def ends_binding(elements: list[Tree]) -> int:
     """The place of the `in` that belongs to the `let` at the first place, or where there is none, the end."""
     depth = 0
     for place, element in enumerate(elements):
@@ -223,7 +224,7 @@ def ends_binding(elements):
     return len(elements)
 
 
-def unmatched_in(elements):
+def unmatched_in(elements: list[Tree]) -> int | None:
     """The place of the first `in` whose `let` stands before the piece."""
     depth = 0
     for place, element in enumerate(elements):
@@ -236,7 +237,7 @@ def unmatched_in(elements):
     return None
 
 
-def term(elements):
+def term(elements: list[Tree]) -> Tree:
     place = unmatched_in(elements)
     if place is not None and place > 0:
         rest = elements[place + 1 :]
@@ -249,7 +250,7 @@ def term(elements):
     return operators(elements)
 
 
-def abstraction(elements):
+def abstraction(elements: list[Tree]) -> Node:
     """`λ x y. e`"""
     for place, element in enumerate(elements):
         if element.ends_in("."):
@@ -258,7 +259,7 @@ def abstraction(elements):
     return Node("apply", elements, [])
 
 
-def binding(elements):
+def binding(elements: list[Tree]) -> Node:
     """`let x = e in b`; the piece may end before the `in` or behind it."""
     place = ends_binding(elements)
     bound, body = elements[1:place], elements[place + 1 :]
@@ -266,7 +267,7 @@ def binding(elements):
     return Node("let", [clause(bound) if bound else None, term(body) if body else None], ["in"] if has_in else [])
 
 
-def operators(elements):
+def operators(elements: list[Tree]) -> Tree:
     """The operands of the operators that bind the least, or an application."""
     ranks = ranks_of(elements)
     found = [rank for rank in ranks if rank is not None]
@@ -282,7 +283,7 @@ def operators(elements):
     return Node("operators", [operators(one) if one else None for one in operands], marks)
 
 
-def ranks_of(elements):
+def ranks_of(elements: list[Tree]) -> list[int | None]:
     """The rank of each element that is an operator; `then` and `else` are names where no `if` stands before them."""
     found, after_if = [], False
     for element in elements:

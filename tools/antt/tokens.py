@@ -1,5 +1,6 @@
 """The tokens of an .antt file, with their places."""
 import re
+from collections.abc import Iterable
 from dataclasses import dataclass
 
 # A comment, a quoted text, a bracket or mark that stands alone, an escaped name, a name or numeral.
@@ -21,7 +22,7 @@ class Token:
     touches: bool
     begins_line: bool
 
-    def is_comment(self):
+    def is_comment(self) -> bool:
         return self.kind == "comment"
 
 
@@ -29,7 +30,7 @@ class Unreadable(Exception):
     """A text that is no sequence of tokens."""
 
 
-def tokens_of_line(line, number):
+def tokens_of_line(line: str, number: int) -> list[Token]:
     """The tokens of one line."""
     at, found = 0, []
     while at < len(line):
@@ -45,13 +46,14 @@ def tokens_of_line(line, number):
     return found
 
 
-def tokens_of(text):
+def tokens_of(text: str) -> list[Token]:
     """The tokens of a text, from first to last."""
     return [token for number, line in enumerate(text.split("\n")) for token in tokens_of_line(line, number)]
 
 
-def words_of(tokens):
-    """What must stay the same when a text is laid out anew: the tokens, which of them touch, and the comments' words."""
+def words_of(tokens: Iterable[Token]) -> list[str | tuple[str, bool]]:
+    """What must stay the same when a text is laid out anew: the tokens, which of them touch, and the comments'
+    words."""
     found, in_comment = [], False
     for token in tokens:
         if token.is_comment():

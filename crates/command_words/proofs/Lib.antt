@@ -1,2 +1,4 @@
 pub mod Numerals
 pub mod Words
+pub mod Places
+pub mod CompileWords

@@ -1,10 +1,12 @@
 -- Numbers in decimal, read from their first digit on.
 use Rattle.std.proofs.Common.{◌≡◌, sym, ap, ◌∙◌, arith, ℕ, ◌+◌, ◌-◌, ◌*◌, ◌<◌, ◌≤◌, List, [], ◌∷◌, length, take, drop}
-use Rattle.std.proofs.Common.{take-append-drop, get_or, true}
+use Rattle.std.proofs.Common.{take-append-drop, get_or, true, nat_le}
+use Rattle.std.specs.Prelude.{◌≢◌, slice_index}
 use Rattle.std.specs.List.{list_all}
+use Rattle.std.proofs.lemmas.Bool.{and_parts, leb-true}
 use Rattle.std.proofs.lemmas.List.Sums.{fold-append, fold_more}
 use Rattle.silage_lex.specs.Bytes.{is_digit}
-use Rattle.silage_lex.specs.Texts.{decimal, decimal_after}
+use Rattle.silage_lex.specs.Texts.{is_digits, decimal, decimal_after}
 use Rattle.silage_lex.proofs.TextLemmas.{digits_from}
 use Rattle.command_words.specs.Command.{IsNumeral}
 
@@ -20,6 +22,16 @@ decimal_push text i x d there is =
 after_le : (number : ℕ) (digits : List ℕ) → number ≤ decimal_after number digits
 after_le number [] = omega arith
 after_le number (b ∷ digits) = omega (arith, after_le (10 * number + (b - 48)) digits)
+
+-- digits that do not begin with a zero
+pub positive : (text : List ℕ) → is_digits text ≡ true → slice_index text 0 ≢ 48 → 1 ≤ decimal text
+positive [] all other = absurd (cc)
+positive (b ∷ digits) all other =
+    let more = after_le (10 * 0 + (b - 48)) digits in
+    let digit = (and_parts (is_digit b) (list_all is_digit digits) all).0 in
+    let low = leb-true 48 b (and_parts (nat_le 48 b) (nat_le b 57) digit).0 in
+    let above : 49 ≤ b = omega (arith, low, other) in
+    omega (arith, more, above)
 
 pub front_le : (text : List ℕ) (i : ℕ) → decimal (take i text) ≤ decimal text
 front_le text i =

@@ -5,6 +5,7 @@ use Rattle.std.specs.Prelude.{String, string_bytes}
 use Rattle.std.specs.declared.alloc.Global.{Global}
 use Rattle.desk_core.specs.View.{Name}
 use Rattle.silage_lex.specs.Texts.{is_digits, decimal}
+use Rattle.command_words.specs.WordLists.{is_word_list, places_in, ArePlaces}
 
 -- a command, with its files and numbers
 pub data Command : Type 0 where
@@ -17,6 +18,8 @@ pub data Command : Type 0 where
   demo : (sections samples : ℕ) → Command
   stages : (src datapath : Name) (stages : ℕ) → Command
   pipe : (src datapath : Name) (stages : ℕ) (samples out : Name) → Command
+  frame : (src datapath : Name) (phases : ℕ) (down up : List ℕ) (out : Name) → Command
+  net : (net samples out : Name) → Command
 
 -- the text is decimal digits, which spell the number
 pub record IsNumeral (text : List ℕ) (number : ℕ) : Type 0 where
@@ -34,6 +37,8 @@ inputs_of (run src datapath samples out) = src ∷ datapath ∷ samples ∷ []
 inputs_of (demo sections samples) = []
 inputs_of (stages src datapath overlap) = src ∷ datapath ∷ []
 inputs_of (pipe src datapath overlap samples out) = src ∷ datapath ∷ samples ∷ []
+inputs_of (frame src datapath phases down up out) = src ∷ datapath ∷ []
+inputs_of (net joins samples out) = joins ∷ samples ∷ []
 
 -- the file that a command writes; where there is none, it prints
 abbrev pub output_of : Command → Option Name
@@ -46,6 +51,8 @@ output_of (run src datapath samples out) = Some out
 output_of (demo sections samples) = None
 output_of (stages src datapath overlap) = None
 output_of (pipe src datapath overlap samples out) = Some out
+output_of (frame src datapath phases down up out) = Some out
+output_of (net joins samples out) = Some out
 
 -- the words as names
 abbrev pub names_of : List (String Global) → List Name
@@ -110,6 +117,16 @@ pipe_form (src ∷ datapath ∷ overlap ∷ samples ∷ out ∷ []) =
     (pipe src datapath (decimal overlap) samples out)
 pipe_form _ = None
 
+abbrev pub frame_form : List Name → Option Command
+frame_form (src ∷ datapath ∷ phases ∷ down ∷ up ∷ out ∷ []) =
+    only_if (is_digit_count 8 phases && is_word_list down && is_word_list up && is_apart out (src ∷ datapath ∷ []))
+    (frame src datapath (decimal phases) (places_in down) (places_in up) out)
+frame_form _ = None
+
+abbrev pub net_form : List Name → Option Command
+net_form (joins ∷ samples ∷ out ∷ []) = only_if (is_apart out (joins ∷ samples ∷ [])) (net joins samples out)
+net_form _ = None
+
 -- the form that goes with a verb
 abbrev pub form_of : (verb : Name) → List Name → Option Command
 form_of verb words =
@@ -122,6 +139,8 @@ form_of verb words =
     else if bytes_eq verb (codes "demo") then demo_form words
     else if bytes_eq verb (codes "stages") then stages_form words
     else if bytes_eq verb (codes "pipe") then pipe_form words
+    else if bytes_eq verb (codes "frame") then frame_form words
+    else if bytes_eq verb (codes "net") then net_form words
     else None
 
 -- the command that the words are
@@ -173,7 +192,16 @@ IsStages words src datapath overlap = IsCommandIn words (stages src datapath ove
 abbrev pub IsPipe : List (String Global) → Name → Name → ℕ → Name → Name → Type 0
 IsPipe words src datapath overlap samples out = IsCommandIn words (pipe src datapath overlap samples out)
 
--- what holds of each command that words are: OUT is none of the inputs, and numbers are in their ranges
+-- the words are `frame SRC DP M DOWN UP OUT`, M is a digit from 1 to 8, DOWN and UP are lists of words by their places,
+-- and OUT is none of the inputs
+abbrev pub IsFrame : List (String Global) → Name → Name → ℕ → (down up : List ℕ) → Name → Type 0
+IsFrame words src datapath phases down up out = IsCommandIn words (frame src datapath phases down up out)
+
+-- the words are `net NET SAMPLES OUT`, and OUT is none of the inputs
+abbrev pub IsNet : List (String Global) → Name → Name → Name → Type 0
+IsNet words joins samples out = IsCommandIn words (net joins samples out)
+
+-- what holds of each command that words are: OUT is none of the inputs, numbers are in their ranges, and lists rise
 abbrev pub IsAllowed : Command → Type 0
 IsAllowed (compile src datapath out) = (out ≢ src) × (out ≢ datapath)
 IsAllowed (schedule src datapath) = ⊤
@@ -185,3 +213,6 @@ IsAllowed (demo sections samples) = ((1 ≤ sections) × (sections ≤ 32)) × (
 IsAllowed (stages src datapath overlap) = (1 ≤ overlap) × (overlap ≤ 4)
 IsAllowed (pipe src datapath overlap samples out) =
     ((1 ≤ overlap) × (overlap ≤ 4)) × (out ≢ src) × (out ≢ datapath) × (out ≢ samples)
+IsAllowed (frame src datapath phases down up out) =
+    ((1 ≤ phases) × (phases ≤ 8)) × ArePlaces down × ArePlaces up × (out ≢ src) × (out ≢ datapath)
+IsAllowed (net joins samples out) = (out ≢ joins) × (out ≢ samples)

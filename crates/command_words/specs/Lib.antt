@@ -1,2 +1,4 @@
 pub mod Command
 pub mod Named
+pub mod WordLists
+pub mod Compile

@@ -4,6 +4,7 @@ ghost use Rattle.command_words.specs.Command as spec;
 ghost use Rattle.command_words.specs.Named.{named};
 
 use crate::numbers::{digit_in, number_in};
+use crate::word_lists::{WordList, word_list};
 
 /// The most sections of a cascade.
 const MOST_SECTIONS: u64 = 32;
@@ -13,6 +14,9 @@ const MOST_SAMPLES: u64 = 100_000;
 
 /// The most samples that run at once.
 const MOST_STAGES: u8 = 4;
+
+/// The most samples of a frame.
+const MOST_PHASES: u8 = 8;
 
 /// A command, with its files and numbers.
 #[derive(Drop)]
@@ -58,6 +62,19 @@ pub enum Command<'a> {
         source: &'a str,
         datapath: &'a str,
         stages: u8,
+        samples: &'a str,
+        output: &'a str,
+    },
+    Frame {
+        source: &'a str,
+        datapath: &'a str,
+        phases: u8,
+        down: WordList,
+        up: WordList,
+        output: &'a str,
+    },
+    Net {
+        net: &'a str,
         samples: &'a str,
         output: &'a str,
     },
@@ -234,6 +251,49 @@ fn pipe_form(words: &[String]) -> Option<Command<'_>>
     }
 }
 
+/// The words of `frame`.
+fn frame_form(words: &[String]) -> Option<Command<'_>>
+    ensures form { MatchOption result (spec.frame_form (spec.names_of words.now) ≡ None)
+        (λ found. spec.frame_form (spec.names_of words.now) ≡ Some (named found)) }
+    ensures allowed { IfSome result (λ found. spec.IsAllowed (named found)) }
+{
+    match words {
+        [source, datapath, phases, down, up, output]
+            if differ(output.as_str(), source.as_str())
+                && differ(output.as_str(), datapath.as_str()) => {
+            Some(Command::Frame {
+                source: source.as_str(),
+                datapath: datapath.as_str(),
+                phases: digit_in(phases.as_bytes(), MOST_PHASES)?,
+                down: word_list(down.as_str())?,
+                up: word_list(up.as_str())?,
+                output: output.as_str(),
+            })
+        }
+        _ => None,
+    }
+}
+
+/// The words of `net`.
+fn net_form(words: &[String]) -> Option<Command<'_>>
+    ensures form { MatchOption result (spec.net_form (spec.names_of words.now) ≡ None)
+        (λ found. spec.net_form (spec.names_of words.now) ≡ Some (named found)) }
+    ensures allowed { IfSome result (λ found. spec.IsAllowed (named found)) }
+{
+    match words {
+        [net, samples, output]
+            if differ(output.as_str(), net.as_str()) && differ(output.as_str(), samples.as_str()) =>
+            {
+                Some(Command::Net {
+                    net: net.as_str(),
+                    samples: samples.as_str(),
+                    output: output.as_str(),
+                })
+            }
+        _ => None,
+    }
+}
+
 /// The command that the words are, or nothing where they are none.
 pub fn command_in(words: &[String]) -> Option<Command<'_>>
     ensures is { MatchOption result (spec.command_in (spec.names_of words.now) ≡ None)
@@ -251,6 +311,8 @@ pub fn command_in(words: &[String]) -> Option<Command<'_>>
         "demo" => demo_form(words),
         "stages" => stages_form(words),
         "pipe" => pipe_form(words),
+        "frame" => frame_form(words),
+        "net" => net_form(words),
         _ => None,
     }
 }

@@ -3,5 +3,7 @@
 
 mod forms;
 mod numbers;
+mod word_lists;
 
 pub use forms::{Command, command_in};
+pub use word_lists::WordList;

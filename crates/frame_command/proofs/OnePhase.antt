@@ -4,7 +4,8 @@ use Rattle.desk_core.specs.View.{Name, Content, View}
 use Rattle.desk_core.specs.Desk.{content_of}
 use Rattle.flow_graph.specs.PrunedGraph.{IsPrunedGraphOf}
 use Rattle.frame_command.specs.Frame.{IsFramed, AreFramed, IsFrameAnswer, IsCompiledToo}
-use Rattle.frame_command.specs.FrameGraphs.{rates, IsFrameGraph}
+use Rattle.frame_command.specs.FrameGraphs.{IsFrameGraph}
+use Rattle.rate_unfold.specs.Frames.{rates}
 use Rattle.frame_command.specs.FramePlans.{IsUnframed, IsFrameRefusal, IsFrameRefused, IsFrameError}
 use Rattle.frame_command.proofs.OneFrameGraph.{flat_sound, flat_free}
 use Rattle.front_end.specs.GraphOf.{IsProgramGraph}

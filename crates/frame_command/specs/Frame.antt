@@ -9,7 +9,7 @@ use Rattle.frame_command.specs.FramePlans.{IsFramedOver, IsFrameError}
 use Rattle.micro_image.specs.Fields.{microprogram_of}
 use Rattle.micro_image.specs.Run.{IsRunOut}
 use Rattle.micro_image.specs.declared.image.Image.{Image}
-use Rattle.plan_commands.specs.Compile.{IsWriteAnswerOf, IsAnswer}
+use Rattle.plan_commands.specs.Compile.{IsWrittenOf, IsWriteAnswerOf, IsAnswer}
 use Rattle.plan_commands.specs.Headline.{SpellsOnly}
 use Rattle.plan_core.specs.declared.plan.Plan.{Plan}
 use Rattle.plan_soundness.specs.ImageOf.{IsImageOf}
@@ -49,6 +49,10 @@ module _ (r : Rates) where
   -- the microcode is that of the program over frames, from the source and the datapath in the files
   abbrev pub AreFramed : Name → Name → Content → Files → Type 0
   AreFramed src datapath microcode files = IsFramed (content_of (files src)) (content_of (files datapath)) microcode
+
+  -- microcode was made over frames from the source and the datapath as the files were at the start, and OUT has it
+  abbrev pub IsFrameDone : (src datapath out : Name) → View → View → Type 0
+  IsFrameDone src datapath = IsWrittenOf (AreFramed src datapath) datapath
 
   -- when each status comes
   abbrev pub IsFrameAnswer : (src datapath out : Name) → View → View → Status → Type 0

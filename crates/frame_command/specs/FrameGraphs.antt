@@ -1,6 +1,6 @@
 -- Programs over frames: which graph a program has where a machine does several of its samples in one, and what that
 -- graph keeps.
-use Rattle.std.specs.Prelude.{◌≡◌, ℕ, ◌*◌, List, length}
+use Rattle.std.specs.Prelude.{◌≡◌, ℕ, ◌*◌, length}
 use Rattle.lists.specs.Rows.{Rows}
 use Rattle.flow_graph.specs.PrunedGraph.{IsPrunedGraphOf}
 use Rattle.front_end.specs.ProgramFlat.{IsProgramFlat}
@@ -16,10 +16,6 @@ use Rattle.signal_graph.specs.declared.graph.Graph.{Graph}
 use Rattle.silage_meaning.specs.Solves.{IsOneSolution, input_types, output_types, out}
 use Rattle.silage_meaning.specs.Value.{Words}
 use Rattle.silage_syntax.specs.Tree.{Program}
-
--- the rates of so many phases, with these slow output words and input words
-abbrev pub rates : (phases : ℕ) → (down up : List ℕ) → Rates
-rates phases down up = record { phases = phases; down = down; up = up }
 
 module _ (r : Rates) where
   -- The graph of a flat program over frames: that of the unfolded program, without the nodes from which no output is

@@ -2,10 +2,9 @@
 ghost use Rattle.std.specs.Prelude.{◌≡◌, ◌≢◌, [], ◌∷◌, IfOk, IfErr};
 ghost use Rattle.desk_core.specs.Desk.{FaultsNeverFall};
 ghost use Rattle.frame_command.specs.Frame.{AreFramed, IsFrameAnswer, IsCompiledToo};
-ghost use Rattle.frame_command.specs.FrameGraphs.{rates};
 ghost use Rattle.frame_command.specs.FramePlans.{IsFrameError};
 ghost use Rattle.plan_commands.specs.Compiling.{IsMadeOf};
-ghost use Rattle.rate_unfold.specs.Frames.{AreRates};
+ghost use Rattle.rate_unfold.specs.Frames.{AreRates, rates};
 ghost use Rattle.silc_files.specs.Endings.{IsAmong, UsesOnly};
 ghost use Rattle.silc_files.specs.Reading.{OnlyReads};
 

@@ -1,14 +1,14 @@
 //! The plan of a source over frames, which `frame` makes.
 ghost use Rattle.std.specs.Prelude.{◌≡◌, ◌⊎◌, [], ◌∷◌, IfOk, IfErr};
 ghost use Rattle.datapath.specs.Allowed.{IsDatapath};
-ghost use Rattle.frame_command.specs.FrameGraphs.{rates, IsGraphOfFrames};
+ghost use Rattle.frame_command.specs.FrameGraphs.{IsGraphOfFrames};
 ghost use Rattle.frame_command.specs.FramePlans.{IsFrameError};
 ghost use Rattle.frame_command.specs.Planning.{IsFlatIn, KeepsFrameRows, HasFrameGraph, IsNoFrameSource};
 ghost use Rattle.frame_command.specs.Planning.{IsInputFramePlan, IsNoInputFramePlan, IsReadFramePlan};
 ghost use Rattle.plan_commands.specs.Planning.{IsNoSource};
 ghost use Rattle.rate_faults.specs.declared.FrameFault.TheVariants.{Memory};
 ghost use Rattle.rate_unfold.specs.Faults.{IsFrameFault};
-ghost use Rattle.rate_unfold.specs.Frames.{AreRates};
+ghost use Rattle.rate_unfold.specs.Frames.{AreRates, rates};
 ghost use Rattle.signal_graph.specs.Flat as flat_program;
 ghost use Rattle.signal_graph.specs.FlatRules.{IsFlat};
 ghost use Rattle.signal_graph.specs.FlatSolves.{IsFlatLoopless};

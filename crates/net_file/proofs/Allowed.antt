@@ -1,5 +1,5 @@
 -- A net that a file describes is within the ranges of a net.
-use Rattle.std.proofs.Common.{◌≡◌, ◌≢◌, ℕ, suc, ◌+◌, ◌<◌, ◌≤◌, Bool, true, false, nat_lt, List, [], ◌∷◌, length, Option}
+use Rattle.std.proofs.Common.{◌≡◌, ◌≢◌, ℕ, suc, ◌+◌, ◌<◌, ◌≤◌, Bool, true, List, [], ◌∷◌, length, Option}
 use Rattle.std.proofs.Common.{Some, None}
 use Rattle.std.proofs.Common.{Result, Ok, Err, inl, inr, refl, arith}
 use Rattle.std.specs.Prelude.{IfOk, find, Contains}
@@ -10,9 +10,8 @@ use Rattle.std.proofs.lemmas.Bool.{cases_Bool}
 use Rattle.std.proofs.lemmas.Bool.Decides.{nat_tests}
 use Rattle.toml.specs.Data.{Data, Members, string, integer, float, boolean, datetime, array, table}
 use Rattle.toml_rows.specs.declared.misfit.Misfit.{Misfit}
-use Rattle.toml_rows.specs.declared.misfit.Misfit.TheVariants.{WrongKind, Range}
-use Rattle.toml_rows.specs.Rows.{IsValue}
-use Rattle.toml_rows.specs.Values.{whole, a_table}
+use Rattle.toml_rows.specs.declared.misfit.Misfit.TheVariants.{Range}
+use Rattle.toml_rows.specs.Values.{a_table}
 use Rattle.toml_rows.proofs.Judged.{value_is, whole_within, array_each}
 use Rattle.net_core.specs.Allowed.{IsWithin, IsWire, IsProc, AreProcsFrom, IsNetFile}
 use Rattle.net_core.specs.declared.types.NetFile.{NetFile}

@@ -1,5 +1,5 @@
 -- What is read of a file is what it describes, within the ranges of a net; and the fault that is met is the first.
-use Rattle.std.proofs.Common.{◌≡◌, ◌≢◌, ◌^◌, ◌⊎◌, ℕ, ◌+◌, ◌<◌, ◌≤◌, Bool, true, false, List, [], ◌∷◌, ◌++◌, length}
+use Rattle.std.proofs.Common.{◌≡◌, ◌≢◌, ◌^◌, ◌⊎◌, ℕ, ◌+◌, ◌≤◌, Bool, true, false, List, [], ◌∷◌, ◌++◌, length}
 use Rattle.std.proofs.Common.{Option}
 use Rattle.std.proofs.Common.{Some, None, Result, Ok, Err, nat_lt, nat_le, if◌then◌else◌, refl, ap, ap₂, sym, ◌∙◌}
 use Rattle.std.proofs.Common.{subst, inl, inr}
@@ -12,12 +12,11 @@ use Rattle.std.proofs.lemmas.List.{length_push, append-nil}
 use Rattle.std.proofs.lemmas.Str.{IsUtf8-from_is_utf8, is_utf8-from_IsUtf8}
 use Rattle.toml.specs.Data.{Members}
 use Rattle.toml.specs.Parse.{parse_document}
-use Rattle.fault_order.specs.Rules.{none, ◌▸◌, parts, each_from, faults}
-use Rattle.fault_order.specs.Private.FirstMet.{first, first_in}
+use Rattle.fault_order.specs.Rules.{parts, each_from, faults}
+use Rattle.fault_order.specs.Private.FirstMet.{first}
 use Rattle.fault_order.proofs.FirstFaults.{Answers}
 use Rattle.fault_order.proofs.TableFaults.{then_ok, first_answers}
-use Rattle.toml_rows.specs.Reading.{◌>>=◌, Gives, key, only, in_turn}
-use Rattle.toml_rows.specs.Rows.{value_or}
+use Rattle.toml_rows.specs.Reading.{Gives, key, only, in_turn}
 use Rattle.toml_rows.proofs.FirstRules.{fault_of, reads_first, key_first, value_is, only_first, turns_first}
 use Rattle.toml_rows.proofs.Kept.{same_Ok, bind_ok, value_of_key, has_only}
 use Rattle.net_core.specs.declared.fault.NetFault.{NetFault}

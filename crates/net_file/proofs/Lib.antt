@@ -1,4 +1,5 @@
 pub mod Spelled
 pub mod Described
 pub mod Allowed
+pub mod OneNet
 mod Worked

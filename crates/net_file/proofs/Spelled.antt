@@ -1,5 +1,5 @@
 -- The wire that is found by the bytes of a text is the one that is written so.
-use Rattle.std.proofs.Common.{◌≡◌, ℕ, zero, suc, ◌+◌, ◌-◌, ◌*◌, ◌/◌, ◌%◌, ◌<◌, ◌≤◌, ◌⊎◌, Bool, true, false, ◌&&◌, ◌==◌}
+use Rattle.std.proofs.Common.{◌≡◌, ℕ, zero, suc, ◌+◌, ◌-◌, ◌*◌, ◌/◌, ◌%◌, ◌<◌, ◌≤◌, Bool, true, false, ◌&&◌, ◌==◌}
 use Rattle.std.proofs.Common.{nat_lt, nat_le, List, [], ◌∷◌, ◌++◌, length, get_or, drop, map, Option, Some, None}
 use Rattle.std.proofs.Common.{option_map}
 use Rattle.std.proofs.Common.{if◌then◌else◌, refl, ap, ap₂, inl, inr, arith, sym, ◌∙◌, subst}
@@ -7,7 +7,7 @@ use Rattle.std.specs.Prelude.{codes, find, Contains}
 use Rattle.std.specs.Fmt.{decimal, digits}
 use Rattle.std.specs.List.{range_with_len}
 use Rattle.std.specs.Str.{bytes_eq}
-use Rattle.std.proofs.lemmas.Bool.{cases_Bool, cases_lt, false≢true}
+use Rattle.std.proofs.lemmas.Bool.{cases_Bool, false≢true}
 use Rattle.std.proofs.lemmas.Bool.Decides.{nat_tests}
 use Rattle.std.proofs.lemmas.Fmt.{decimal_digit}
 use Rattle.std.proofs.lemmas.List.Elements.{Contains-append_left, Contains-append_right, Contains-append_cases}
@@ -18,7 +18,7 @@ use Rattle.net_core.specs.Allowed.{most_words}
 use Rattle.net_core.specs.declared.types.Wire.{Wire}
 use Rattle.net_core.specs.declared.types.Wire.TheVariants.{Input, From}
 use Rattle.net_file.specs.Spelling.{spelling, wires, wire_spelled}
-use Rattle.net_file.specs.Private.Spelled.{digit, teen, number, is_input, is_from, from, spelled, is_wire}
+use Rattle.net_file.specs.Private.Spelled.{digit, number, is_input, is_from, from, spelled, is_wire}
 
 -- the numbers of words in decimal
 numerals : map (λ j. number (decimal j)) (range_with_len 0 16) ≡ map Some (range_with_len 0 16)

@@ -1,5 +1,5 @@
 -- Which net a file describes: each field is what the file has at its key, or the key's default.
-use Rattle.std.specs.Prelude.{true, ◌≡◌, ℕ, ◌+◌, ◌≤◌, ◌^◌, List, [], ◌∷◌, length, Some}
+use Rattle.std.specs.Prelude.{IsUtf8, true, ◌≡◌, ℕ, ◌+◌, ◌≤◌, ◌^◌, List, [], ◌∷◌, length, Some}
 use Rattle.std.specs.Str.{is_utf8}
 use Rattle.toml.specs.Data.{Members}
 use Rattle.toml.specs.Parse.{parse_document}
@@ -38,3 +38,7 @@ pub record IsNetOf (bytes : List ℕ) (net : NetFile) : Type 0 where
   pub table : Members
   pub toml : parse_document bytes ≡ Some table
   pub net_in : IsNetIn table net
+
+-- the names of its files are texts, as the strings of a file of TOML are
+abbrev pub HasTexts : NetProc → Type 0
+HasTexts proc = IsUtf8 proc.src × IsUtf8 proc.dp

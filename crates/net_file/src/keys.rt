@@ -1,6 +1,6 @@
 //! What stands at a key, or the fault of its table.
 
-ghost use Rattle.std.specs.Prelude.{◌≡◌, ◌≤◌, IfOk, IfSome, None};
+ghost use Rattle.std.specs.Prelude.{◌≡◌, ◌≤◌, IfOk, IfSome, None, IsUtf8};
 ghost use Rattle.toml.specs.View.{view, table_view};
 ghost use Rattle.toml_rows.specs.Reading.{Gives, judged, key, misfit_at, only};
 ghost use Rattle.toml_rows.specs.Rows.{row};
@@ -58,7 +58,8 @@ pub(crate) fn whole_key(
 }
 
 fn name_of(alloc: Global, section: NetSection, value: &Value) -> Result<Name, NetFault>
-    ensures { Gives Memory result (judged (in_table section) (file_name (view value.now))) }
+    ensures name { Gives Memory result (judged (in_table section) (file_name (view value.now))) }
+    ensures text { IfOk result IsUtf8 }
 {
     match value.as_str() {
         None => Err(NetFault::WrongKind(section)),
@@ -80,7 +81,8 @@ pub(crate) fn name_key(
     table: &Table,
     name: &str,
 ) -> Result<Name, NetFault>
-    ensures { Gives Memory result (key (in_table section) (table_view table.now) (row name.now file_name None)) }
+    ensures name { Gives Memory result (key (in_table section) (table_view table.now) (row name.now file_name None)) }
+    ensures text { IfOk result IsUtf8 }
 {
     match member(table, name) {
         Some(value) => name_of(alloc, section, value),

@@ -1,12 +1,14 @@
 //! The tables of the processors.
 
 ghost use Rattle.std.specs.Prelude.{◌≡◌, ◌<◌, ◌≤◌, length, map, IfOk, [], None};
+ghost use Rattle.std.specs.List.{All};
 ghost use Rattle.toml.specs.View.{view, table_view, array_view};
 ghost use Rattle.toml_rows.specs.Reading.{Gives, GivesAs, key, in_turn};
 ghost use Rattle.toml_rows.specs.Values.{a_table, entries, array_within};
 ghost use Rattle.net_core.specs.declared.fault.NetFault.TheVariants.{Memory};
 ghost use Rattle.net_core.specs.declared.fault.NetSection.TheVariants as section;
 ghost use Rattle.net_file.specs.Table as row;
+ghost use Rattle.net_file.specs.Described.{HasTexts};
 ghost use Rattle.net_file.specs.NetRules.{in_table};
 ghost use Rattle.net_file.specs.Private.Lent.{seen};
 ghost use Rattle.net_file.specs.Private.Reading.{proc_in, proc_at};
@@ -70,7 +72,8 @@ pub(crate) fn tables_key(alloc: Global, table: &Table) -> Result<List<&Table>, N
 fn proc_in(alloc: Global, inputs: u8, own: u8, table: &Table) -> Result<NetProc, NetFault>
     requires inputs { inputs ≤ 16 }
     requires own { own < 8 }
-    ensures { Gives Memory result (proc_in inputs own (table_view table.now)) }
+    ensures proc { Gives Memory result (proc_in inputs own (table_view table.now)) }
+    ensures texts { IfOk result HasTexts }
 {
     let section = NetSection::Proc(own);
     only_keys(section, table, &["src", "dp", "feed"])?;
@@ -88,7 +91,8 @@ pub(crate) fn all_procs(
 ) -> Result<List<NetProc>, NetFault>
     requires inputs { inputs ≤ 16 }
     requires count { length tables.now ≤ 8 }
-    ensures { Gives Memory result (in_turn (proc_at inputs) [] (map (λ t. table_view t.now) tables.now)) }
+    ensures procs { Gives Memory result (in_turn (proc_at inputs) [] (map (λ t. table_view t.now) tables.now)) }
+    ensures texts { IfOk result (All HasTexts) }
 {
     let mut procs = List::with_capacity(alloc, tables.len())?;
     for table in tables {

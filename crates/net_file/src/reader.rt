@@ -1,11 +1,12 @@
 //! The whole file.
 
 ghost use Rattle.std.specs.Prelude.{◌≡◌, ◌⊎◌, IfOk, IfErr, OnOk};
+ghost use Rattle.std.specs.List.{All};
 ghost use Rattle.toml.specs.View.{table_view};
 ghost use Rattle.toml_rows.specs.Reading.{Gives};
 ghost use Rattle.net_core.specs.Allowed.{IsNetFile};
 ghost use Rattle.net_core.specs.declared.fault.NetFault.TheVariants.{Memory};
-ghost use Rattle.net_file.specs.Described.{IsNetOf};
+ghost use Rattle.net_file.specs.Described.{IsNetOf, HasTexts};
 ghost use Rattle.net_file.specs.NetRules.{IsNetFileFault, HasNoFault};
 ghost use Rattle.net_file.specs.Private.Reading.{net_in, net_of};
 
@@ -20,7 +21,8 @@ const MOST_BYTES: usize = 1 << 20;
 
 #[tactic(auto, unfolding(crate::specs::Private::Reading::net_in))]
 fn net_in(alloc: Global, table: &Table) -> Result<NetFile, NetFault>
-    ensures { Gives Memory result (net_in (table_view table.now)) }
+    ensures net { Gives Memory result (net_in (table_view table.now)) }
+    ensures texts { IfOk result (λ net. All HasTexts net.procs) }
 {
     only_keys(NetSection::Top, table, &["inputs", "capacity", "proc"])?;
     let inputs = whole_key(table, "inputs", None, 16)?;
@@ -37,7 +39,8 @@ fn net_in(alloc: Global, table: &Table) -> Result<NetFile, NetFault>
 /// The net, or the first fault that is met on the way through the file.
 #[tactic(auto, unfolding(crate::specs::Private::Reading::net_of))]
 fn read_in_order(alloc: Global, text: &[u8]) -> Result<NetFile, NetFault>
-    ensures { Gives Memory result (net_of text.now) }
+    ensures net { Gives Memory result (net_of text.now) }
+    ensures texts { IfOk result (λ net. All HasTexts net.procs) }
 {
     if text.len() > MOST_BYTES {
         return Err(NetFault::TooLong);
@@ -63,6 +66,7 @@ fn read_in_order(alloc: Global, text: &[u8]) -> Result<NetFile, NetFault>
 pub fn read_net(alloc: Global, text: &[u8]) -> Result<NetFile, NetFault>
     ensures described { IfOk result (IsNetOf text.now) }
     ensures allowed { IfOk result IsNetFile }
+    ensures texts { IfOk result (λ net. All HasTexts net.procs) }
     ensures clear { OnOk result (HasNoFault text.now) }
     ensures fault { IfErr result (λ fault. (fault ≡ Memory) ⊎ IsNetFileFault text.now fault) }
 {

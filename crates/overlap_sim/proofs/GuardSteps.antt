@@ -17,7 +17,7 @@ use Rattle.overlap_sim.specs.declared.guarded.Guarded.{Guarded}
 use Rattle.overlap_sim.specs.declared.guarded.GuardedWord.{GuardedWord}
 use Rattle.overlap_sim.specs.Guarded.{of_guarded, unguarded}
 use Rattle.overlap_sim.specs.GuardedOf.{overlap_of, IsGuardedOf}
-use Rattle.overlap_sim.specs.StagePlanned.{IsStagePlanned}
+use Rattle.overlap_plan.specs.StagePlanned.{IsStagePlanned}
 use Rattle.overlap_sim.specs.Private.Staged.{IsStageReady, AreWords}
 use Rattle.overlap_sim.specs.Private.Cells.{AreCellsStarted}
 use Rattle.overlap_sim.proofs.GuardedRuns.{offsets_of}
@@ -28,7 +28,7 @@ use Rattle.overlap_sim.proofs.StageFeasible.{stage_feasible, stage_runs}
 pub stage_ready : (d : Datapath) (sp : StagePlan) → IsDatapath d → IsStagePlanned d sp → IsStageReady d sp
 stage_ready d sp path planned =
     let machine = machine_of d path in
-    let feasible = stage_feasible planned.graph d sp.stages sp planned.sound machine (omega (arith, planned.stages.0))
+    let feasible = stage_feasible planned.graph d sp.stages sp planned.sound machine (omega (arith, planned.some))
     planned.plan in record {
       ready = record {
         graph = planned.graph;
@@ -40,7 +40,7 @@ stage_ready d sp path planned =
         copies = planned.plan.registers.copies;
         inits = inits_rise planned.graph d (plan_of sp) planned.sound feasible;
       };
-      few = planned.stages.1;
+      few = planned.few;
       offsets =
           offsets_of planned.graph d (plan_of sp) planned.sound planned.plan.lowered planned.plan.assigned;
     }
@@ -54,7 +54,7 @@ pub planned_valid : (d : Datapath) (sp : StagePlan) (guarded : Guarded)
 planned_valid d sp guarded path planned of =
     let machine = machine_of d path in
     guarded_valid sp.stages planned.graph d (plan_of sp) planned.sound machine
-    (stage_feasible planned.graph d sp.stages sp planned.sound machine (omega (arith, planned.stages.0)) planned.plan)
+    (stage_feasible planned.graph d sp.stages sp planned.sound machine (omega (arith, planned.some)) planned.plan)
     guarded of
 
 -- and it runs the solution of each graph whose plan this is, all but one of the stages late
@@ -66,7 +66,7 @@ pub planned_runs : (g : Graph) (d : Datapath) (sp : StagePlan) (guarded : Guarde
     → IsGuardedOf sp.stages d (plan_of sp) guarded
     → RunsSolutionLate (sp.stages - 1) g (of_guarded guarded)
 planned_runs g d sp guarded path planned sound plan of =
-    stage_runs g d sp.stages sp guarded sound (machine_of d path) (omega (arith, planned.stages.0)) plan of
+    stage_runs g d sp.stages sp guarded sound (machine_of d path) (omega (arith, planned.some)) plan of
 
 -- the guarded image has these parts
 pub guarded_is :

@@ -1,4 +1,3 @@
 pub mod Guarded
 pub mod GuardedOf
-pub mod StagePlanned
 pub mod Private

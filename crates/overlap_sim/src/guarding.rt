@@ -9,7 +9,7 @@ ghost use Rattle.plan_soundness.specs.Run.{RunsSolutionLate};
 ghost use Rattle.overlap_plan.specs.IsStagePlan.{IsStagePlan, plan_of};
 ghost use Rattle.overlap_sim.specs.Guarded.{of_guarded, unguarded};
 ghost use Rattle.overlap_sim.specs.GuardedOf.{IsGuardedOf};
-ghost use Rattle.overlap_sim.specs.StagePlanned.{IsStagePlanned};
+ghost use Rattle.overlap_plan.specs.StagePlanned.{IsStagePlanned};
 ghost use Rattle.overlap_sim.specs.Private.Staged.{IsStageReady};
 
 use crate::guarded::Guarded;

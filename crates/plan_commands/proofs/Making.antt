@@ -1,10 +1,11 @@
 -- How the parts of `compile` make up its answer, and those of any command that writes microcode of its files.
 use Rattle.std.proofs.Common.{◌≡◌, sym, subst, inl, inr, ⊎_elim}
 use Rattle.desk_core.specs.View.{Name, Content, Files, View}
-use Rattle.desk_core.specs.Desk.{FaultsNeverFall, IsUnchanged, IfSpecified, IsPut}
+use Rattle.desk_core.specs.Desk.{FaultsNeverFall, IsUnchanged, IfSpecified, IsPut, content_of}
 use Rattle.desk_core.proofs.DeskLemmas.{specified_from}
 use Rattle.plan_commands.specs.Compile.{AreCompiled, IsDoneOf, IsWrittenOf, IsWriteCutShortOf, IsWriteAnswerOf}
-use Rattle.plan_commands.specs.Compile.{IsDone, IsCompileDone, IsAnswer}
+use Rattle.plan_commands.specs.Compile.{HasTheSolution, IsDone, IsCompileDone, IsAnswer}
+use Rattle.plan_commands.specs.Headline.{CarriesTheSolution, IsCompiled}
 use Rattle.silc_files.specs.Endings.{IsNotWritten, IsFinished}
 use Rattle.silc_files.specs.Limits.{text_limit}
 use Rattle.plan_commands.specs.Refusals.{IsRefusal, IsRefused, IsPlanError}
@@ -73,10 +74,43 @@ module _ (IsOf : Content → Files → Type 0) (last out : Name) where
       write_reported error h = still error h
 
 -- so it is where it is compiled from the files
-pub headline_at : (src datapath out : Name) (old new : View)
+pub compiled_at : (src datapath out : Name) (old new : View)
     → IsCompileDone src datapath out old new
     → IfSpecified (IsDone src datapath out) old.files new.files
-headline_at src datapath out = written_at (AreCompiled src datapath) datapath out
+compiled_at src datapath out = written_at (AreCompiled src datapath) datapath out
+
+-- what is compiled carries the solution
+carries : (source datapath microcode : Content)
+    → IsCompiled source datapath microcode
+    → CarriesTheSolution source datapath microcode
+carries source datapath microcode h =
+    let over = h.planned.has in
+    record {
+      tokens = over.read.read.tokens;
+      lexed = over.read.read.lexed;
+      program = h.program;
+      parsed = over.read.read.parsed.is;
+      path = h.path;
+      described = over.described;
+      image = h.image;
+      spelled = h.spelled;
+      runs = h.runs;
+      period = h.period;
+    }
+
+pub headline_at : (src datapath out : Name) (old new : View)
+    → IsCompileDone src datapath out old new
+    → IfSpecified (HasTheSolution src datapath out) old.files new.files
+headline_at src datapath out old new h after is =
+    let (before, were, done) = compiled_at src datapath out old new h after is in (
+      before,
+      were,
+      record {
+        microcode = done.microcode;
+        compiled = carries (content_of (before src)) (content_of (before datapath)) done.microcode done.compiled;
+        put = done.put;
+      },
+    )
 
 pub reported : (src datapath out : Name) (old mid new : View)
     → IsUnchanged mid new

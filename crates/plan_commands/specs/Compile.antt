@@ -4,7 +4,7 @@ use Rattle.desk_core.specs.View.{Name, Content, Files, View}
 use Rattle.desk_core.specs.Desk.{IfSpecified, WhereSpecified, IsPut, content_of}
 use Rattle.std.specs.Prelude.{◌⊎◌}
 use Rattle.silc_files.specs.Endings.{IsNotWritten, IsFinished}
-use Rattle.plan_commands.specs.Headline.{IsCompiled}
+use Rattle.plan_commands.specs.Headline.{CarriesTheSolution, IsCompiled}
 use Rattle.silc_files.specs.Limits.{text_limit}
 use Rattle.plan_commands.specs.Refusals.{IsPlanError}
 use Rattle.statuses.specs.declared.status.Status.{Status}
@@ -13,6 +13,11 @@ use Rattle.statuses.specs.declared.status.Status.TheVariants.{Done, Desk}
 -- the microcode is compiled from the source and the datapath in the files
 abbrev pub AreCompiled : Name → Name → Content → Files → Type 0
 AreCompiled src datapath microcode files = IsCompiled (content_of (files src)) (content_of (files datapath)) microcode
+
+-- the microcode carries the solution of the source in the files, in the period of their datapath
+abbrev pub AreCarried : Name → Name → Content → Files → Type 0
+AreCarried src datapath microcode files =
+    CarriesTheSolution (content_of (files src)) (content_of (files datapath)) microcode
 
 -- OUT has microcode of the files, and every other file is as it was. `IsOf` says which microcode files have.
 pub record IsDoneOf (IsOf : Content → Files → Type 0) (out : Name) (before after : Files) : Type 0 where
@@ -45,6 +50,10 @@ abbrev pub IsWriteAnswerOf : (IsOf : Content → Files → Type 0)
 IsWriteAnswerOf IsOf IsError last out old new Done = IsWrittenOf IsOf last out old new
 IsWriteAnswerOf IsOf IsError last out old new Desk = IsError old new Desk ⊎ IsWriteCutShortOf IsOf last out old new
 IsWriteAnswerOf IsOf IsError last out old new error = IsError old new error
+
+-- OUT has microcode that carries the solution of the source, and every other file is as it was
+abbrev pub HasTheSolution : (src datapath out : Name) → (before after : Files) → Type 0
+HasTheSolution src datapath = IsDoneOf (AreCarried src datapath)
 
 -- OUT has microcode compiled from the source and the datapath, and every other file is as it was
 abbrev pub IsDone : (src datapath out : Name) → (before after : Files) → Type 0

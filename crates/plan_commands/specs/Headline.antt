@@ -1,6 +1,7 @@
 -- What `compile` promises of the microcode that it writes.
 use Rattle.std.specs.Prelude.{◌≡◌, ◌≤◌, ℕ, List, length}
 use Rattle.lists.specs.Rows.{Rows}
+use Rattle.datapath.specs.Described.{IsPathOf}
 use Rattle.datapath.specs.declared.types.Datapath.{Datapath}
 use Rattle.micro_image.specs.declared.image.Image.{Image}
 use Rattle.micro_image.specs.Fields.{microprogram_of}
@@ -9,6 +10,9 @@ use Rattle.micro_image.specs.declared.version.Version.TheVariants.{Two}
 use Rattle.micro_image.specs.Spells.{SpellsIn, Spells}
 use Rattle.plan_core.specs.declared.plan.Plan.{Plan}
 use Rattle.plan_soundness.specs.ImageOf.{IsImageOf}
+use Rattle.silage_lex.specs.Tokens.{HasTokens}
+use Rattle.silage_lex.specs.declared.Token.{Token}
+use Rattle.silage_parse.specs.Answers.{IsOnly}
 use Rattle.silage_syntax.specs.Tree.{Program}
 use Rattle.silage_meaning.specs.Value.{Words}
 use Rattle.silage_meaning.specs.Solves.{IsStream, IsOneSolution, out}
@@ -27,6 +31,21 @@ RunsTheSolution program image =
     (stream : Rows) → IsStream program stream
     → (words : Words) × IsOneSolution program stream words
     × IsRunOut (microprogram_of image) stream (out program words (length stream))
+
+-- The bytes of the source are one program, and the file describes a datapath. The microcode spells an image in version
+-- 2
+-- and nothing else, and that image runs the program's one solution in the datapath's period.
+pub record CarriesTheSolution (source datapath microcode : List ℕ) : Type 0 where
+  pub tokens : List Token
+  pub lexed : HasTokens source tokens
+  pub program : Program
+  pub parsed : IsOnly tokens program
+  pub path : Datapath
+  pub described : IsPathOf datapath path
+  pub image : Image
+  pub spelled : SpellsOnly microcode image
+  pub runs : RunsTheSolution program image
+  pub period : image.period ≡ path.period
 
 -- The program of the source has a plan over the datapath of the file. The microcode spells the image of that plan in
 -- version 2 and nothing else, and that image runs the program's one solution in the datapath's period.

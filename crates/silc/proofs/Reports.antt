@@ -1,8 +1,13 @@
 -- A report of an error changes nothing but counts of faults, so a command ends after it as it did before.
 use Rattle.std.proofs.Common.{[], ◌∷◌}
-use Rattle.command_words.specs.Command.{Command, compile, schedule, list, sim, eval, run, demo, stages, pipe}
+use Rattle.command_words.specs.Command.{Command, compile, schedule, list, sim, eval, run, demo, stages, pipe, frame}
+use Rattle.command_words.specs.Command.{net}
 use Rattle.desk_core.specs.View.{View}
 use Rattle.desk_core.specs.Desk.{FaultsNeverFall, IsUnchanged}
+use Rattle.rate_unfold.specs.Frames.{rates}
+use Rattle.frame_command.proofs.Framed.{frame_reported}
+use Rattle.net_command.specs.Net.{IsNetDone, IsNetError, IsNetInput}
+use Rattle.net_command.proofs.NetAnswers.{net_still, net_reported}
 use Rattle.plan_commands.proofs.Making.{reported}
 use Rattle.plan_commands.proofs.Scheduling.{schedule_reported}
 use Rattle.run_command.specs.Run.{IsExecuted, IsRunError}
@@ -11,7 +16,7 @@ use Rattle.sample_commands.specs.Sim.{IsSimulated, IsSimError}
 use Rattle.sample_commands.proofs.Simulating.{simulated_still, sim_reported}
 use Rattle.sample_commands.proofs.Solving.{eval_reported}
 use Rattle.silc.specs.declared.kept.Kept.{Kept}
-use Rattle.silc.specs.declared.kept.Kept.TheVariants.{One, Staged}
+use Rattle.silc.specs.declared.kept.Kept.TheVariants.{One, Staged, Joined}
 use Rattle.silc.specs.Endings.{IsEnding}
 use Rattle.silc.proofs.Demonstrating.{demo_reported, prints_still}
 use Rattle.silc.proofs.Listing.{list_reported}
@@ -82,5 +87,18 @@ module _ (old mid new : View) (same : IsUnchanged mid new) (later : FaultsNeverF
         (piped_still count src datapath samples out old mid new same later before)
         (pipe_reported count src datapath samples out old mid new same later before) status h.0,
     uses_still old mid new same (IsAmong (src ∷ datapath ∷ samples ∷ [])) out h.1,
+    h.2,
+  )
+  ending_reported (frame src datapath phases down up out) h = (
+    frame_reported (rates phases down up) src datapath out old mid new same later before status h.0,
+    uses_still old mid new same (IsAmong (src ∷ datapath ∷ [])) out h.1,
+    h.2,
+  )
+  ending_reported (net joins samples out) h = (
+    ends_still Joined (λ joined. IsNetDone joins samples out joined old mid)
+        (λ joined. IsNetDone joins samples out joined old new) (IsNetError joins samples out old mid)
+        (IsNetError joins samples out old new) kept (net_still joins samples out old mid new same later before)
+        (net_reported joins samples out old mid new same later before) status h.0,
+    uses_still old mid new same (IsNetInput joins samples out old) out h.1,
     h.2,
   )

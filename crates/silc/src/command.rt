@@ -2,18 +2,21 @@
 ghost use Rattle.std.specs.Prelude.{◌≡◌, ◌≢◌};
 ghost use Rattle.command_words.specs.Command as spec;
 ghost use Rattle.command_words.specs.Command.{IsCommand, IsCommandIn, IsCompile};
+ghost use Rattle.command_words.specs.Compile.{AreCompile};
 ghost use Rattle.command_words.specs.Named.{named};
 ghost use Rattle.desk_core.specs.View.{Name};
 ghost use Rattle.desk_core.specs.Desk.{FaultsNeverFall, IsUnchanged, IfSpecified};
-ghost use Rattle.plan_commands.specs.Compile.{IsDone};
+ghost use Rattle.plan_commands.specs.Compile.{HasTheSolution, IsDone};
 ghost use Rattle.silc.specs.declared.kept.Kept.TheVariants.{Nothing};
 ghost use Rattle.silc.specs.Endings.{IsEnding};
 
 use crate::demo::demo;
-use crate::kept::{Kept, keep, keep_staged};
+use crate::kept::{Kept, keep, keep_joined, keep_staged};
 use crate::list::list;
 use command_words::{Command, command_in};
 use desk_core::Desk;
+use frame_command::frame;
+use net_command::net;
 use plan_commands::{compile, schedule};
 use run_command::run;
 use sample_commands::{eval, sim};
@@ -68,6 +71,19 @@ fn carry_out<D: Desk>(alloc: Global, command: &Command, desk: &mut D, kept: &mut
             pipe(alloc, desk, source, datapath, *count, samples, output),
             kept,
         ),
+        Command::Frame {
+            source,
+            datapath,
+            phases,
+            down,
+            up,
+            output,
+        } => frame(alloc, desk, source, datapath, *phases, down, up, output),
+        Command::Net {
+            net: joins,
+            samples,
+            output,
+        } => keep_joined(net(alloc, desk, joins, samples, output), kept),
     }
 }
 
@@ -83,6 +99,7 @@ fn carry_out_words<D: Desk>(
     ensures words { result.status ≢ Status.Words → IsCommand words.now }
     ensures nothing { result.status ≡ Status.Words → IsUnchanged (D.view desk.old) (D.view desk.new) }
     ensures nothing_kept { result.status ≢ Status.Done → kept.new ≡ Nothing }
+    ensures allowed { (command : spec.Command) → IsCommandIn words.now command → spec.IsAllowed command }
     ensures ending { (command : spec.Command) → IsCommandIn words.now command
         → IsEnding command (D.view desk.old) (D.view desk.new) kept.new result.status }
 {
@@ -108,12 +125,18 @@ fn carry_out_words<D: Desk>(
 /// are in flight at once.
 /// `pipe SRC DP S SAMPLES OUT` plans a source over S stages for a datapath, runs the plan's microcode on samples, and
 /// writes its rows to OUT: those of `eval`, S - 1 rows late. Where it is done, it keeps the machine that ran them.
+/// `frame SRC DP M DOWN UP OUT` compiles a source that runs M times per sample of the machine, and writes its microcode
+/// to OUT. Output words in DOWN are put once per sample of the machine, and input words in UP taken once.
+/// `net NET SAMPLES OUT` plans the processors of a net file, runs them over samples with queues between them, and writes
+/// the last one's rows to OUT. Where it is done, it keeps the net that ran them.
 pub fn silc<D: Desk>(alloc: Global, words: &[String], desk: &mut D, kept: &mut Kept) -> Status
     requires { kept.old ≡ Nothing }
     ensures faults { FaultsNeverFall (D.view desk.old) (D.view desk.new) }
 
-    // What `compile` writes where it is done.
-    ensures headline { result ≡ Status.Done → (src datapath out : Name) → IsCompile words.now src datapath out
+    // What `compile` writes where it is done: the solution of its source, as microcode of the plan.
+    ensures headline { result ≡ Status.Done → (src datapath out : Name) → AreCompile words.now src datapath out
+        → IfSpecified (HasTheSolution src datapath out) (D.view desk.old).files (D.view desk.new).files }
+    ensures planned { result ≡ Status.Done → (src datapath out : Name) → IsCompile words.now src datapath out
         → IfSpecified (IsDone src datapath out) (D.view desk.old).files (D.view desk.new).files }
 
     // Which words are a command, and how each command ends.
@@ -121,6 +144,7 @@ pub fn silc<D: Desk>(alloc: Global, words: &[String], desk: &mut D, kept: &mut K
     ensures command { IsCommand words.now → result ≢ Status.Words }
     ensures nothing { result ≡ Status.Words → IsUnchanged (D.view desk.old) (D.view desk.new) }
     ensures nothing_kept { result ≢ Status.Done → kept.new ≡ Nothing }
+    ensures allowed { (command : spec.Command) → IsCommandIn words.now command → spec.IsAllowed command }
     ensures ending { (command : spec.Command) → IsCommandIn words.now command
         → IsEnding command (D.view desk.old) (D.view desk.new) kept.new result }
 {

@@ -1,5 +1,5 @@
 -- The input words of an image and of a program have channels that rows can be read on.
-use Rattle.std.proofs.Common.{◌≤◌, arith, ℕ, List, [], ◌∷◌, map}
+use Rattle.std.proofs.Common.{arith, ℕ, List, [], ◌∷◌, map}
 use Rattle.std.specs.List.{All}
 use Rattle.std.proofs.lemmas.List.{length-map}
 use Rattle.std.proofs.lemmas.List.Elements.{All-head, All-tail, All-cons, All-nil}

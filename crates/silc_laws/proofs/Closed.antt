@@ -2,7 +2,8 @@
 use Rattle.std.proofs.Common.{None, Some, ◌≡◌, subst, List}
 use Rattle.std.specs.Prelude.{String}
 use Rattle.std.specs.declared.alloc.Global.{Global}
-use Rattle.command_words.specs.Command.{Command, compile, schedule, list, sim, eval, run, demo, stages, pipe}
+use Rattle.command_words.specs.Command.{Command, compile, schedule, list, sim, eval, run, demo, stages, pipe, frame}
+use Rattle.command_words.specs.Command.{net}
 use Rattle.command_words.specs.Command.{IsCommandIn, output_of}
 use Rattle.desk_core.specs.View.{Name, View}
 use Rattle.desk_core.specs.Desk.{HasOutput}
@@ -26,6 +27,8 @@ module _ (old new : View) (kept : Kept) where
   closes (demo sections samples) out writes h = absurd (cc)
   closes (stages src datapath count) out writes h = absurd (cc)
   closes (pipe src datapath count samples own) out writes h = h.0.2.solved.finished.closed
+  closes (frame src datapath phases down up own) out writes h = h.0.finished.closed
+  closes (net joins samples own) out writes h = h.0.2.finished.closed
 
   pub done_closed : (words : List (String Global)) (status : Status)
       → ((command : Command) → IsCommandIn words command → IsEnding command old new kept status)

@@ -3,14 +3,18 @@
 use Rattle.std.proofs.Common.{◌≡◌, ◌∙◌, refl, ap, subst, inl, inr, ⊎_elim, ℕ, List, [], Option, Some, None, arith}
 use Rattle.std.specs.Prelude.{String}
 use Rattle.std.specs.declared.alloc.Global.{Global}
-use Rattle.command_words.specs.Command.{Command, compile, schedule, list, sim, eval, run, demo, stages, pipe}
-use Rattle.command_words.specs.Command.{IsCommandIn}
-use Rattle.command_words.specs.Command.{IsCompile, IsSchedule, IsList, IsSim, IsEval, IsRun, IsDemo, IsStages, IsPipe}
+use Rattle.command_words.specs.Command.{Command, compile, schedule, list, sim, eval, run, demo, stages, pipe, frame}
+use Rattle.command_words.specs.Command.{net}
+use Rattle.command_words.specs.Command.{IsCommandIn, IsAllowed, IsCompile, IsSchedule, IsList, IsSim, IsEval, IsRun}
+use Rattle.command_words.specs.Command.{IsDemo, IsStages, IsPipe, IsFrame, IsNet}
 use Rattle.datapath.specs.declared.types.Datapath.{Datapath}
 use Rattle.desk_core.specs.View.{Name, Content, Files, View}
 use Rattle.desk_core.specs.Desk.{WhereSpecified, content_of}
 use Rattle.source_faults.specs.Faults.{HasProgram}
+use Rattle.rate_unfold.specs.Frames.{rates}
+use Rattle.frame_command.proofs.Complete.{frame_complete}
 use Rattle.lists.specs.Rows.{Rows}
+use Rattle.net_command.proofs.NetAnswers.{net_complete}
 use Rattle.micro_image.specs.declared.conflict.Conflict.{Conflict as ConflictValue}
 use Rattle.micro_image.specs.declared.image.Image.{Image as MicroImage}
 use Rattle.micro_image.specs.Fields.{microprogram_of}
@@ -30,17 +34,19 @@ use Rattle.sample_loops.specs.declared.stream.StreamFault.TheVariants as stream
 use Rattle.silage_syntax.specs.Tree.{Program}
 use Rattle.silc.specs.Demo.{IsCascadePlannable}
 use Rattle.silc.specs.Endings.{IsEnding}
+use Rattle.silc.specs.Runs.{IsNetAnswer}
+use Rattle.silc.proofs.Allowed.{allowed_rates}
 use Rattle.silc.proofs.Complete.{list_complete, demo_complete}
 use Rattle.silc_laws.specs.Complete.{Specifies, ArePlannable, HavePlan, HasImageOf, HasClearStream, HasProgramStream}
 use Rattle.silc_laws.specs.Complete.{HasPlannedStream, StopsSim, StopsEval, StopsPlanned, IsAccepted, IsThisOrMemory}
 use Rattle.silc_laws.specs.Complete.{IsDoneOrMemory, IsEndedBySamples, IsEndedByRun}
-use Rattle.silc_laws.specs.Complete.{AreStageable, HasStagedStream, StopsStaged}
+use Rattle.silc_laws.specs.Complete.{AreStageable, HasStagedStream, StopsStaged, AreFrameable, HasSomeNetStream}
 use Rattle.silc_laws.specs.Faults.{HasNoFaultRisen}
 use Rattle.silc_laws.proofs.Channels.{image_channels, channels_of_program}
 use Rattle.silc_laws.proofs.Compiled.{compiled_plan}
 use Rattle.silc_laws.proofs.Conflicts.{clear_apart, meets_once}
 use Rattle.silc_laws.proofs.Laws.{answer_law, schedule_law, list_law, demo_law, sim_law, eval_law, run_law}
-use Rattle.silc_laws.proofs.Laws.{stages_law, pipe_law}
+use Rattle.silc_laws.proofs.Laws.{stages_law, pipe_law, frame_law, net_law}
 use Rattle.silc_laws.proofs.SampleEnds.{EndsBy, RunsImage, RunsProgram, samples_end, sim_ends, eval_ends, run_ends}
 use Rattle.silc_laws.proofs.SampleEnds.{pipe_ends}
 use Rattle.silc_laws.proofs.StreamEnds.{IsEnd, one_end, status_at}
@@ -310,7 +316,38 @@ module _ (words : List (String Global)) (old new : View) (kept : Kept) (status :
       planned_so src samples given.files program has.read
       (run_end src datapath samples out form none given.files given.specified program path plan has) (Some fault) stops
 
-  -- so it does over so many stages
+  -- so it does over frames
+  pub frames_law : (src datapath : Name) (phases : ℕ) (down up : List ℕ) (out : Name)
+      → IsFrame words src datapath phases down up out
+      → IsAllowed (frame src datapath phases down up out)
+      → HasNoFaultRisen (frame src datapath phases down up out) old new
+      → Specifies (AreFrameable (rates phases down up) src datapath) old
+      → IsDoneOrMemory status
+  frames_law src datapath phases down up out form allowed none files =
+      frame_complete (rates phases down up) (allowed_rates src datapath phases down up out allowed) src datapath old new
+      files.files files.specified (λ r. none (inl (src, inl refl, r))) (λ r. none (inl (datapath, inr (inl refl), r)))
+      files.so out (λ r. none (inr (inl (out, refl, r)))) status
+      (frame_law words old new kept status ending src datapath phases down up out form)
+
+  -- a net runs to the end of its samples
+  pub net_end_law : (joins samples out : Name)
+      → IsNet words joins samples out
+      → HasNoFaultRisen (net joins samples out) old new
+      → Specifies (HasSomeNetStream joins samples out) old
+      → IsDoneOrMemory status
+  net_end_law joins samples out form none files =
+      ended status (net_law words old new kept status ending joins samples out form)
+    where
+      ended : (answer : Status) → IsNetAnswer joins samples out old new kept answer → IsDoneOrMemory answer
+      ended Done h = inl refl
+      ended error h =
+          let (file, plans, stream, has) = files.so in
+          inr (net_complete joins samples out old new files.files files.specified
+          (λ name is rose. none (inl (name, is, rose))) (λ rose. none (inr (inl (out, refl, rose)))) file plans stream
+          has
+          error h)
+
+  -- and over so many stages
   pub stages_text_law : (src datapath : Name) (count : ℕ)
       → IsStages words src datapath count
       → HasNoFaultRisen (stages src datapath count) old new

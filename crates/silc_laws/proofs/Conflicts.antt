@@ -1,5 +1,5 @@
 -- A stream has one first conflict, of which rows that come after change nothing.
-use Rattle.std.proofs.Common.{◌≡◌, ◌∙◌, sym, ap, subst, arith, ℕ, ◌<◌, ◌++◌, length, append_assoc}
+use Rattle.std.proofs.Common.{◌≡◌, ◌∙◌, sym, ap, subst, arith, ◌<◌, ◌++◌, length, append_assoc}
 use Rattle.std.proofs.lemmas.List.{length-append}
 use Rattle.lists.specs.Rows.{Rows}
 use Rattle.micro_image.specs.declared.conflict.Conflict.{Conflict}

@@ -2,17 +2,22 @@
 use Rattle.std.proofs.Common.{◌≡◌, ◌⊎◌, refl, subst, inl, inr, ⊎_elim, arith, ℕ, List}
 use Rattle.std.specs.Prelude.{String}
 use Rattle.std.specs.declared.alloc.Global.{Global}
-use Rattle.command_words.specs.Command.{Command, compile, schedule, list, sim, eval, run, demo, stages, pipe}
+use Rattle.command_words.specs.Command.{Command, compile, schedule, list, sim, eval, run, demo, stages, pipe, frame}
+use Rattle.command_words.specs.Command.{net}
 use Rattle.command_words.specs.Command.{IsCommandIn}
 use Rattle.desk_core.specs.View.{Name, View}
 use Rattle.desk_core.specs.Desk.{Rose, ReadFaultsRose}
 use Rattle.desk_core.specs.NeverFails.{view_of}
 use Rattle.desk_core.specs.declared.never_fails.NeverFails.{NeverFails}
+use Rattle.frame_command.specs.Frame.{IsFrameAnswer}
+use Rattle.rate_unfold.specs.Frames.{rates}
+use Rattle.frame_command.specs.FramePlans.{IsFrameRefusal, IsFrameRefused}
+use Rattle.net_command.proofs.NetAnswers.{net_fault}
 use Rattle.plan_commands.specs.Compile.{IsAnswer}
 use Rattle.plan_commands.specs.Refusals.{IsRefusal, IsRefused, IsErrorOf}
 use Rattle.plan_commands.specs.Schedule.{IsScheduleAnswer}
 use Rattle.sample_commands.specs.Eval.{IsEvalAnswer}
-use Rattle.silc.specs.Runs.{IsSimAnswer, IsRunAnswer, IsPipeAnswer}
+use Rattle.silc.specs.Runs.{IsSimAnswer, IsRunAnswer, IsPipeAnswer, IsNetAnswer}
 use Rattle.silc.specs.declared.kept.Kept.{Kept}
 use Rattle.sample_commands.proofs.EarlyEnds.{cut_rose}
 use Rattle.silc.specs.Demo.{IsDemoAnswer}
@@ -20,19 +25,26 @@ use Rattle.silc.specs.Endings.{IsEnding}
 use Rattle.silc.specs.Listing.{IsListAnswer}
 use Rattle.silc_laws.specs.Faults.{HasFaultRisen}
 use Rattle.silc_laws.proofs.Laws.{answer_law, schedule_law, list_law, demo_law, sim_law, eval_law, run_law}
-use Rattle.silc_laws.proofs.Laws.{stages_law, pipe_law}
+use Rattle.silc_laws.proofs.Laws.{stages_law, pipe_law, frame_law, net_law}
 use Rattle.stage_commands.specs.StagePlans.{IsStageRefused}
 use Rattle.stage_commands.specs.Stages.{IsStagesAnswer}
 use Rattle.statuses.specs.declared.status.Status.{Status}
 use Rattle.statuses.specs.declared.status.Status.TheVariants.{Desk}
 
 module _ (old new : View) (kept : Kept) where
+  -- no refusal is a file fault
+  planning_by : (IsWhy : Status → Type 0) (Tells : Status → (source datapath : List ℕ) → Type 0) (src datapath : Name)
+      → (IsWhy Desk → ⊥)
+      → IsErrorOf IsWhy Tells src datapath old new Desk
+      → ReadFaultsRose src old new ⊎ ReadFaultsRose datapath old new
+  planning_by IsWhy Tells src datapath never (inl memory) = absurd (let e = memory.0 in cc)
+  planning_by IsWhy Tells src datapath never (inr (inl unread)) = unread.1.rose
+  planning_by IsWhy Tells src datapath never (inr (inr refused)) = absurd (never refused.0)
+
   planning : (Tells : Status → (source datapath : List ℕ) → Type 0) (src datapath : Name)
       → IsErrorOf IsRefusal Tells src datapath old new Desk
       → ReadFaultsRose src old new ⊎ ReadFaultsRose datapath old new
-  planning Tells src datapath (inl memory) = absurd (let e = memory.0 in cc)
-  planning Tells src datapath (inr (inl unread)) = unread.1.rose
-  planning Tells src datapath (inr (inr refused)) = absurd refused.0
+  planning Tells src datapath = planning_by IsRefusal Tells src datapath (λ never. never)
 
   compiling : (src datapath out : Name)
       → IsAnswer src datapath out old new Desk
@@ -41,6 +53,14 @@ module _ (old new : View) (kept : Kept) where
       ⊎_elim (λ r. inl (src, inl refl, r)) (λ r. inl (datapath, inr (inl refl), r))
       (planning IsRefused src datapath error)
   compiling src datapath out (inr cut) = inr (inl (out, refl, cut.written.rose))
+
+  framing : (src datapath : Name) (phases : ℕ) (down up : List ℕ) (out : Name)
+      → IsFrameAnswer (rates phases down up) src datapath out old new Desk
+      → HasFaultRisen (frame src datapath phases down up out) old new
+  framing src datapath phases down up out (inl error) =
+      ⊎_elim (λ r. inl (src, inl refl, r)) (λ r. inl (datapath, inr (inl refl), r))
+      (planning_by IsFrameRefusal (IsFrameRefused (rates phases down up)) src datapath (λ never. never) error)
+  framing src datapath phases down up out (inr cut) = inr (inl (out, refl, cut.written.rose))
 
   scheduling : (src datapath : Name)
       → IsScheduleAnswer src datapath old new Desk
@@ -105,6 +125,12 @@ module _ (old new : View) (kept : Kept) where
       ⊎_elim (λ r. inl (samples, inr (inr (inl refl)), r)) (λ w. inr (inl (out, refl, w)))
       (⊎_elim (λ not. inr not.rose) (λ cut. cut_rose samples out _ _ old new cut) stopped.ended)
 
+  pub netting : (joins samples out : Name)
+      → IsNetAnswer joins samples out old new kept Desk
+      → HasFaultRisen (net joins samples out) old new
+  netting joins samples out error =
+      ⊎_elim (λ read. inl read) (λ w. inr (inl (out, refl, w))) (net_fault joins samples out old new error)
+
   demonstrating : (sections samples : ℕ)
       → IsDemoAnswer sections samples old new kept Desk
       → HasFaultRisen (demo sections samples) old new
@@ -154,6 +180,14 @@ module _ (words : List (String Global)) (old new : View) (kept : Kept) (status :
       piping old new kept src datapath count samples out
       (subst (λ (s : Status). IsPipeAnswer src datapath count samples out old new kept s) fault
       (pipe_law words old new kept status ending src datapath count samples out form))
+  fault_law (frame src datapath phases down up out) form =
+      framing old new kept src datapath phases down up out
+      (subst (λ (s : Status). IsFrameAnswer (rates phases down up) src datapath out old new s) fault
+      (frame_law words old new kept status ending src datapath phases down up out form))
+  fault_law (net joins samples out) form =
+      netting old new kept joins samples out
+      (subst (λ (s : Status). IsNetAnswer joins samples out old new kept s) fault
+      (net_law words old new kept status ending joins samples out form))
 
 -- over a desk that never fails none rises
 never : Rose 0 0 → ⊥

@@ -1,16 +1,21 @@
 -- What follows for each command from how it ends.
-use Rattle.std.proofs.Common.{◌≡◌, sym, ap, ◌∙◌, subst, ℕ, List, Bool, Some, None}
+use Rattle.std.proofs.Common.{◌≡◌, refl, sym, ap, ◌∙◌, subst, ℕ, List, [], Bool, Some, None}
 use Rattle.std.specs.Prelude.{String}
 use Rattle.std.specs.declared.alloc.Global.{Global}
-use Rattle.command_words.specs.Command.{Command, compile, schedule, list, sim, eval, run, demo, stages, pipe}
+use Rattle.command_words.specs.Command.{Command, compile, schedule, list, sim, eval, run, demo, stages, pipe, frame}
+use Rattle.command_words.specs.Command.{net}
 use Rattle.command_words.specs.Command.{IsCommandIn, IsCompile, IsSchedule, IsList, IsSim, IsEval, IsRun, IsDemo}
-use Rattle.command_words.specs.Command.{IsStages, IsPipe, output_of}
+use Rattle.command_words.specs.Command.{IsStages, IsPipe, IsFrame, IsNet, output_of}
 use Rattle.desk_core.specs.View.{Name, View}
 use Rattle.desk_core.specs.Desk.{HasOutput}
+use Rattle.frame_command.specs.Frame.{IsFrameDone, IsFrameAnswer, IsCompiledToo}
+use Rattle.rate_unfold.specs.Frames.{rates}
+use Rattle.frame_command.proofs.OnePhase.{one_phase_compiles}
 use Rattle.plan_commands.specs.Compile.{IsAnswer}
 use Rattle.plan_commands.specs.Schedule.{IsScheduled, IsScheduleAnswer}
 use Rattle.sample_commands.specs.Eval.{IsEvalDone, IsEvalAnswer}
 use Rattle.silc.specs.Runs.{IsSimDone, IsSimAnswer, IsRunDone, IsRunAnswer, IsPipeDone, IsPipeAnswer}
+use Rattle.silc.specs.Runs.{IsJoinedDone, IsNetAnswer}
 use Rattle.silc.specs.declared.kept.Kept.{Kept}
 use Rattle.silc.specs.Demo.{IsDemoDone, IsDemoAnswer}
 use Rattle.silc.specs.Endings.{IsEnding, IsInputOf}
@@ -66,6 +71,23 @@ module _ (words : List (String Global)) (old new : View) (kept : Kept) (status :
       → IsPipeAnswer src datapath count samples out old new kept status
   pipe_law src datapath count samples out form = (ending (pipe src datapath count samples out) form).0
 
+  pub frame_law : (src datapath : Name) (phases : ℕ) (down up : List ℕ) (out : Name)
+      → IsFrame words src datapath phases down up out
+      → IsFrameAnswer (rates phases down up) src datapath out old new status
+  frame_law src datapath phases down up out form = (ending (frame src datapath phases down up out) form).0
+
+  pub frame_compile_law : (src datapath out : Name)
+      → IsFrame words src datapath 1 [] [] out
+      → IsCompiledToo src datapath out old new status
+  frame_compile_law src datapath out form =
+      one_phase_compiles src datapath out old new 1 [] [] refl refl refl status
+      (frame_law src datapath 1 [] [] out form)
+
+  pub net_law : (joins samples out : Name)
+      → IsNet words joins samples out
+      → IsNetAnswer joins samples out old new kept status
+  net_law joins samples out form = (ending (net joins samples out) form).0
+
   uses_own : (command : Command) (own out : Name)
       → Some own ≡ Some out
       → UsesOnly (IsInputOf command old) own old new
@@ -91,6 +113,11 @@ module _ (words : List (String Global)) (old new : View) (kept : Kept) (status :
   only_law (stages src datapath count) out form e = absurd (cc)
   only_law (pipe src datapath count samples own) out form e =
       uses_own (pipe src datapath count samples own) own out e (ending (pipe src datapath count samples own) form).1
+  only_law (frame src datapath phases down up own) out form e =
+      uses_own (frame src datapath phases down up own) own out e
+      (ending (frame src datapath phases down up own) form).1
+  only_law (net joins samples own) out form e =
+      uses_own (net joins samples own) own out e (ending (net joins samples own) form).1
 
   prints_no_file : (IsInput : Name → Type 0) → PrintsOnly old new → ChangesNoFile IsInput old new
   prints_no_file IsInput h = record {
@@ -114,6 +141,8 @@ module _ (words : List (String Global)) (old new : View) (kept : Kept) (status :
   prints_law (run src datapath samples own) form e = absurd (cc)
   prints_law (stages src datapath count) form e = (ending (stages src datapath count) form).1
   prints_law (pipe src datapath count samples own) form e = absurd (cc)
+  prints_law (frame src datapath phases down up own) form e = absurd (cc)
+  prints_law (net joins samples own) form e = absurd (cc)
 
   pub demo_only_law : (sections samples : ℕ) → IsDemo words sections samples → PrintsOnly old new
   demo_only_law sections samples form = (ending (demo sections samples) form).1
@@ -159,6 +188,19 @@ module _ (words : List (String Global)) (old new : View) (kept : Kept) (status :
     piped_law src datapath count samples out form =
         subst (λ (s : Status). IsPipeAnswer src datapath count samples out old new kept s) done
         (pipe_law src datapath count samples out form)
+
+    pub framed_law : (src datapath : Name) (phases : ℕ) (down up : List ℕ) (out : Name)
+        → IsFrame words src datapath phases down up out
+        → IsFrameDone (rates phases down up) src datapath out old new
+    framed_law src datapath phases down up out form =
+        subst (λ (s : Status). IsFrameAnswer (rates phases down up) src datapath out old new s) done
+        (frame_law src datapath phases down up out form)
+
+    pub joined_law : (joins samples out : Name)
+        → IsNet words joins samples out
+        → IsJoinedDone joins samples out old new kept
+    joined_law joins samples out form =
+        subst (λ (s : Status). IsNetAnswer joins samples out old new kept s) done (net_law joins samples out form)
 
     pub closed_law : (out : Name) → IsCommandTo words out → HasOutput None new
     closed_law = done_closed old new kept words status ending done

@@ -1,23 +1,20 @@
 -- A source has one refusal over a datapath at most, and microcode one fault.
-use Rattle.std.proofs.Common.{◌≡◌, ◌∙◌, refl, sym, ap, ⊎_elim, Result, Ok, Err, arith, ℕ}
+use Rattle.std.proofs.Common.{◌≡◌, ◌∙◌, refl, sym, ap, arith, ℕ}
 use Rattle.datapath.specs.Allowed.{IsDatapath}
-use Rattle.datapath.specs.Described.{IsPathOf}
 use Rattle.datapath.specs.PathRules.{IsPathFault}
 use Rattle.datapath.specs.declared.fault.PathFault.{PathFault}
 use Rattle.datapath.specs.declared.types.Datapath.{Datapath}
-use Rattle.datapath.proofs.DescribedPath.{is_read}
-use Rattle.datapath.proofs.FirstPath.{first_read}
 use Rattle.desk_core.specs.View.{Content}
 use Rattle.source_faults.specs.Faults.{IsFrontFault, IsOfSource}
-use Rattle.source_faults.specs.declared.fault.FrontError.TheVariants.{Fault, Memory as front_memory}
 use Rattle.source_faults.specs.declared.fault.FrontFault.{FrontFault}
-use Rattle.front_end.proofs.OneAnswer.{no_fault, fault_error}
+use Rattle.front_end.proofs.OneAnswer.{no_fault}
 use Rattle.front_end.proofs.SoundGraph.{program_graph_sound, program_graph_loopless}
 use Rattle.micro_file.proofs.FirstFault.{one_fault as one_form_fault}
 use Rattle.plan_commands.specs.Plans.{IsUnplanned, IsUnplannedBy}
 use Rattle.plan_commands.specs.Refusals.{IsRefusal, IsRefusedBy, IsRefused}
 use Rattle.silc_files.specs.Sources.{IsAcceptedSource}
 use Rattle.plan_commands.proofs.Complete.{path_allowed}
+use Rattle.plan_commands.proofs.OneFault.{one_source_fault, one_path_fault, path_or_not}
 use Rattle.plan_commands.proofs.PlanAnswers.{fault_for, refusal_by}
 use Rattle.overlap_plan.proofs.OneOutcome.{one_fault}
 use Rattle.signal_graph.specs.GraphRules.{IsGraph}
@@ -34,27 +31,6 @@ use Rattle.statuses.specs.declared.status.Status.{Status}
 use Rattle.statuses.specs.declared.status.Status.TheVariants.{FrontEnd, Path, LinesFull}
 use Rattle.statuses.specs.declared.status.Status.TheVariants.{Period, FileFull}
 use Rattle.statuses.specs.declared.status.Status.TheVariants as status
-
--- a source has one fault
-pub one_source_fault : (s : Content) (f g : FrontFault) → IsOfSource f → IsFrontFault s f → IsFrontFault s g → f ≡ g
-one_source_fault s f g is has have = ⊎_elim (λ e. same e) (λ e. never e) (fault_error s (Fault f) (is, has) g have)
-  where
-    same : Fault f ≡ Fault g → f ≡ g
-    same e = cc
-
-    never : Fault f ≡ front_memory → f ≡ g
-    never e = absurd (cc)
-
--- a file has one fault, and a file that describes a datapath has none
-abbrev no_path : PathFault → Result Datapath PathFault
-no_path fault = Err fault
-
-one_path_fault : (d : Content) (f g : PathFault) → IsPathFault d f → IsPathFault d g → f ≡ g
-one_path_fault d f g has have = let both : no_path f ≡ no_path g = sym (first_read d f has) ∙ first_read d g have in cc
-
-path_or_not : (d : Content) (path : Datapath) → IsPathOf d path → (fault : PathFault) → IsPathFault d fault → ⊥
-path_or_not d path described fault has =
-    absurd (let both : Ok path ≡ no_path fault = sym (is_read d path described) ∙ first_read d fault has in cc)
 
 -- A source has one refusal over a datapath, where a graph has one status at most that tells why it has no plan.
 module _ (IsWhy : Status → Graph → Datapath → Type 0)

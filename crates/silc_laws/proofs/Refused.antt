@@ -4,15 +4,21 @@ use Rattle.std.proofs.Common.{◌≡◌, ◌∙◌, refl, ap, inl, inr, ⊎_elim
 use Rattle.std.specs.Prelude.{String}
 use Rattle.std.specs.declared.alloc.Global.{Global}
 use Rattle.demo_cascade.specs.Cascade.{cascade_source, cascade_datapath}
-use Rattle.command_words.specs.Command.{Command, compile, schedule, list, sim, eval, run, demo, stages, pipe}
-use Rattle.command_words.specs.Command.{IsCommandIn}
-use Rattle.command_words.specs.Command.{IsCompile, IsSchedule, IsList, IsSim, IsEval, IsRun, IsDemo, IsStages, IsPipe}
+use Rattle.command_words.specs.Command.{Command, compile, schedule, list, sim, eval, run, demo, stages, pipe, frame}
+use Rattle.command_words.specs.Command.{net}
+use Rattle.command_words.specs.Command.{IsCommandIn, IsAllowed, IsCompile, IsSchedule, IsList, IsSim, IsEval, IsRun}
+use Rattle.command_words.specs.Command.{IsDemo, IsStages, IsPipe, IsFrame, IsNet}
 use Rattle.datapath.specs.declared.types.Datapath.{Datapath}
 use Rattle.desk_core.specs.View.{Name, Content, Files, View}
 use Rattle.desk_core.specs.Desk.{ReadFaultsRose, WriteFaultsRose, PrintFaultsRose, content_of}
 use Rattle.source_faults.specs.Faults.{HasProgram}
 use Rattle.source_faults.specs.declared.fault.FrontFault.{FrontFault}
+use Rattle.rate_unfold.specs.Frames.{rates}
+use Rattle.frame_command.specs.FramePlans.{IsFrameRefusal}
+use Rattle.frame_command.proofs.Complete.{frame_refuses}
 use Rattle.front_end.proofs.OneAnswer.{no_fault}
+use Rattle.net_command.specs.Net.{IsNetRefusal, IsNetRefused}
+use Rattle.net_command.proofs.NetAnswers.{net_refuses, net_never_refused}
 use Rattle.micro_image.specs.declared.image.Image.{Image as MicroImage}
 use Rattle.plan_commands.specs.Compile.{IsAnswer}
 use Rattle.plan_commands.specs.Plans.{IsPlannedOver}
@@ -25,20 +31,22 @@ use Rattle.plan_commands.proofs.Complete.{never_refused}
 use Rattle.plan_core.specs.declared.plan.Plan.{Plan}
 use Rattle.sample_commands.specs.Eval.{IsSolutionRowsBy, IsSolutionRows, IsEvalAnswer}
 use Rattle.sample_commands.specs.Sim.{HasImage, HasImageFault}
-use Rattle.silc.specs.Runs.{IsSimAnswer, IsRunAnswer, IsPipeAnswer}
+use Rattle.silc.specs.Runs.{IsSimAnswer, IsRunAnswer, IsPipeAnswer, IsNetAnswer}
 use Rattle.silc.specs.declared.kept.Kept.{Kept}
 use Rattle.silc.specs.declared.kept.Kept.TheVariants.{Nothing}
 use Rattle.silage_syntax.specs.Tree.{Program}
 use Rattle.silc.specs.Demo.{IsDemoAnswer}
 use Rattle.silc.specs.Endings.{IsEnding}
 use Rattle.silc.specs.Listing.{IsListAnswer}
+use Rattle.silc.proofs.Allowed.{allowed_rates}
 use Rattle.silc.proofs.Complete.{image_or_not}
-use Rattle.silc_laws.specs.Complete.{Specifies, IsCascadeRefused, AreStageRefused, IsThisOrMemory}
+use Rattle.silc_laws.specs.Complete.{Specifies, IsCascadeRefused, AreStageRefused, AreFrameRefused, IsThisOrMemory}
 use Rattle.silc_laws.specs.Faults.{HasNoFaultRisen}
 use Rattle.silc_laws.proofs.Faults.{simulating, evaluating, running, piping}
 use Rattle.silc_laws.proofs.Laws.{answer_law, schedule_law, list_law, demo_law, sim_law, eval_law, run_law}
-use Rattle.silc_laws.proofs.Laws.{stages_law, pipe_law}
-use Rattle.silc_laws.proofs.OneRefusal.{one_source_fault, one_refusal, one_stage_refusal, one_image_fault}
+use Rattle.silc_laws.proofs.Laws.{stages_law, pipe_law, frame_law, net_law}
+use Rattle.plan_commands.proofs.OneFault.{one_source_fault}
+use Rattle.silc_laws.proofs.OneRefusal.{one_refusal, one_stage_refusal, one_image_fault}
 use Rattle.overlap_plan.specs.declared.plan.StagePlan.{StagePlan}
 use Rattle.stage_commands.specs.Pipe.{staged_out}
 use Rattle.stage_commands.specs.StagePlans.{IsStagedOver, IsStageRefused}
@@ -308,6 +316,38 @@ module _ (words : List (String Global)) (old new : View) (kept : Kept) (status :
   run_refusal_law src datapath samples out form none why is given =
       run_refuses src datapath old new given.files given.specified why is given.so samples out kept none status
       (run_law words old new kept status ending src datapath samples out form)
+
+  pub frame_refusal_law : (src datapath : Name) (phases : ℕ) (down up : List ℕ) (out : Name)
+      → IsFrame words src datapath phases down up out
+      → IsAllowed (frame src datapath phases down up out)
+      → HasNoFaultRisen (frame src datapath phases down up out) old new
+      → (why : Status)
+      → IsFrameRefusal why
+      → Specifies (AreFrameRefused (rates phases down up) src datapath why) old
+      → IsThisOrMemory why status
+  frame_refusal_law src datapath phases down up out form allowed none why is given =
+      frame_refuses (rates phases down up) (allowed_rates src datapath phases down up out allowed) src datapath old new
+      given.files given.specified (λ r. none (inl (src, inl refl, r))) (λ r. none (inl (datapath, inr (inl refl), r)))
+      why is given.so out (λ r. none (inr (inl (out, refl, r)))) status
+      (frame_law words old new kept status ending src datapath phases down up out form)
+
+  pub net_refusal_law : (joins samples out : Name)
+      → IsNet words joins samples out
+      → HasNoFaultRisen (net joins samples out) old new
+      → (why : Status)
+      → IsNetRefusal why
+      → Specifies (IsNetRefused joins samples out why) old
+      → IsThisOrMemory why status
+  net_refusal_law joins samples out form none why is given =
+      ended status (net_law words old new kept status ending joins samples out form)
+    where
+      ended : (answer : Status) → IsNetAnswer joins samples out old new kept answer → IsThisOrMemory why answer
+      ended Done h =
+          absurd (net_never_refused joins samples out old new given.files given.specified h.0 h.2 why is given.so)
+      ended error h =
+          net_refuses joins samples out old new given.files given.specified
+          (λ name at rose. none (inl (name, at, rose)))
+          (λ rose. none (inr (inl (out, refl, rose)))) one_refusal why is given.so error h
 
   pub stages_refusal_law : (src datapath : Name) (count : ℕ)
       → IsStages words src datapath count

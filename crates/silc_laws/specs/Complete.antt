@@ -6,7 +6,11 @@ use Rattle.demo_cascade.specs.Cascade.{cascade_source, cascade_datapath}
 use Rattle.datapath.specs.declared.types.Datapath.{Datapath}
 use Rattle.desk_core.specs.View.{Name, Content, Files, View}
 use Rattle.desk_core.specs.Desk.{content_of}
+use Rattle.frame_command.specs.FramePlans.{IsFrameable, IsFrameRefused}
 use Rattle.source_faults.specs.Faults.{HasProgram}
+use Rattle.net_command.specs.Net.{HasNetStream}
+use Rattle.net_command.specs.Processors.{ProcPlan}
+use Rattle.net_core.specs.declared.types.NetFile.{NetFile}
 use Rattle.micro_image.specs.declared.conflict.Conflict.{Conflict as ConflictValue}
 use Rattle.micro_image.specs.declared.image.Image.{Image}
 use Rattle.micro_image.specs.Fields.{microprogram_of}
@@ -15,6 +19,7 @@ use Rattle.plan_commands.specs.Refusals.{IsRefused, AreTold}
 use Rattle.silc_files.specs.Sources.{IsAcceptedSource}
 use Rattle.plan_core.specs.declared.plan.Plan.{Plan}
 use Rattle.plan_soundness.specs.ImageOf.{IsImageOf}
+use Rattle.rate_unfold.specs.Frames.{Rates}
 use Rattle.sample_commands.specs.Eval.{program_channels}
 use Rattle.sample_commands.specs.Samples.{AreSamples}
 use Rattle.sample_commands.specs.Sim.{HasImage, HasStream}
@@ -45,6 +50,22 @@ AreStageable stages src datapath files = IsStageable stages (content_of (files s
 -- the source and the datapath in the files are refused over so many stages
 abbrev pub AreStageRefused : (stages : ℕ) → Name → Name → Status → Files → Type 0
 AreStageRefused stages = AreTold (IsStageRefused stages)
+
+-- SRC's program has a plan over frames on DP's datapath
+abbrev pub AreFrameable : Rates → Name → Name → Files → Type 0
+AreFrameable r src datapath files = IsFrameable r (content_of (files src)) (content_of (files datapath))
+
+-- the source and the datapath in the files are refused over frames
+abbrev pub AreFrameRefused : Rates → Name → Name → Status → Files → Type 0
+AreFrameRefused r = AreTold (IsFrameRefused r)
+
+-- NET has a net that can be run into OUT, and SAMPLES a stream for it
+abbrev pub HasSomeNetStream : Name → Name → Name → Files → Type 0
+HasSomeNetStream joins samples out files =
+    (file : NetFile)
+    × (plans : List ProcPlan)
+    × (stream : Rows)
+    × HasNetStream joins samples out file plans stream files
 
 -- SRC's program has this plan over DP's datapath
 abbrev pub HavePlan : Name → Name → Datapath → Plan → Files → Type 0

@@ -4,14 +4,19 @@
 
 mod streams;
 
-ghost use Rattle.std.specs.Prelude.{◌≡◌, ◌≢◌, ◌↔◌, ℕ, Some, None};
+ghost use Rattle.std.specs.Prelude.{◌≡◌, ◌≢◌, ◌↔◌, ℕ, List, [], Some, None};
 ghost use Rattle.command_words.specs.Command as spec;
 ghost use Rattle.command_words.specs.Command.{Command, IsCommand, IsCommandIn, output_of};
 ghost use Rattle.command_words.specs.Command.{IsCompile, IsSchedule, IsList, IsSim, IsEval, IsRun, IsDemo, IsStages, IsPipe};
+ghost use Rattle.command_words.specs.Command.{IsFrame, IsNet};
 ghost use Rattle.datapath.specs.declared.types.Datapath.{Datapath};
 ghost use Rattle.desk_core.specs.Desk.{HasOutput, WhereSpecified};
 ghost use Rattle.desk_core.specs.NeverFails.{view_of};
 ghost use Rattle.desk_core.specs.View.{Name};
+ghost use Rattle.frame_command.specs.Frame.{IsFrameDone, IsFrameAnswer, IsCompiledToo};
+ghost use Rattle.rate_unfold.specs.Frames.{rates};
+ghost use Rattle.frame_command.specs.FramePlans.{IsFrameRefusal};
+ghost use Rattle.net_command.specs.Net.{IsNetRefusal, IsNetRefused};
 ghost use Rattle.source_faults.specs.declared.fault.FrontFault.{FrontFault};
 ghost use Rattle.plan_commands.specs.Compile.{IsAnswer};
 ghost use Rattle.plan_commands.specs.Refusals.{IsRefusal, AreRefused};
@@ -26,6 +31,7 @@ ghost use Rattle.sample_loops.specs.declared.stream.StreamFault.{StreamFault};
 ghost use Rattle.silc.specs.Demo.{IsCascadePlannable, IsDemoDone, IsDemoAnswer};
 ghost use Rattle.silc.specs.Endings.{IsEnding, IsInputOf};
 ghost use Rattle.silc.specs.Runs.{IsSimDone, IsSimAnswer, IsRunDone, IsRunAnswer, IsPipeDone, IsPipeAnswer};
+ghost use Rattle.silc.specs.Runs.{IsJoinedDone, IsNetAnswer};
 ghost use Rattle.stage_commands.specs.Stages.{IsStagesPrinted, IsStagesAnswer};
 ghost use Rattle.silc.specs.Listing.{IsListed, IsListAnswer};
 ghost use Rattle.silc_files.specs.Endings.{UsesOnly};
@@ -33,7 +39,8 @@ ghost use Rattle.silc_files.specs.Printing.{ChangesNoFile, PrintsOnly};
 ghost use Rattle.silc_laws.specs.Complete.{Specifies, ArePlannable, HasClearStream, HasProgramStream, HasPlannedStream};
 ghost use Rattle.silc_laws.specs.Complete.{HavePlan, HasImageOf, IsCascadeRefused, IsAccepted};
 ghost use Rattle.silc_laws.specs.Complete.{StopsSim, StopsEval, StopsPlanned, StopsStaged};
-ghost use Rattle.silc_laws.specs.Complete.{AreStageable, AreStageRefused, HasStagedStream};
+ghost use Rattle.silc_laws.specs.Complete.{AreStageable, AreStageRefused, AreFrameable, AreFrameRefused, HasStagedStream};
+ghost use Rattle.silc_laws.specs.Complete.{HasSomeNetStream};
 ghost use Rattle.silc_laws.specs.Complete.{IsThisOrMemory, IsDoneOrMemory, IsEndedBySamples, IsEndedByRun};
 ghost use Rattle.silc_laws.specs.Faults.{HasFaultRisen, HasNoFaultRisen};
 ghost use Rattle.silc_laws.specs.Forms.{IsCommandTo};
@@ -70,6 +77,11 @@ pub fn silc_done<D: Desk>(alloc: Global, words: &[String], desk: &mut D, kept: &
     ensures piped { result ≡ Status.Done → (src datapath : Name) (stages : ℕ) (samples out : Name)
         → IsPipe words.now src datapath stages samples out
         → IsPipeDone src datapath stages samples out (D.view desk.old) (D.view desk.new) kept.new }
+    ensures framed { result ≡ Status.Done → (src datapath : Name) (phases : ℕ) (down up : List ℕ) (out : Name)
+        → IsFrame words.now src datapath phases down up out
+        → IsFrameDone (rates phases down up) src datapath out (D.view desk.old) (D.view desk.new) }
+    ensures joined { result ≡ Status.Done → (joins samples out : Name) → IsNet words.now joins samples out
+        → IsJoinedDone joins samples out (D.view desk.old) (D.view desk.new) kept.new }
     ensures closed { result ≡ Status.Done → (out : Name) → IsCommandTo words.now out
         → HasOutput None (D.view desk.new) }
 {
@@ -107,6 +119,13 @@ pub fn silc_answers<D: Desk>(
     ensures pipe_answer { (src datapath : Name) (stages : ℕ) (samples out : Name)
         → IsPipe words.now src datapath stages samples out
         → IsPipeAnswer src datapath stages samples out (D.view desk.old) (D.view desk.new) kept.new result }
+    ensures frame_answer { (src datapath : Name) (phases : ℕ) (down up : List ℕ) (out : Name)
+        → IsFrame words.now src datapath phases down up out
+        → IsFrameAnswer (rates phases down up) src datapath out (D.view desk.old) (D.view desk.new) result }
+    ensures frame_compiles { (src datapath out : Name) → IsFrame words.now src datapath 1 [] [] out
+        → IsCompiledToo src datapath out (D.view desk.old) (D.view desk.new) result }
+    ensures net_answer { (joins samples out : Name) → IsNet words.now joins samples out
+        → IsNetAnswer joins samples out (D.view desk.old) (D.view desk.new) kept.new result }
 {
     silc(alloc, words, desk, kept)
 }
@@ -136,6 +155,8 @@ pub fn silc_leaves<D: Desk>(
     ensures list_keeps_nothing { (mic : Name) → IsList words.now mic → kept.new ≡ Nothing }
     ensures stages_keeps_nothing { (src datapath : Name) (stages : ℕ) → IsStages words.now src datapath stages
         → kept.new ≡ Nothing }
+    ensures frame_keeps_nothing { (src datapath : Name) (phases : ℕ) (down up : List ℕ) (out : Name)
+        → IsFrame words.now src datapath phases down up out → kept.new ≡ Nothing }
 {
     silc(alloc, words, desk, kept)
 }
@@ -211,6 +232,13 @@ pub fn silc_completes<D: Desk>(
         → IsPipe words.now src datapath stages samples out
         → HasNoFaultRisen (spec.pipe src datapath stages samples out) (D.view desk.old) (D.view desk.new)
         → Specifies (HasStagedStream stages src datapath samples) (D.view desk.old) → IsDoneOrMemory result }
+    ensures frames { (src datapath : Name) (phases : ℕ) (down up : List ℕ) (out : Name)
+        → IsFrame words.now src datapath phases down up out
+        → HasNoFaultRisen (spec.frame src datapath phases down up out) (D.view desk.old) (D.view desk.new)
+        → Specifies (AreFrameable (rates phases down up) src datapath) (D.view desk.old) → IsDoneOrMemory result }
+    ensures joins { (joins samples out : Name) → IsNet words.now joins samples out
+        → HasNoFaultRisen (spec.net joins samples out) (D.view desk.old) (D.view desk.new)
+        → Specifies (HasSomeNetStream joins samples out) (D.view desk.old) → IsDoneOrMemory result }
 {
     silc(alloc, words, desk, kept)
 }
@@ -263,6 +291,16 @@ pub fn silc_refuses<D: Desk>(
         → HasNoFaultRisen (spec.pipe src datapath stages samples out) (D.view desk.old) (D.view desk.new)
         → (why : of_status.Status) → IsRefusal why
         → Specifies (AreStageRefused stages src datapath why) (D.view desk.old) → IsThisOrMemory why result }
+    ensures frame_refuses { (src datapath : Name) (phases : ℕ) (down up : List ℕ) (out : Name)
+        → IsFrame words.now src datapath phases down up out
+        → HasNoFaultRisen (spec.frame src datapath phases down up out) (D.view desk.old) (D.view desk.new)
+        → (why : of_status.Status) → IsFrameRefusal why
+        → Specifies (AreFrameRefused (rates phases down up) src datapath why) (D.view desk.old)
+        → IsThisOrMemory why result }
+    ensures net_refuses { (joins samples out : Name) → IsNet words.now joins samples out
+        → HasNoFaultRisen (spec.net joins samples out) (D.view desk.old) (D.view desk.new)
+        → (why : of_status.Status) → IsNetRefusal why
+        → Specifies (IsNetRefused joins samples out why) (D.view desk.old) → IsThisOrMemory why result }
 {
     silc(alloc, words, desk, kept)
 }

@@ -1,4 +1,5 @@
--- A lowered list can be bound to units, a plan can be assembled, and its lifetimes can get registers anew.
+-- A lowered list can be bound to units, a plan can be assembled or guarded, and its lifetimes can get registers anew.
+use Rattle.std.proofs.Common.{ℕ, ◌≤◌, sym, subst}
 use Rattle.datapath.specs.Allowed.{IsDatapath}
 use Rattle.datapath.specs.declared.types.Datapath.{Datapath}
 use Rattle.signal_graph.specs.GraphRules.{IsGraph}
@@ -10,6 +11,9 @@ use Rattle.plan_core.specs.IsPlan.{IsPlan}
 use Rattle.microcode_asm.specs.Planned.{IsPlanned}
 use Rattle.unit_assign.specs.Wired.{IsWired}
 use Rattle.reg_alloc.specs.Allottable.{AreAllottable}
+use Rattle.overlap_plan.specs.IsStagePlan.{IsStagePlan}
+use Rattle.overlap_plan.specs.StagePlanned.{IsStagePlanned}
+use Rattle.overlap_plan.specs.declared.plan.StagePlan.{StagePlan}
 use Rattle.planner.proofs.Asked.{wired, allottable}
 
 pub lowered_wired : (g : Graph) (d : Datapath) (l : Lowered) → IsGraph g → IsLowered g d l → IsWired l
@@ -24,3 +28,18 @@ lifetimes_allottable d p allowed planned =
     allottable planned.graph d planned.sound p.assigned plan.lowered allowed plan.assigned p.schedule plan.schedule
     p.arcs
     plan.arcs
+
+-- a plan of at least one stage and of four at most has a guarded image
+pub stage_planned : (g : Graph) (d : Datapath) (stages : ℕ) (p : StagePlan)
+    → IsGraph g
+    → 1 ≤ stages
+    → stages ≤ 4
+    → IsStagePlan g d stages p
+    → IsStagePlanned d p
+stage_planned g d stages p sound some few plan = record {
+  graph = g;
+  sound = sound;
+  some = subst (λ n. 1 ≤ n) (sym plan.stages_are) some;
+  few = subst (λ n. n ≤ 4) (sym plan.stages_are) few;
+  plan = subst (λ n. IsStagePlan g d n p) (sym plan.stages_are) plan;
+}

@@ -73,17 +73,40 @@ fn put_word(page: &mut Page, number: usize, word: &Word) {
     }
 }
 
-fn put_image(page: &mut Page, image: &Image) {
-    page.number("period ", image.period);
-    page.number("\nunroll ", image.unroll);
-    page.numbers("\ninputs", &image.inputs);
-    page.number("\noutputs ", image.outs);
+/// What stands before the words of an image: its numbers and its units.
+#[derive(Clone, Copy)]
+pub struct Head<'a> {
+    pub period: u16,
+    pub unroll: u8,
+    pub inputs: &'a [u8],
+    pub outs: u8,
+    pub units: &'a [UnitDesc],
+    pub buses: u8,
+}
+
+pub fn put_head(page: &mut Page, head: Head<'_>) {
+    page.number("period ", head.period);
+    page.number("\nunroll ", head.unroll);
+    page.numbers("\ninputs", head.inputs);
+    page.number("\noutputs ", head.outs);
     page.end();
-    for (number, unit) in image.units.iter().enumerate() {
+    for (number, unit) in head.units.iter().enumerate() {
         put_unit(page, number, unit);
     }
-    page.number("buses ", image.buses);
+    page.number("buses ", head.buses);
     page.end();
+}
+
+fn put_image(page: &mut Page, image: &Image) {
+    let head = Head {
+        period: image.period,
+        unroll: image.unroll,
+        inputs: &image.inputs,
+        outs: image.outs,
+        units: &image.units,
+        buses: image.buses,
+    };
+    put_head(page, head);
     for (number, word) in image.words.iter().enumerate() {
         put_word(page, number, word);
     }

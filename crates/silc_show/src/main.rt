@@ -8,6 +8,7 @@ mod elements;
 mod expressions;
 mod flat;
 mod graph;
+mod guarded;
 mod image;
 mod lifetimes;
 mod manifests;
@@ -29,6 +30,7 @@ mod types;
 mod values;
 mod words;
 
+use crate::guarded::stages_named;
 use crate::page::{Page, Refused};
 use crate::plans::plan_call_named;
 use crate::repeat::call_named;
@@ -40,8 +42,8 @@ use std::{env, fs};
 
 const USAGE: &str =
     "usage: silc_show tokens|tree|text|names|elements|types|graph SRC | origins SRC DP | values SRC SAMPLES \
-     | manifests|words TABLE | image MIC | trace MIC SAMPLES [FROM TO [ORDER]] | datapath DP | rows WIDTHS SAMPLES \
-     | repeat CALL TURNS FILE | repeat assign|plan|allot|assemble TURNS SRC DP";
+     | manifests|words TABLE | image MIC | guarded SRC DP S | trace MIC SAMPLES [FROM TO [ORDER]] | datapath DP \
+     | rows WIDTHS SAMPLES | repeat CALL TURNS FILE | repeat assign|plan|stages-S|allot|assemble TURNS SRC DP";
 
 const BAD_WORDS: u8 = 2;
 
@@ -126,6 +128,19 @@ fn show_origins<R: Files + AllocGlobal>(rt: &R, page: &mut Page, words: &[String
     };
     let (source, path) = read_both(rt, source.as_str(), path.as_str())?;
     let _ = origins::put(page, &source, &path);
+    Ok(true)
+}
+
+/// Puts the guarded image of a source on a datapath. `false`: there is no such number of stages.
+fn show_guarded<R: Files + AllocGlobal>(rt: &R, page: &mut Page, words: &[String]) -> Result<bool> {
+    let [source, path, stages] = words else {
+        return Ok(false);
+    };
+    let Some(stages) = stages_named(stages.as_str()) else {
+        return Ok(false);
+    };
+    let (source, path) = read_both(rt, source.as_str(), path.as_str())?;
+    let _ = guarded::put(page, &source, &path, stages);
     Ok(true)
 }
 
@@ -227,6 +242,7 @@ fn show<R: Env + Files + Print + AllocGlobal>(rt: &R) -> Result<bool> {
     let mut page = Page::new(rt.alloc());
     let is_asked = match verb.as_str() {
         "origins" => show_origins(rt, &mut page, words),
+        "guarded" => show_guarded(rt, &mut page, words),
         "values" => show_values(rt, &mut page, words),
         "rows" => show_rows(rt, &mut page, words),
         "trace" => show_trace(rt, &mut page, words),

@@ -8,6 +8,7 @@ ghost use Rattle.signal_graph.specs.GraphSolves.{IsGraphLoopless};
 ghost use Rattle.microcode_asm.specs.Planned.{IsPlanned};
 
 use crate::graph::graph_of;
+use crate::guarded::{Stages, stage_plan_over};
 use crate::lifetimes::registers;
 use crate::page::{Page, Refused};
 use crate::path::datapath_of;
@@ -36,6 +37,8 @@ pub enum PlanCall {
     Assign,
     /// From a source to its plan: the lifetimes.
     Plan,
+    /// From a graph to its plan over so many stages: the lifetimes.
+    Stages(Stages),
     OnPlan(ReadyCall),
 }
 
@@ -43,6 +46,10 @@ pub fn plan_call_named(word: &str) -> Option<PlanCall> {
     match word {
         "assign" => Some(PlanCall::Assign),
         "plan" => Some(PlanCall::Plan),
+        "stages-1" => Some(PlanCall::Stages(Stages::One)),
+        "stages-2" => Some(PlanCall::Stages(Stages::Two)),
+        "stages-3" => Some(PlanCall::Stages(Stages::Three)),
+        "stages-4" => Some(PlanCall::Stages(Stages::Four)),
         "allot" => Some(PlanCall::OnPlan(ReadyCall::Allot)),
         "assemble" => Some(PlanCall::OnPlan(ReadyCall::Assemble)),
         _ => None,
@@ -130,6 +137,24 @@ fn plan_again(page: &mut Page, turns: u32, source: &[u8], path: &Datapath) -> Re
     Ok(count)
 }
 
+fn stages_again(
+    page: &mut Page,
+    stages: Stages,
+    turns: u32,
+    source: &[u8],
+    path: &Datapath,
+) -> Result<u64, Refused>
+    requires { IsDatapath path.now }
+{
+    let graph = graph_of(page, source)?;
+    let mut count = 0u64;
+    for _ in 0..turns {
+        let plan = stage_plan_over(page, &graph, path, stages)?;
+        count = count.wrapping_add(plan.arcs.len() as u64);
+    }
+    Ok(count)
+}
+
 /// How many microwords the image has.
 fn words(page: &mut Page, plan: &Plan, path: &Datapath) -> Result<usize, Refused>
     requires path { IsDatapath path.now }
@@ -194,6 +219,7 @@ pub fn put(
     let sum = match call {
         PlanCall::Assign => assign_source(page, turns, source, &path),
         PlanCall::Plan => plan_again(page, turns, source, &path),
+        PlanCall::Stages(stages) => stages_again(page, stages, turns, source, &path),
         PlanCall::OnPlan(call) => plan_source(page, call, turns, source, &path),
     };
     page.number("", sum?);

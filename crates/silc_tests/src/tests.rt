@@ -387,14 +387,23 @@ const RUNS: [&[&str]; 2] = [
 ];
 
 /// The commands that keep a machine, and the rows that each writes.
-const KEEPING: [(&[&str], &[u8]); 3] = [
+const KEEPING: [(&[&str], &[u8]); 4] = [
     (&["sim", "OUT", "SAMPLES", "ROWS"], b"1\n-128\n-127\n"),
     (&["run", "SRC", "DP", "SAMPLES", "ROWS"], b"1\n-128\n-127\n"),
     (
         &["pipe", "SRC", "DP", "2", "SAMPLES", "ROWS"],
         b"0\n1\n-128\n",
     ),
+    (&["net", "NET", "SAMPLES", "ROWS"], b"1\n-128\n-127\n"),
 ];
+
+/// A net of the source alone.
+const NET: &[u8] = b"inputs = 1
+[[proc]]
+src = \"SRC\"
+dp = \"DP\"
+feed = [\"in.0\"]
+";
 
 /// How a command ends, and how many samples the machine has run that it keeps.
 fn samples_kept<D: Desk>(
@@ -408,6 +417,7 @@ fn samples_kept<D: Desk>(
     let samples = match &kept {
         Kept::One(machine) => Some(machine.samples()),
         Kept::Staged(machine) => Some(machine.samples()),
+        Kept::Joined(net) => Some(net.count() as u64),
         Kept::Nothing => None,
     };
     Ok((status, samples))
@@ -419,6 +429,7 @@ fn a_run_keeps_the_machine_after_the_last_sample(rt: HostRuntime) -> Result<(), 
     for (words, rows) in KEEPING {
         let mut desk = desk_with(alloc, 100, SOURCE)?;
         desk.put("SAMPLES", b"0\n127\n-128\n")?;
+        desk.put("NET", NET)?;
         assert_eq!(rt; carry_out(alloc, &COMPILE, &mut desk)?, Status::Done);
         let (status, samples) = samples_kept(alloc, words, &mut desk)?;
         assert_eq!(rt; status, Status::Done);

@@ -10,7 +10,6 @@ use Rattle.loop_expand.specs.GraphFor.{IsGraphFor}
 use Rattle.overlap_plan.specs.Faults.{IsStageFault}
 use Rattle.overlap_plan.specs.IsStagePlan.{IsStagePlan}
 use Rattle.overlap_plan.specs.StagePlanned.{IsStagePlanned}
-use Rattle.overlap_sim.specs.StagePlanned.{IsStagePlanned as IsGuardable}
 use Rattle.overlap_plan.specs.StageText.{stage_text}
 use Rattle.overlap_plan.specs.declared.fault.StageFault.{StageFault}
 use Rattle.overlap_plan.specs.declared.fault.StageFault.TheVariants.{Line, Unit as Unbound, Period, File, Memory}
@@ -90,22 +89,13 @@ module _ (stages : ℕ) (bounds : (1 ≤ stages) × (stages ≤ 4)) (src datapat
   few : planned.plan.stages ≤ 4
   few = subst (λ n. n ≤ 4) (sym plan.plan.stages_are) bounds.1
 
-  -- the plan has a text
-  pub has_text : IsStagePlanned planned.path planned.plan
-  has_text = record {
+  -- the plan is one that is shown and made into an image
+  pub is_planned : IsStagePlanned planned.path planned.plan
+  is_planned = record {
     graph = plan.graph;
     sound = plan.keeps.sound;
     some = some;
     few = few;
-    plan = its_stages stages plan.graph planned.path planned.plan plan.plan;
-  }
-
-  -- and a guarded image
-  pub has_image : IsGuardable planned.path planned.plan
-  has_image = record {
-    graph = plan.graph;
-    sound = plan.keeps.sound;
-    stages = (some, few);
     plan = its_stages stages plan.graph planned.path planned.plan plan.plan;
   }
 

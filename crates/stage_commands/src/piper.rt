@@ -4,7 +4,7 @@ ghost use Rattle.std.specs.Prelude.{◌≡◌, ◌≢◌, ◌≤◌, [], ◌∷�
 ghost use Rattle.cycle_sim.specs.Microcode.{inputs_of};
 ghost use Rattle.datapath.specs.Allowed.{IsDatapath};
 ghost use Rattle.desk_core.specs.Desk.{FaultsNeverFall};
-ghost use Rattle.overlap_sim.specs.StagePlanned.{IsStagePlanned};
+ghost use Rattle.overlap_plan.specs.StagePlanned.{IsStagePlanned};
 ghost use Rattle.sample_commands.specs.Loaded.{AreFreshRows};
 ghost use Rattle.silc_files.specs.Endings.{IsAmong, UsesOnly};
 ghost use Rattle.silc_files.specs.Reading.{OnlyReads};

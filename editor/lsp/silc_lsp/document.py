@@ -14,7 +14,7 @@ LINE_ALONE = (1, 2)
 class Document:
     """The text of a source, perhaps unsaved."""
 
-    def __init__(self, text: str, version: int | None = None):
+    def __init__(self, text: str, version: int | None = None) -> None:
         self.text, self.version = text, version
         # What is found in it, once it is looked for, and which of it the cure takes away, once that is tried.
         self.findings: list[Finding] = []

@@ -1,11 +1,17 @@
-"""The layout of a source: its tokens and comments as they are, with the blanks and the ends of lines of the examples."""
+"""The layout of a source: its tokens and comments as they are, with the blanks and the ends of lines of the
+examples."""
+import itertools
 import re
 from dataclasses import dataclass
 
 from silc.explaining.grammar import Unexpected, parsed
 from silc.explaining.text import TOKEN, tokens_of
+from silc.linking.blocks import BRACES, DOC
+from silc.linking.places import STATEMENT, blanked, has_head
 
 COMMENT, INDENT = "comment", "  "
+# How many digits count the numbers that stand in for others; those before them are not in the text.
+DIGITS = 6
 OPERATORS = ("+", "-", "*", "<<", ">>", "&", "|", "<", "<=", "==", "!=", ">", ">=", "!")
 # After these a `-` or a `!` has one part.
 BEFORE_SIGN = (*OPERATORS, "=", "->", "||", ",", "(", "[", "@", "@@", ":", "..", "if")
@@ -43,7 +49,38 @@ def pieces_of(text: str) -> list[Piece]:
 
 
 def laid_out(text: str) -> str:
-    """The text in its layout. Raises Refused where it is no program."""
+    """The text in its layout. Raises Refused where it is no program. In one that is to be linked the head and each
+    number in braces stay as they are."""
+    standing = standing_in(text)
+    made = laid_out_plain(with_others(text, standing))
+    return with_others(made, {new: old for old, new in standing.items()})
+
+
+def standing_in(text: str) -> dict[str, str]:
+    """What stands in for the head of a source and for numbers in braces, where it has them: a comment, and numbers that
+    are not in it."""
+    if not has_head(text):
+        return {}
+    code, at = blanked(text), 0
+    start = STATEMENT.match(code).start("word")
+    while found := STATEMENT.match(code, at):
+        at = found.end()
+    doc = DOC.match(text, at)
+    head = text[start:doc.end() if doc else at]
+    numbers = itertools.count(next(first for first in itertools.count(10**DIGITS, 10**DIGITS)
+                                   if str(first)[:-DIGITS] not in text))
+    return {head: f"/*{next(numbers)}*/"} | {found[0]: str(next(numbers)) for found in BRACES.finditer(code, at)}
+
+
+def with_others(text: str, others: dict[str, str]) -> str:
+    """The text with other parts in the place of some, the longest first."""
+    if not others:
+        return text
+    pattern = "|".join(re.escape(part) for part in sorted(others, key=len, reverse=True))
+    return re.sub(pattern, lambda found: others[found[0]], text)
+
+
+def laid_out_plain(text: str) -> str:
     tokens, bad = tokens_of(text)
     if bad is not None:
         raise Refused("the source has a fault, and its layout stays as it is")
@@ -59,7 +96,7 @@ def laid_out(text: str) -> str:
     return made.replace("\n", "\r\n") if re.search(r"\r?\n", text + "\n")[0] == "\r\n" and "\r" not in made else made
 
 
-def related(tokens: list[Piece]):
+def related(tokens: list[Piece]) -> None:
     """Finds the tokens of types, the signs, and the operators of manifest numbers."""
     in_type, open_places = False, []
     for at, token in enumerate(tokens):
@@ -81,14 +118,14 @@ def related(tokens: list[Piece]):
             bounds(tokens[:at])
 
 
-def manifest(tokens: list[Piece], is_subscript: bool):
+def manifest(tokens: list[Piece], is_subscript: bool) -> None:
     """A manifest number: products without blanks, and sums too where they are alone or in a subscript."""
     is_mixed = any(token.text == "*" for token in tokens) and not is_subscript
     for token in tokens:
         token.is_tight = token.is_tight or token.text == "*" or token.text in ("+", "-") and not is_mixed
 
 
-def bounds(tokens: list[Piece]):
+def bounds(tokens: list[Piece]) -> None:
     """The bounds of the loop whose head has just ended."""
     first = next((k for k in range(len(tokens) - 1, -1, -1) if tokens[k].text == ":"), 0)
     middle = next((k for k in range(first, len(tokens)) if tokens[k].text == ".."), first)
@@ -116,7 +153,7 @@ def is_joined(left: Piece, right: Piece) -> bool:
 class Layout:
     """Lines that are made piece by piece."""
 
-    def __init__(self, pieces: list[Piece]):
+    def __init__(self, pieces: list[Piece]) -> None:
         self.pieces, self.lines, self.line = pieces, [], []
         # How many bodies are open, whether an item is, and by how much the line is indented.
         self.depth, self.is_inside, self.indent = 0, False, 0
@@ -131,7 +168,7 @@ class Layout:
         self.end_line()
         return "".join(f"{line}\n" for line in self.lines)
 
-    def take(self, piece: Piece):
+    def take(self, piece: Piece) -> None:
         """Puts a piece at the end of the line, or begins one with it."""
         self.depth -= piece.text == "end"
         if not self.line:
@@ -160,7 +197,7 @@ class Layout:
     def last_token(self) -> str:
         return next((piece.text for piece in reversed(self.line) if piece.kind != COMMENT), "")
 
-    def end_line(self):
+    def end_line(self) -> None:
         if self.line:
             text = self.line[0].text
             for left, right in zip(self.line, self.line[1:]):

@@ -4,11 +4,15 @@ import subprocess
 import tempfile
 from collections.abc import Callable
 from pathlib import Path
+from typing import TypeVar
 
 from silc.checking.findings import Finding, finding_of
 from silc.explaining import of_datapath
 from silc.explaining.command import Case
+from silc.linking.told import Told
 from silc.programs import SHOW, SILC
+
+Made = TypeVar("Made")
 
 NODE = re.compile(r"\bnode (\d+)")
 SECONDS, BAD_DATAPATH = 30, 5
@@ -25,7 +29,7 @@ def ran(*words: str | Path, room: Path) -> subprocess.CompletedProcess:
     return subprocess.run(words, cwd=room, stdin=subprocess.DEVNULL, capture_output=True, text=True, timeout=SECONDS)
 
 
-def in_room(text: str, run: Callable):
+def in_room(text: str, run: Callable[[Path], Made]) -> Made:
     with tempfile.TemporaryDirectory(prefix="silc-lsp-") as folder:
         Path(folder, SOURCE).write_text(text, newline="")
         return run(Path(folder))
@@ -43,8 +47,8 @@ def is_datapath(text: str) -> bool:
     return bool(TABLES.search(text))
 
 
-def plan_of(text: str, datapath: Path, content: str) -> str:
-    """What is to be said of the plan of a source over a datapath file with some content."""
+def plan_of(text: str, datapath: Path, content: str, told: Told | None = None) -> str:
+    """What is to be said of the plan of a source, or of one as it is linked, over a datapath file with some content."""
     def plan(room: Path) -> str:
         (room / FILE).write_text(content, newline="")
         done = ran(SILC.place(), "schedule", SOURCE, FILE, room=room)
@@ -52,11 +56,11 @@ def plan_of(text: str, datapath: Path, content: str) -> str:
             period, nodes = re.match(r"period (\d+) unroll \d+ nodes (\d+)", done.stdout).groups()
             return f"over {datapath.name}: a period of {period} cycles, {nodes} nodes"
         said = done.stderr.strip().removeprefix("silc: ")
-        return f"over {datapath.name}: {said}{equation_of(text, said, room)}"
-    return in_room(text, plan)
+        return f"over {datapath.name}: {said}{equation_of(text, said, room, told)}"
+    return in_room(told.text.data.decode(errors="replace") if told else text, plan)
 
 
-def equation_of(text: str, said: str, room: Path) -> str:
+def equation_of(text: str, said: str, room: Path, told: Told | None) -> str:
     """The line of the node that a refusal names, where `silc_show origins` says it."""
     node = NODE.search(said)
     if not node or not SHOW.is_there():
@@ -64,9 +68,10 @@ def equation_of(text: str, said: str, room: Path) -> str:
     done = ran(SHOW.place(), "origins", SOURCE, FILE, room=room)
     found = re.search(rf"^node {node[1]} .*?\bline (\d+) element \d+ (\S+)", done.stdout, re.M)
     lines = text.splitlines()
-    if not found or not 1 <= int(found[1]) <= len(lines):
+    if not found or told is None and not 1 <= int(found[1]) <= len(lines):
         return ""
-    return f", which is of {found[2]}: {lines[int(found[1]) - 1].strip()}"
+    line = told.line_span(int(found[1])).shown if told else lines[int(found[1]) - 1]
+    return f", which is of {found[2]}: {line.strip()}"
 
 
 def datapath_fault(text: str) -> Finding | None:

@@ -3,7 +3,7 @@ import json
 import queue
 import re
 import threading
-from typing import BinaryIO
+from typing import Any, BinaryIO
 
 PARSE_ERROR, INVALID_REQUEST, METHOD_NOT_FOUND, INVALID_PARAMS, INTERNAL_ERROR = -32700, -32600, -32601, -32602, -32603
 REQUEST_FAILED = -32803
@@ -20,7 +20,7 @@ class BadMessage(Exception):
 class Connection:
     """A stream of messages in, and one of messages out."""
 
-    def __init__(self, reader: BinaryIO, writer: BinaryIO):
+    def __init__(self, reader: BinaryIO, writer: BinaryIO) -> None:
         self.reader, self.writer = reader, writer
 
     def read(self) -> dict | None:
@@ -54,29 +54,29 @@ class Connection:
             length = int(found[1]) if found else length
         return None
 
-    def send(self, **message):
+    def send(self, **message: Any) -> None:
         body = json.dumps({"jsonrpc": "2.0", **message}).encode()
         self.writer.write(b"Content-Length: %d\r\n\r\n%s" % (len(body), body))
         self.writer.flush()
 
-    def answer(self, request: dict, result):
+    def answer(self, request: dict, result: Any) -> None:
         self.send(id=request["id"], result=result)
 
-    def refuse(self, number, code: int, why: str):
+    def refuse(self, number: Any, code: int, why: str) -> None:
         self.send(id=number, error={"code": code, "message": why})
 
-    def notify(self, method: str, params: dict):
+    def notify(self, method: str, params: dict) -> None:
         self.send(method=method, params=params)
 
 
 class Inbox:
     """The messages that have come, which a thread reads, and how many changes of each document are among them."""
 
-    def __init__(self, connection: Connection):
+    def __init__(self, connection: Connection) -> None:
         self.connection, self.waiting, self.changes = connection, queue.Queue(), {}
         threading.Thread(target=self.fill, daemon=True).start()
 
-    def fill(self):
+    def fill(self) -> None:
         message = ""
         while message is not None:
             try:
@@ -95,7 +95,7 @@ class Inbox:
         return self.waiting.get(block=can_wait)
 
 
-def changed(message) -> str | None:
+def changed(message: object) -> str | None:
     """The document that a message changes, or nothing."""
     if not isinstance(message, dict) or message.get("method") != CHANGE or "id" in message:
         return None

@@ -1,2 +1,2 @@
 " Vim takes such a file for Swift's intermediate language.
-autocmd BufRead,BufNewFile *.sil set filetype=silc
+autocmd BufRead,BufNewFile *.sil,*.blocks set filetype=silc

@@ -10,6 +10,8 @@ syntax keyword silcMode trunc round sat
 syntax keyword silcBoolean true false
 syntax keyword silcReserved down up
 
+" The head of a source that is to be linked.
+syntax match silcHead '^\s*\%(use\|let\)\>'
 syntax match silcFunction '\<\h\w*\ze\s*('
 syntax match silcNumber '\<\d\+\%(\.\d\+\)\?\>'
 syntax match silcOperator '::\|\.\.\|[=!<>]=\|<<\|>>\|->\|||\|@@\|[-+*&|!<>=@]'
@@ -22,6 +24,7 @@ highlight default link silcType Type
 highlight default link silcMode StorageClass
 highlight default link silcBoolean Boolean
 highlight default link silcReserved Error
+highlight default link silcHead Include
 highlight default link silcFunction Function
 highlight default link silcNumber Number
 highlight default link silcOperator Operator

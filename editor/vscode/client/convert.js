@@ -10,10 +10,15 @@ const toRange = (from) => ({ start: toPosition(from.start), end: toPosition(from
 const location = (from) => new vscode.Location(vscode.Uri.parse(from.uri), range(from.range));
 const textEdit = (from) => new vscode.TextEdit(range(from.range), from.newText);
 
+const related = (from) => new vscode.DiagnosticRelatedInformation(location(from.location), from.message);
+// How a completion was asked for, which VS Code counts from 0.
+const toContext = (from) => (from ? { triggerKind: from.triggerKind + 1, triggerCharacter: from.triggerCharacter } : undefined);
+
 function diagnostic(from) {
   const made = new vscode.Diagnostic(range(from.range), from.message, from.severity - 1);
   made.source = from.source;
   if (from.tags) made.tags = from.tags;
+  if (from.relatedInformation) made.relatedInformation = from.relatedInformation.map(related);
   return made;
 }
 
@@ -26,6 +31,7 @@ function symbol(from) {
 function completion(from) {
   const made = new vscode.CompletionItem(from.label, from.kind - 1);
   made.detail = from.detail;
+  if (from.documentation) made.documentation = from.documentation;
   return made;
 }
 
@@ -50,4 +56,4 @@ function action(from) {
   return made;
 }
 
-module.exports = { range, toPosition, toRange, location, textEdit, diagnostic, symbol, completion, signatureHelp, action };
+module.exports = { range, toContext, toPosition, toRange, location, textEdit, diagnostic, symbol, completion, signatureHelp, action };

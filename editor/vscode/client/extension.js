@@ -17,8 +17,8 @@ const named = (document) => ({ uri: document.uri.toString() });
 const at = (document, place) => ({ textDocument: named(document), position: convert.toPosition(place) });
 
 function settings() {
-  const { server, datapath } = vscode.workspace.getConfiguration(LANGUAGE);
-  return { server: server || SERVER, datapath: datapath || undefined };
+  const { server, datapath, library } = vscode.workspace.getConfiguration(LANGUAGE);
+  return { server: server || SERVER, options: { datapath: datapath || undefined, library: library || [] } };
 }
 
 function opened(document) {
@@ -61,9 +61,9 @@ function providers() {
         (found) => found.map(convert.symbol)),
     }),
     languages.registerCompletionItemProvider(LANGUAGE, {
-      provideCompletionItems: (document, place) => ask('completion', at(document, place),
-        (found) => found.map(convert.completion)),
-    }),
+      provideCompletionItems: (document, place, token, context) => ask('completion',
+        { ...at(document, place), context: convert.toContext(context) }, (found) => found.map(convert.completion)),
+    }, '<', '{', ' '),
     languages.registerSignatureHelpProvider(LANGUAGE, {
       provideSignatureHelp: (document, place) => ask('signatureHelp', at(document, place), convert.signatureHelp),
     }, '(', ','),
@@ -82,14 +82,14 @@ function providers() {
 
 async function activate(context) {
   const marks = vscode.languages.createDiagnosticCollection(LANGUAGE);
-  const { server, datapath } = settings();
+  const { server, options } = settings();
   connection = new Connection(server, (method, params) => {
     if (method === 'textDocument/publishDiagnostics') {
       marks.set(vscode.Uri.parse(params.uri), params.diagnostics.map(convert.diagnostic));
     }
   }, (why) => vscode.window.showWarningMessage(`silc: the language server ${server} does not run: ${why}`));
   context.subscriptions.push(marks, { dispose: deactivate });
-  await connection.ask('initialize', { processId: process.pid, capabilities: {}, initializationOptions: { datapath } });
+  await connection.ask('initialize', { processId: process.pid, capabilities: {}, initializationOptions: options });
   connection.tell('initialized', {});
   vscode.workspace.textDocuments.forEach(opened);
   context.subscriptions.push(
@@ -97,7 +97,7 @@ async function activate(context) {
     vscode.workspace.onDidChangeTextDocument(changed),
     vscode.workspace.onDidCloseTextDocument(closed),
     vscode.workspace.onDidChangeConfiguration(() => connection.tell('workspace/didChangeConfiguration',
-      { settings: { silc: { datapath: settings().datapath } } })),
+      { settings: { silc: settings().options } })),
     ...providers(),
   );
 }

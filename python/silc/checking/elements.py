@@ -1,13 +1,22 @@
-"""The elements of a program with what defines each, and the exact words of those that no element's past comes back to."""
+"""The elements of a program with what defines each, and the exact words of those that no element's past comes back
+to."""
 import heapq
 import math
+from collections.abc import Callable, Iterator
 from dataclasses import dataclass, field
+from typing import Any, TypeAlias
 
 from silc.explaining.grammar import Func, Node, Type
 from silc.explaining.program import Source, manifest, offset, turns_of
 from silc.explaining.typing_rules import BOOL, Typing
 
 from silc.checking.numbers import raw_of
+
+# What gives the value of an element with a delay.
+Read: TypeAlias = "Callable[[int, int], Value]"
+# Elements, lower ranks first, each with how many samples ago; and the words of elements so many samples ago.
+Cone: TypeAlias = list[tuple[int, list[int]]]
+Words: TypeAlias = dict[tuple[int, int], int]
 
 INPUT, SAME, WORD, VALUE = "input", "same", "word", "value"
 # How a value is used: what it is beyond its word is lost, is kept, or is as the element itself is used.
@@ -22,8 +31,8 @@ class TooLong(Exception):
 class Scope:
     """Where an expression stands: a function, the elements of its signals, and the values of the indices."""
     func: Func
-    signals: dict
-    indices: dict = field(default_factory=dict)
+    signals: dict[str, range]
+    indices: dict[str, int] = field(default_factory=dict)
 
 
 @dataclass
@@ -36,7 +45,7 @@ class Element:
     item: Node | None = None
     scope: Scope | None = None
     # The elements that it reads, each with its delay.
-    reads: list = field(default_factory=list)
+    reads: list[tuple[int, int]] = field(default_factory=list)
 
 
 @dataclass(frozen=True)
@@ -77,9 +86,10 @@ def dropped(exact: int, bits: int, of: Type) -> int:
 class Elements:
     """The elements of a program without a fault."""
 
-    def __init__(self, source: Source, most_steps: int):
+    def __init__(self, source: Source, most_steps: int) -> None:
         self.source, self.typing, self.steps = source, Typing(source), most_steps
-        self.elements, self.raws = [], {}
+        self.elements: list[Element] = []
+        self.raws: dict[str, list[int]] = {}
         main = source.funcs["main"]
         self.main = Scope(main, self.enter(main))
         self.results = [number for decl in main.results for number in self.main.signals[decl.name]]
@@ -92,15 +102,15 @@ class Elements:
         self.order = self.in_order()
         self.varying = self.of_inputs()
 
-    def spend(self, steps: int = 1):
+    def spend(self, steps: int = 1) -> None:
         self.steps -= steps
         if self.steps < 0:
             raise TooLong
 
     # What defines each
 
-    def enter(self, func: Func) -> dict:
-        signals = {}
+    def enter(self, func: Func) -> dict[str, range]:
+        signals: dict[str, range] = {}
         for decl in func.decls():
             first, count = len(self.elements), math.prod(decl.dims)
             self.spend(count)
@@ -108,7 +118,7 @@ class Elements:
             signals[decl.name] = range(first, first + count)
         return signals
 
-    def expand(self, func: Func, signals: dict):
+    def expand(self, func: Func, signals: dict[str, range]) -> None:
         for item, indices in turns_of(func.items):
             self.spend()
             scope = Scope(func, signals, indices)
@@ -118,13 +128,13 @@ class Elements:
             elif item.kind == "call":
                 self.call(item, scope)
 
-    def define(self, number: int, kind: str, **by):
+    def define(self, number: int, kind: str, **by: Any) -> None:
         element = self.elements[number]
         element.kind = kind
         for key, value in by.items():
             setattr(element, key, value)
 
-    def call(self, item: Node, scope: Scope):
+    def call(self, item: Node, scope: Scope) -> None:
         callee = self.source.funcs[item.name]
         inner = self.enter(callee)
         for decl, argument in zip(callee.params, item.parts):
@@ -152,7 +162,7 @@ class Elements:
             self.raws[name] = [raw_of(word.value, table.decl.type) for word in table.words]
         return self.raws[name]
 
-    def reads(self, node: Node, scope: Scope):
+    def reads(self, node: Node, scope: Scope) -> Iterator[tuple[int, int]]:
         """The elements that an expression reads, each with its delay."""
         self.spend()
         if node.kind == "read" and node.name in scope.signals:
@@ -163,11 +173,12 @@ class Elements:
     def in_order(self) -> dict[int, int]:
         """A rank for each element that no past comes back to: it reads elements of lower ranks alone."""
         waiting = [len({other for other, _ in element.reads}) for element in self.elements]
-        readers = {}
+        readers: dict[int, list[int]] = {}
         for number, element in enumerate(self.elements):
             for other in {other for other, _ in element.reads}:
                 readers.setdefault(other, []).append(number)
-        ready, ranks = [number for number, count in enumerate(waiting) if count == 0], {}
+        ready = [number for number, count in enumerate(waiting) if count == 0]
+        ranks: dict[int, int] = {}
         for number in ready:
             ranks[number] = len(ranks)
             for reader in readers.get(number, ()):
@@ -197,7 +208,8 @@ class Elements:
         return [left or right, right or left] if node.kind == "product" else [left or right] * 2
 
     def is_kept(self, own: Type, cast: Type) -> bool:
-        """Whether a cast has no more bits before the point than what it converts, so that it takes a wrapped word as it is."""
+        """Whether a cast has no more bits before the point than what it converts, so that it takes a wrapped word as it
+        is."""
         return not saturates(cast) and cast.width - cast.places <= own.width - own.places
 
     def parts(self, node: Node, wanted: Type, scope: Scope, use: str) -> list[tuple]:
@@ -218,7 +230,7 @@ class Elements:
                      LOST if at % 2 == 0 and at < len(node.parts) - 1 else use) for at, part in enumerate(node.parts)]
         return [(part, BOOL, LOST) for part in node.parts]
 
-    def uses(self, node: Node, wanted: Type, scope: Scope, use: str):
+    def uses(self, node: Node, wanted: Type, scope: Scope, use: str) -> Iterator[tuple[Node, Type, str]]:
         """All parts of an expression, with the type against which each is valued, and how its value is used."""
         self.spend()
         yield node, wanted, use
@@ -227,7 +239,7 @@ class Elements:
 
     # Words
 
-    def value(self, node: Node, wanted: Type, scope: Scope, read) -> Value:
+    def value(self, node: Node, wanted: Type, scope: Scope, read: Read) -> Value:
         """The value of an expression, where `read` gives that of an element and a delay."""
         self.spend()
         if node.kind == "read":
@@ -254,7 +266,7 @@ class Elements:
             return Value(fitted(exact, wanted), exact, any(value.taken() for value in values))
         return self.converted(node, scope, values[0])
 
-    def chosen(self, node: Node, wanted: Type, scope: Scope, read) -> Value:
+    def chosen(self, node: Node, wanted: Type, scope: Scope, read: Read) -> Value:
         is_lost = False
         for at in range(0, len(node.parts) - 1, 2):
             condition = self.value(node.parts[at], BOOL, scope, read)
@@ -273,7 +285,7 @@ class Elements:
             word = dropped(values[0].word, amount, wanted)
             return Value(word, word, values[0].taken())
 
-        def made(parts):
+        def made(parts: list[int]) -> int:
             if node.kind == "sum":
                 return parts[0] + parts[1] if node.name == "+" else parts[0] - parts[1]
             return parts[0] << amount if node.kind == "shift" else -parts[0]
@@ -295,10 +307,11 @@ class Elements:
 
     # Where an expression reads back to
 
-    def cone(self, node: Node, scope: Scope) -> list[tuple[int, list[int]]] | None:
-        """The elements from which an expression has its value, lower ranks first, each with how many samples ago; nothing
-        where the past of one comes back to it."""
-        ages, waiting = {}, []
+    def cone(self, node: Node, scope: Scope) -> Cone | None:
+        """The elements from which an expression has its value, lower ranks first, each with how many samples ago;
+        nothing where the past of one comes back to it."""
+        ages: dict[int, set[int]] = {}
+        waiting: list[tuple[int, int]] = []
         for number, age in self.reads(node, scope):
             if number not in self.order:
                 return None
@@ -316,9 +329,12 @@ class Elements:
                 ages.setdefault(other, set()).update(age + delay for age in ages[number])
         return made[::-1]
 
-    def run(self, cone: list, words: dict) -> dict:
+    def run(self, cone: Cone, words: Words) -> dict[tuple[int, int], Value]:
         """The values of the elements of a cone, by element and age, where `words` has those of the inputs."""
-        values = {}
+        values: dict[tuple[int, int], Value] = {}
+
+        def before(age: int) -> Read:
+            return lambda other, delay: values[other, age + delay]
         for number, ages in cone:
             element = self.elements[number]
             for age in ages:
@@ -330,8 +346,7 @@ class Elements:
                 elif element.kind == SAME:
                     values[number, age] = values[element.other, age]
                 else:
-                    values[number, age] = self.value(element.node, element.type, element.scope,
-                                                     lambda other, delay, age=age: values[other, age + delay])
+                    values[number, age] = self.value(element.node, element.type, element.scope, before(age))
         return values
 
 

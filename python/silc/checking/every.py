@@ -1,5 +1,5 @@
-"""All faults of a source that can be told: the first one, and those that are found where items with faults are left out. A
-fault that may come from what was left out is none."""
+"""All faults of a source that can be told: the first one, and those that are found where items with faults are left
+out. A fault that may come from what was left out is none."""
 import re
 import time
 from array import array
@@ -8,7 +8,7 @@ from collections.abc import Callable
 from silc.explaining.found import is_unknown
 from silc.explaining.of_names import unknown_name
 from silc.explaining.program import Source
-from silc.explaining.text import Span, Text
+from silc.explaining.text import Edit, Span, Text
 
 from silc.checking.findings import Finding, finding_of
 from silc.checking.first import Fault, first_fault
@@ -21,7 +21,7 @@ NOWHERE = -1
 class Edited(Text):
     """A source in which something is left out, whose places are told as those of the source. Its lines are the same."""
 
-    def __init__(self, original: Text, data: bytes, origins: array):
+    def __init__(self, original: Text, data: bytes, origins: array) -> None:
         super().__init__(original.name, data)
         self.original, self.origins = original, origins
 
@@ -37,7 +37,7 @@ class Edited(Text):
         first = self.origin(start)
         return self.original.span(first, None if end is None else first + end - start)
 
-    def edit(self, start: int, end: int, text: str):
+    def edit(self, start: int, end: int, text: str) -> Edit:
         first = self.origin(start)
         return self.original.edit(first, first + end - start, text)
 
@@ -53,16 +53,21 @@ class Edited(Text):
 class Search:
     """The faults that are found one after another, and what else than the source may be the cause of the next one."""
 
-    def __init__(self, text: Text):
+    def __init__(self, text: Text) -> None:
         self.text = Edited(text, text.data, array("q", range(len(text.data))))
-        self.found, self.unknown = [], set()
-        # The functions that may lack definitions, the words that begin what is left out whole, and where the last of it that
-        # could not be read ends.
-        self.open, self.tops, self.last = set(), set(), NOWHERE
+        self.found: list[Finding] = []
+        self.unknown: set[tuple[str, str]] = set()
+        # The functions that may lack definitions, the words that begin what is left out whole, and where the last of it
+        # that could not be read ends.
+        self.open: set[int] = set()
+        self.tops: set[str] = set()
+        self.last = NOWHERE
         # The names in what could not be read, and its lines.
-        self.names, self.lines, self.is_doubled = set(), set(), False
+        self.names: set[str] = set()
+        self.lines: set[int] = set()
+        self.is_doubled = False
         # What it declares that is left out whole.
-        self.declared = set()
+        self.declared: set[str] = set()
 
     def take(self, fault: Fault) -> bool:
         """Keeps a fault, and leaves out what has it. Whether there may be another."""
@@ -83,7 +88,8 @@ class Search:
         if fault.kind in IN_TEXT:
             self.last = self.text.origin(left.end)
             self.names |= left.names
-            self.lines |= {*range(self.text.line_of(left.start), self.text.line_of(left.end) + 1)} if not left.top else set()
+            self.lines |= {*range(self.text.line_of(left.start),
+                                  self.text.line_of(left.end) + 1)} if not left.top else set()
         self.text = self.text.without(left)
         return True
 
@@ -111,7 +117,8 @@ class Search:
         if left is None:
             return False
         places = range(self.text.origin(left.start), self.text.origin(left.end))
-        between = self.text.original.chars[self.last:places.start] if NOWHERE < self.last <= places.start else "something"
+        between = self.text.original.chars[
+            self.last:places.start] if NOWHERE < self.last <= places.start else "something"
         is_next = not between.strip() and (bool(left.top) or "\n" not in between)
         return is_next or bool(left.top) and any(place in places for place in self.open)
 
@@ -119,13 +126,15 @@ class Search:
         """The unknown names of an item, each once in its function."""
         func = source.function_at(fault.place)
         contexts = {context.node.at: context for context in source.contexts(func) if is_unknown(source, context)
-                    and any(other.node.at == fault.place and other.item is context.item for other in source.contexts(func))}
+                    and any(other.node.at == fault.place and other.item is context.item
+                            for other in source.contexts(func))}
         made = []
         for place in sorted({*contexts, fault.place}):
             name = source.token_at(place).text
             is_call = place in contexts and contexts[place].role == "call"
             # What is left out may have declared it.
-            is_lost = not self.text.is_there(place) or ("func" if is_call else "const") in self.tops or name in self.names
+            is_lost = not self.text.is_there(place) or ("func" if is_call
+                                                        else "const") in self.tops or name in self.names
             if (func.name, name) not in self.unknown and not is_lost:
                 report = unknown_name(source, place)
                 report.span = report.span or source.at_span(place)
@@ -142,7 +151,8 @@ def every_fault(text: Text, is_stale: Callable[[], bool] = lambda: False) -> lis
     if len(text.data) > MOST_BYTES or fault.kind is None:
         return [fault.finding()]
     search, until = Search(text), time.monotonic() + MOST_SECONDS
-    while fault and search.take(fault) and len(search.found) < MOST_FAULTS and time.monotonic() < until and not is_stale():
+    while fault and search.take(fault) and len(
+            search.found) < MOST_FAULTS and time.monotonic() < until and not is_stale():
         fault = next_fault(search.text)
     found = search.found or [fault.finding()]
     return sorted(dict.fromkeys(found), key=lambda one: (one.line, one.column))[:MOST_FAULTS]

@@ -72,9 +72,11 @@ def placed_fault(text: Text, said: str, answer: str | None, has_show: bool) -> F
     if answer:
         found = of_source.FAULT.fullmatch(answer)
         number = found and (found[2] or found[3])
-        return Fault(said, found and found[1], int(number) if number else None, of_source.report_of(text, answer))
+        return Fault(said, found[1] if found else None, int(number) if number else None,
+                     of_source.report_of(text, answer))
     refusal = refusal_of(said)
     if has_show or not refusal:
         return Fault(said)
-    kind, place = (None, None) if refusal[0].text == "source too long" else fault_in(Source(text), *refusal) or (None, None)
+    fault = None if refusal[0].text == "source too long" else fault_in(Source(text), *refusal)
+    kind, place = fault or (None, None)
     return Fault(said, kind, place, of_source.report_found(text, *refusal))

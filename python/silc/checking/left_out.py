@@ -1,10 +1,10 @@
-"""What may be left out of a source with a fault, so that the next one can be found. What is written in its place defines the
-same signals by constants, and can have no fault of its own."""
+"""What may be left out of a source with a fault, so that the next one can be found. What is written in its place
+defines the same signals by constants, and can have no fault of its own."""
 import math
 import re
 from dataclasses import dataclass
 
-from silc.explaining.grammar import Func, Node
+from silc.explaining.grammar import Decl, Func, Node
 from silc.explaining.program import Expansion, Overflow, Source, definitions, element_name, every_item, targets_of
 from silc.explaining.text import Token, tokens_of
 
@@ -16,15 +16,15 @@ MOST_BAD = 50
 
 @dataclass(frozen=True)
 class Omission:
-    """What is left out, from a place to another one, and what stands there then. Of a whole function or table it is the token
-    that begins it; of a part of a function the place of its name, where what is left out may define something, and the names
-    that it may declare, where it could not be read."""
+    """What is left out, from a place to another one, and what stands there then. Of a whole function or table it is the
+    token that begins it; of a part of a function the place of its name, where what is left out may define something,
+    and the names that it may declare, where it could not be read."""
     start: int
     end: int
     text: str = ""
     top: str = ""
     func: int | None = None
-    names: frozenset = frozenset()
+    names: frozenset[str] = frozenset()
 
 
 def omission(source: Source, kind: str | None, place: int | None) -> Omission | None:
@@ -71,7 +71,8 @@ def of_tokens(source: Source, kind: str, place: int) -> Omission | None:
     first, last = item or top
     start, end = tokens[first].start, tokens[last - 1].end
     if not item:
-        return Omission(start, end, top=tokens[first].text, names=frozenset(token.text for token in tokens[first + 1:first + 2]))
+        return Omission(start, end, top=tokens[first].text,
+                        names=frozenset(token.text for token in tokens[first + 1:first + 2]))
     heads = [k for k, token in enumerate(tokens[:first]) if token.text in TOPS]
     names = frozenset(token.text for token in tokens[first:last] if token.kind == "name")
     return Omission(start, end, func=tokens[heads[-1] + 1].start, names=names)
@@ -136,7 +137,7 @@ def of_item(source: Source, kind: str, place: int) -> Omission | None:
     return Omission(item.start, item.end, " ".join(given))
 
 
-def zero(decl) -> str:
+def zero(decl: Decl) -> str:
     return "false" if decl.type.width is None else "0"
 
 
@@ -163,7 +164,8 @@ def of_missing(source: Source, place: int) -> Omission | None:
     tokens = [token for token in source.tokens if token.start > func.at]
     last = next((k for k, token in enumerate(tokens) if token.text in TOPS), len(tokens))
     end = max((token.start for token in tokens[:last] if token.text == "end"), default=None)
-    equations = [f"{element_name(decl, spot)} = {zero(decl)};" for spot in range(math.prod(decl.dims)) if spot not in given]
+    equations = [f"{element_name(decl, spot)} = {zero(decl)};" for spot in range(math.prod(decl.dims))
+                 if spot not in given]
     return Omission(end, end, " ".join(equations) + " ") if end is not None and equations else None
 
 

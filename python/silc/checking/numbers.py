@@ -1,16 +1,18 @@
 """The numbers of a source, each with the type in which it stands and its raw word there."""
 import math
+from collections.abc import Iterator
 from fractions import Fraction
 
-from silc.explaining.grammar import Func, Node, Type
+from silc.explaining.grammar import Func, Node, Table, Type
 from silc.explaining.program import Source
 from silc.explaining.refusals import language
 from silc.explaining.report import Report
-from silc.explaining.typing_rules import Typing, decimal
+from silc.explaining.typing_rules import Fault, Typing, Wanted, decimal
 
 # So many digits a number may have that is written in a source.
 MOST_DIGITS = 18
-# For each comparison of a word with a number: whether the number's word, on the side to which it was rounded, is told wrong.
+# For each comparison of a word with a number: whether the number's word, on the side to which it was rounded, is told
+# wrong.
 WRONG_BELOW, WRONG_ABOVE = ("<", ">="), ("<=", ">")
 OTHER = {"<": "<=", "<=": "<", ">": ">=", ">=": ">"}
 MIRRORED = {"<": ">", ">": "<", "<=": ">=", ">=": "<="}
@@ -19,27 +21,34 @@ MIRRORED = {"<": ">", ">": "<", "<=": ">=", ">=": "<="}
 class Numbers(Typing):
     """The numbers of a source and their types, by their places, as far as the typing rules tell them."""
 
-    def __init__(self, source: Source):
+    def __init__(self, source: Source) -> None:
         super().__init__(source)
-        self.types, self.nodes = {}, {}
+        self.types: dict[int, Type] = {}
+        self.nodes: dict[int, Node] = {}
         for top in source.tops:
-            self.func = top if isinstance(top, Func) else None
-            for item in top.items if self.func else [top]:
-                self.take(item)
+            if isinstance(top, Func):
+                self.func = top
+                for item in top.items:
+                    self.take(self.item(item))
+            else:
+                self.func = None
+                self.take(self.words(top))
 
-    def take(self, item):
+    @staticmethod
+    def take(faults: Iterator[Fault]) -> None:
+        """Goes over an item: its types are noted on the way to its faults."""
         try:
-            for _ in self.item(item) if self.func else self.words(item):
+            for _ in faults:
                 pass
         except (AttributeError, KeyError, TypeError):
             # An item with a fault of names has no types.
             pass
 
-    def words(self, table):
+    def words(self, table: Table) -> Iterator[Fault]:
         for word in table.words:
             yield from self.check(word, self.declared(table.decl))
 
-    def check(self, node, wanted):
+    def check(self, node: Node, wanted: Wanted) -> Iterator[Fault]:
         if node.kind == "number" and wanted.type.width is not None:
             self.types[node.start], self.nodes[node.start] = wanted.type, node
         yield from super().check(node, wanted)
@@ -88,14 +97,15 @@ def rounded(source: Source, comparison: Node, number: Node, of: Type) -> Report 
         return None
     side, told = "below" if raw < exact else "above", "false" if operator in ("<", ">") else "true"
     text, other = source.text, OTHER[comparison.name]
-    return Report(f"{number.value} becomes {word} in `{of.text}`, which is {side} it, and `{shown}` is {told} for that word",
-                  f"write `{other}`, which tells it right.", rule, span) \
+    return Report(f"{number.value} becomes {word} in `{of.text}`, which is {side} it, and `{shown}` is {told} for that "
+                  f"word", f"write `{other}`, which tells it right.", rule, span) \
         .by(text.edit(comparison.at, comparison.at + len(comparison.name), other))
 
 
 def unequal(source: Source, number: Node, of: Type, word: str, shown: str) -> Report:
     """The report on a number that no word is equal to."""
     report = Report(f"no word of `{of.text}` is {number.value}: `{shown}` compares with {word}",
-                    f"write {word} where that is meant.", language("Widths, points and rounding"), source.node_span(number))
+                    f"write {word} where that is meant.", language("Widths, points and rounding"),
+                    source.node_span(number))
     is_short = sum(character.isdigit() for character in word) <= MOST_DIGITS
     return report.by(source.text.edit(number.start, number.end, word)) if is_short else report

@@ -1,5 +1,6 @@
 """Sums that pass the range of a type that wraps, each with inputs for which it certainly does."""
 import re
+from collections.abc import Iterator
 
 from silc.explaining.grammar import Node, Type
 from silc.explaining.program import Source, manifest, with_indices
@@ -7,25 +8,31 @@ from silc.explaining.refusals import language
 from silc.explaining.report import Report
 from silc.explaining.typing_rules import decimal, range_of
 
-from silc.checking.elements import INPUT, LOST, ROOT, SAME, VALUE, Elements, Scope, TooLong, saturates
+from silc.checking.elements import (INPUT, LOST, ROOT, SAME, VALUE, Cone, Elements, Scope, TooLong, Value, Words,
+                                    saturates)
 
 # A comment with which a wrap is meant.
 MEANT = re.compile(r"/\*\s*wraps\b.*?\*/", re.S)
 COMMENT = re.compile(r"/\*.*?\*/", re.S)
 MOST_STEPS, MOST_SHOWN = 150_000, 60
 
+# By how much something changes with elements, each by its number and its age.
+Weights = dict[tuple[int, int], float]
+
 
 class Sums:
     """The sums and products of a program, and what is told of them."""
 
-    def __init__(self, source: Source):
-        self.source, self.found, self.meant = source, {}, meant_lines(source)
+    def __init__(self, source: Source) -> None:
+        self.source, self.meant = source, meant_lines(source)
+        self.found: dict[int, Report] = {}
         self.elements = Elements(source, MOST_STEPS)
         self.lost = self.lost_elements()
 
     def lost_elements(self) -> set[int]:
         """The elements of which something reads the word alone, so that what wrapped is lost."""
-        lost, named = set(self.elements.results), {}
+        lost = set(self.elements.results)
+        named: dict[int, list[int]] = {}
         for number, element in enumerate(self.elements.elements):
             if element.kind == SAME:
                 named.setdefault(number, []).append(element.other)
@@ -47,7 +54,8 @@ class Sums:
             if element.kind == VALUE and not self.is_meant(element.item):
                 for node, wanted, use in self.elements.uses(element.node, element.type, element.scope, ROOT):
                     is_lost = use == LOST or use == ROOT and number in self.lost
-                    if is_lost and node.kind in ("sum", "product") and node.start not in self.found and not saturates(wanted):
+                    if is_lost and node.kind in ("sum",
+                                                 "product") and node.start not in self.found and not saturates(wanted):
                         self.judge(node, wanted, element.scope, element.item)
         return [*self.found.values()]
 
@@ -55,7 +63,7 @@ class Sums:
         lines = range(self.source.line(item.start), self.source.line(item.end - 1) + 1)
         return any(line in self.meant for line in lines)
 
-    def judge(self, node: Node, wanted: Type, scope: Scope, item: Node):
+    def judge(self, node: Node, wanted: Type, scope: Scope, item: Node) -> None:
         """Keeps the report on a sum, where inputs are found with which it passes its type."""
         cone = self.elements.cone(node, scope)
         if not cone:
@@ -65,19 +73,20 @@ class Sums:
             return
         half = 1 << (wanted.width - 1)
         reached = [value.exact for words in self.trials(cone, weights)
-                   if not (value := self.with_inputs(node, wanted, scope, cone, words)).is_lost and abs(value.exact) > half]
+                   if not (value := self.with_inputs(node, wanted, scope, cone, words)).is_lost
+                   and abs(value.exact) > half]
         if reached:
             self.found[node.start] = self.report(node, wanted, scope, item, max(reached, key=abs))
 
-    def with_inputs(self, node: Node, wanted: Type, scope: Scope, cone: list, words: dict):
+    def with_inputs(self, node: Node, wanted: Type, scope: Scope, cone: Cone, words: Words) -> Value:
         values = self.elements.run(cone, words)
         return self.elements.value(node, wanted, scope, lambda number, age: values[number, age])
 
     # What is tried
 
     def is_doubtful(self, node: Node, wanted: Type, scope: Scope, weights: dict) -> bool:
-        """Whether the loss is likely not meant: of two words or more, or of one with a factor above 1. A word and a constant
-        are a counter or an offset."""
+        """Whether the loss is likely not meant: of two words or more, or of one with a factor above 1. A word and a
+        constant are a counter or an offset."""
         if node.kind == "product":
             return any(not self.varies(part, scope) for part in node.parts)
         terms = sum(self.varies(part, scope) for part in flattened(node))
@@ -87,8 +96,9 @@ class Sums:
         """Whether the value of an expression depends on an input."""
         return any(number in self.elements.varying for number, _ in self.elements.reads(node, scope))
 
-    def trials(self, cone: list, weights: dict):
-        """The words of the inputs that are tried: at the ends of their ranges, by the signs of their weights, or all alike."""
+    def trials(self, cone: Cone, weights: Weights) -> Iterator[Words]:
+        """The words of the inputs that are tried: at the ends of their ranges, by the signs of their weights, or all
+        alike."""
         inputs = {(number, age): ends_of(self.elements.elements[number].type) for number, ages in cone for age in ages
                   if self.elements.elements[number].kind == INPUT}
         seen = []
@@ -99,11 +109,12 @@ class Sums:
                 seen.append(words)
                 yield words
 
-    def weights(self, node: Node, wanted: Type, scope: Scope, cone: list) -> dict:
+    def weights(self, node: Node, wanted: Type, scope: Scope, cone: Cone) -> Weights:
         """By how much the value changes with each input, by element and age; what is no line has no weights."""
-        made, forms = {}, {}
-        for number, weight in self.form(node, wanted, scope).items():
-            made[number] = made.get(number, 0) + weight
+        made: Weights = {}
+        forms: dict[int, Weights] = {}
+        for place, weight in self.form(node, wanted, scope).items():
+            made[place] = made.get(place, 0) + weight
         for number, ages in reversed(cone):
             element = self.elements.elements[number]
             if element.kind == INPUT:
@@ -118,14 +129,14 @@ class Sums:
                     made[other, age + delay] = made.get((other, age + delay), 0) + weight * factor
         return made
 
-    def form(self, node: Node, wanted: Type, scope: Scope) -> dict:
+    def form(self, node: Node, wanted: Type, scope: Scope) -> Weights:
         """An expression as a sum of elements with factors, by element and delay; what is none is left out."""
-        made = {}
+        made: Weights = {}
         for (number, age), weight in self.terms(node, wanted, scope, 1.0):
             made[number, age] = made.get((number, age), 0) + weight
         return made
 
-    def terms(self, node: Node, wanted: Type, scope: Scope, weight: float):
+    def terms(self, node: Node, wanted: Type, scope: Scope, weight: float) -> Iterator[tuple[tuple[int, int], float]]:
         self.elements.spend()
         if node.kind == "read":
             yield from (((number, age), weight) for number, age in self.elements.reads(node, scope))
@@ -139,7 +150,7 @@ class Sums:
                 is_turned = node.kind == "negation" or node.name == "-" and node.kind == "sum" and at == 1
                 yield from self.terms(part, of, scope, -weight if is_turned else weight * self.shift_of(node, scope))
 
-    def factors(self, node: Node, scope: Scope):
+    def factors(self, node: Node, scope: Scope) -> tuple[tuple[Node, Node, Type, Type], tuple[Node, Node, Type, Type]]:
         """Each factor of a product with the other one, and their types."""
         left, right = node.parts
         of, other_of = self.elements.sides(node, scope)
@@ -158,10 +169,12 @@ class Sums:
         shown = shown if len(shown) <= MOST_SHOWN else shown[:MOST_SHOWN].rstrip() + " .."
         turn = f", where {with_indices(scope.indices)}" if scope.indices else ""
         end = f"above {most}" if exact > 0 else f"below {least}"
-        return Report(f"`{shown}` reaches {decimal(exact, wanted.places)} with inputs at the ends of their ranges{turn}, and "
+        return Report(f"`{shown}` reaches {decimal(exact, wanted.places)} with inputs at the ends of their "
+                      f"ranges{turn}, and "
                       f"`{wanted.text}` wraps {end}",
                       "write `/* wraps */` behind it where that is meant; or give it a type with more bits before the "
-                      "point, or one that saturates.", language("Widths, points and rounding"), self.source.node_span(node)) \
+                      "point, or one that saturates.", language("Widths, points and rounding"),
+                      self.source.node_span(node)) \
             .by(self.source.text.edit(item.end, item.end, " /* wraps */"))
 
 

@@ -1,5 +1,5 @@
 """What a source declares and never reads."""
-from silc.explaining.grammar import Decl, Func
+from silc.explaining.grammar import Decl, Func, Table
 from silc.explaining.program import Source, calls_of, every_item, targets_of
 from silc.explaining.refusals import language
 from silc.explaining.report import Report
@@ -22,7 +22,7 @@ def unread(source: Source) -> list[Report]:
     return [report for report in made if report]
 
 
-def doubt(source: Source, thing, short: str) -> Report | None:
+def doubt(source: Source, thing: Decl | Func | Table, short: str) -> Report | None:
     if thing.name.startswith(MEANT):
         return None
     return Report(short, CURE, language("Declarations"), source.name_span(thing))
@@ -30,7 +30,7 @@ def doubt(source: Source, thing, short: str) -> Report | None:
 
 def reads_of(source: Source, func: Func) -> dict[str, bool]:
     """The names that a function reads, each with whether another equation than its own reads it."""
-    made = {}
+    made: dict[str, bool] = {}
     for context in source.contexts(func):
         if context.role == "expression" and context.node.kind == "read":
             own = {target.name for target in targets_of(context.item)}

@@ -1,4 +1,5 @@
-"""The commands over the package, a module each: `tools/NAME WORDS` of the checkout, and `python3 -m silc NAME WORDS`."""
+"""The commands over the package, a module each: `tools/NAME WORDS` of the checkout, and `python3 -m silc NAME
+WORDS`."""
 import importlib
 import os
 import sys

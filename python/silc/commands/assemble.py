@@ -3,10 +3,10 @@
 usage: tools/assemble LISTING OUT [--version 1|2] [--force]
        tools/assemble --listing MIC
 
-A listing is what `silc list` prints, behind a heading with the hardware and with what its registers and cells start with:
-docs/MICROCODE.md, "Written by hand". Comments begin with #, blank lines are skipped, and the lines of a microword may come in
-any order. OUT is the microcode file in version 2, or in version 1. --listing prints the listing of a microcode file, of which
-LISTING and OUT are one another's inverse.
+A listing is what `silc list` prints, behind a heading with the hardware and with what its registers and cells start
+with: docs/MICROCODE.md, "Written by hand". Comments begin with #, blank lines are skipped, and the lines of a microword
+may come in any order. OUT is the microcode file in version 2, or in version 1. --listing prints the listing of a
+microcode file, of which LISTING and OUT are one another's inverse.
 
 A listing with a fault is refused by its first one, as LISTING:LINE:COLUMN and what is wrong there, and OUT is not made.
 Whether microcode does what was meant, and without a conflict of the hardware, is seen where `silc sim` runs it.
@@ -34,7 +34,7 @@ def assembled(file: str, version: int) -> bytes:
     """The microcode of a listing. Of a long one it is said how far it is read."""
     last = time.monotonic()
 
-    def told(number: int):
+    def told(number: int) -> None:
         nonlocal last
         if time.monotonic() - last > SECONDS_BETWEEN:
             last = time.monotonic()

@@ -5,26 +5,39 @@ usage: tools/design sos FILE ..                         second-order sections, a
        tools/design iir KIND ORDER BAND HZ [HZ] ..      KIND butter, cheby1, cheby2, ellip or bessel
        tools/design fir kaiser BAND HZ [HZ] ..          a window of Kaiser: --attenuation, and --width or --taps
        tools/design fir remez HZ HZ HZ HZ .. ..         edges of bands: --taps, --gains, --weights
+       tools/design bands [--band BAND ..] [--limit] [--dither W,F] [--stereo] ..    one behind the other
+       tools/design crossover HZ 2|4|8 [--stereo] ..    of Linkwitz and Riley, of that order
+       tools/design cic WORDS STAGES --taps N --edge HZ ..          down to one of so many words
+       tools/design halfband down|up 2|4 --edge HZ --attenuation DB ..
 
-BAND is lowpass, highpass, bandpass or bandstop. Files are as SciPy, Octave and MATLAB print them. The source is printed,
-or written to --out FILE. The comment at its top says what was asked, what was made of it, and how far the response moved:
-in the pass band, which ends 3 dB below the greatest gain, and in the stop band, which begins 20 dB below it.
+BAND is lowpass, highpass, bandpass or bandstop for iir and kaiser. Files are as SciPy, Octave and MATLAB print them.
+The source is printed, or written to --out FILE. The comment at its top says what was asked, what was made of it, and
+how far the response moved: in the pass band, which ends 3 dB below the greatest gain, and in the stop band, which
+begins 20 dB below it.
+
+The last four need no SciPy. A band of a chain is one of
+  peak,HZ,DB,Q  lowshelf,HZ,DB[,Q]  highshelf,HZ,DB[,Q]  lowpass,HZ[,Q]  highpass,HZ[,Q]  bandpass,HZ,Q  notch,HZ,Q
+  allpass,HZ[,Q]  onepole,HZ  dcblock,HZ  aweight  cweight
+by the formulas of the audio cookbook where it has them. Bands stay in their order, each with its own sections (--order
+up pairs poles and zeros anew). Behind them --limit is a soft limiter, whose output is below 1, and --dither W,F brings
+the words to fix<W,F> with noise. With --stereo two channels go through the same functions.
 
 Sections are paired (the poles nearest to the unit circle with the zeros nearest to them), put in order, and scaled one
 after another by a norm of the response from the input to each signal, so that the signal's range is just not passed: by
 l1, with room for the sum of all quantisation errors, it never is; by l2 or peak rarely, or never by a tone, which is an
-estimate. The gain of the whole stays. It is refused with a line, and nothing is made, where a coefficient has no place in its
-shape, or where rounded poles leave the unit circle.
+estimate. The gain of the whole stays. It is refused with a line, and nothing is made, where a coefficient has no place
+in its shape, or where rounded poles leave the unit circle.
 
-What the comment says of l1 and of the greatest error is a bound that is proved of the words, rounded up. Where none is found
-within --seconds S (60 unless it is said; of the search for bounds alone, and not of that for a scale), the source is made, its
-comment says `at least`, and the exit status is 3. The noise of rounding is what is expected: an estimate."""
+What the comment says of l1 and of the greatest error is a bound that is proved of the words, rounded up. Where none is
+found within --seconds S (60 unless it is said; of the search for bounds alone, and not of that for a scale), the source
+is made, its comment says `at least`, and the exit status is 3. The noise of rounding is what is expected: an
+estimate."""
 import argparse
 import math
 import sys
 from pathlib import Path
 
-from silc.designing import scipy_designs
+from silc.designing import ordered, scipy_designs
 from silc.designing.coefficients import sections_in, taps_in
 from silc.designing.filters import Section
 from silc.designing.finished import Order, Wanted, sections_source, taps_source
@@ -65,18 +78,19 @@ def signal_word(word: str) -> tuple[Shape, bool]:
 def options_of(words: list[str]) -> argparse.Namespace:
     parser = argparse.ArgumentParser(prog="design", usage=__doc__.partition("usage: ")[2].partition("\n\n")[0],
                                      description=__doc__.partition("\n\n")[0], allow_abbrev=False)
-    parser.add_argument("design", choices=("sos", "fir", "iir"))
-    parser.add_argument("words", nargs="+")
+    parser.add_argument("design", choices=("sos", "fir", "iir", *ordered.DESIGNS))
+    parser.add_argument("words", nargs="*")
     parser.add_argument("--shape", type=shape_word, required=True, metavar="W,F", help="of the coefficients")
     parser.add_argument("--input", type=shape_word, required=True, metavar="W,F", help="of the input")
     parser.add_argument("--signal", type=signal_word, metavar="W[,F]",
-                        help="of the signals; without F as many places as the norm allows, without it as wide as the input")
+                        help="of the signals; without F as many places as the norm allows, without it as wide as the "
+                             "input")
     parser.add_argument("--norm", type=Norm, choices=list(Norm), default=Norm.SUM, metavar="l1|l2|peak|none")
     parser.add_argument("--form", type=Form, choices=list(Form), default=Form.DIRECT, metavar="df1|df2t|lattice")
     parser.add_argument("--rounding", type=Rounding, choices=list(Rounding), default=Rounding.NEAREST,
                         metavar="nearest|down|zero")
-    parser.add_argument("--order", choices=[order.value for order in Order], default=Order.UP.value,
-                        help="poles nearest to the unit circle last, first, or sections just as the file has them")
+    parser.add_argument("--order", choices=[order.value for order in Order],
+                        help="poles nearest to the unit circle last, first, or sections just as they are given")
     parser.add_argument("--single", action="store_true", help="a section of the first order for each real pole")
     parser.add_argument("--rate", type=float, metavar="HZ")
     parser.add_argument("--ripple", type=float, metavar="DB", help="in the pass band (cheby1, ellip)")
@@ -85,11 +99,21 @@ def options_of(words: list[str]) -> argparse.Namespace:
     parser.add_argument("--taps", type=int, metavar="N")
     parser.add_argument("--gains", type=float, nargs="+", metavar="G")
     parser.add_argument("--weights", type=float, nargs="+", metavar="W")
-    parser.add_argument("--seconds", type=seconds_word, default=60.0, metavar="S", help="within which bounds are to be found")
+    parser.add_argument("--band", action="append", metavar="KIND,..", help="a band of a chain")
+    parser.add_argument("--limit", action="store_true", help="a soft limiter behind the bands")
+    parser.add_argument("--dither", type=shape_word, metavar="W,F",
+                        help="to words of this shape, with noise, at the end")
+    parser.add_argument("--stereo", action="store_true", help="two channels")
+    parser.add_argument("--edge", type=float, metavar="HZ", help="where the pass band ends (cic, halfband)")
+    parser.add_argument("--seconds", type=seconds_word, default=60.0, metavar="S",
+                        help="within which bounds are to be found")
     parser.add_argument("--out", metavar="FILE")
     add_force(parser)
     options = parser.parse_intermixed_args(words)
     options.signal, options.has_places = options.signal or (None, False)
+    options.given = {word.partition("=")[0].removeprefix("--") for word in words if word.startswith("--")}
+    is_ordered = options.design in ordered.DESIGNS
+    options.order = options.order or (Order.GIVEN if is_ordered else Order.UP).value
     asked = [word for word in words_without(words, "--out") if word != FORCE]
     options.asked = " ".join(["tools/design", *asked])
     return options
@@ -105,7 +129,8 @@ def seconds_word(word: str) -> float:
 def words_without(words: list[str], option: str) -> list[str]:
     """The words of a command, without an option and its value, each time that it is there."""
     before = ["", *words]
-    return [word for word, last in zip(words, before) if option not in (word, last) and not word.startswith(f"{option}=")]
+    return [word for word, last in zip(words, before) if option not in (word, last)
+            and not word.startswith(f"{option}=")]
 
 
 # From a specification
@@ -149,7 +174,8 @@ def iir(options: argparse.Namespace) -> list[Section]:
     for option, kinds in (("ripple", ("cheby1", "ellip")), ("attenuation", ("cheby2", "ellip"))):
         if kind in kinds and not getattr(options, option):
             raise Undesigned(f"{kind} needs --{option} DB")
-    made = scipy_designs.designed(design="iir", order=int(order), edges=edges_of(band, words, options), band=band, kind=kind,
+    made = scipy_designs.designed(design="iir", order=int(order), edges=edges_of(band, words, options), band=band,
+                                  kind=kind,
                                   ripple=options.ripple, attenuation=options.attenuation, rate=rate_of(options))
     return [Section(tuple(b), (a1, a2), SCIPY_PLACE) for *b, _, a1, a2 in made]
 
@@ -168,8 +194,8 @@ def remez(options: argparse.Namespace) -> list[float]:
         raise Undesigned(f"remez needs pairs of edges in rising order, up to {rate / 2:g} Hz, half of the rate")
     if not options.taps or not options.gains or len(options.gains) != len(edges) // 2:
         raise Undesigned("remez needs --taps N, and --gains with one gain for each pair of edges")
-    return scipy_designs.designed(design="remez", taps=options.taps, bands=edges, gains=options.gains, weights=options.weights,
-                                  rate=rate)
+    return scipy_designs.designed(design="remez", taps=options.taps, bands=edges, gains=options.gains,
+                                  weights=options.weights, rate=rate)
 
 
 def taps_of(options: argparse.Namespace) -> list[float]:
@@ -189,9 +215,9 @@ def one_file(options: argparse.Namespace) -> str:
 # What is made
 
 
-def wanted_of(options: argparse.Namespace) -> Wanted:
-    """What is wanted of the filter."""
-    return Wanted(what_it_is(options), options.asked, options.shape, options.input, options.signal, options.has_places,
+def wanted_of(options: argparse.Namespace, title: str) -> Wanted:
+    """What is wanted of the filter, which the title says in words."""
+    return Wanted(title, options.asked, options.shape, options.input, options.signal, options.has_places,
                   options.norm, options.form, options.rounding, Order(options.order), options.single, options.seconds)
 
 
@@ -205,14 +231,22 @@ def what_it_is(options: argparse.Namespace) -> str:
 
 def source_of(options: argparse.Namespace) -> tuple[str, bool]:
     """The source, and whether all that it says is certified."""
+    ordered.check_options(options.design, options.given)
+    if options.design in ordered.DESIGNS:
+        rate_of(options)
+        return ordered.ordered_source(options, lambda title: wanted_of(options, title))
+    if not options.words:
+        raise Undesigned(f"{options.design} of what? `tools/design --help` says it")
+    wanted = wanted_of(options, what_it_is(options))
     if options.design == "fir":
-        return taps_source(wanted_of(options), taps_of(options))
-    return sections_source(wanted_of(options), iir(options) if options.design == "iir" else sections_in(one_file(options)))
+        return taps_source(wanted, taps_of(options))
+    return sections_source(wanted, iir(options) if options.design == "iir" else sections_in(one_file(options)))
 
 
 def files_of(options: argparse.Namespace) -> list[str]:
     """The files of coefficients, which are read."""
-    return [] if options.design == "iir" or options.words[0] in ("kaiser", "remez") else options.words
+    are_files = options.design in ("sos", "fir") and options.words[:1] not in (["kaiser"], ["remez"])
+    return options.words if are_files else []
 
 
 def main(words: list[str]) -> int:
@@ -227,7 +261,8 @@ def main(words: list[str]) -> int:
             sys.stdout.write(source)
             sys.stdout.flush()
         if not is_certified:
-            print(f"design: no bound was found within {options.seconds:g} s; --seconds gives more time", file=sys.stderr)
+            print(f"design: no bound was found within {options.seconds:g} s; --seconds gives more time",
+                  file=sys.stderr)
             return UNCERTIFIED
     except (ValueError, Lacking) as why:
         print(f"design: {why}", file=sys.stderr)

@@ -1,7 +1,6 @@
 """Makes one plain source of a source that uses blocks of a library.
 
 usage: tools/link SRC [-o OUT [--force]] [--library FOLDER]
-       tools/link --template SRC [-o OUT [--force]] [--library FOLDER]
        tools/link --check SRC -o OUT [--library FOLDER]
        tools/link --where LINE OUT
        tools/link --test [BLOCK ..] [--library FOLDER]
@@ -12,12 +11,11 @@ A source may begin with lines such as
     let N = 64;
     use biquad<W=24, F=23> as section;
 
-{N} in it, outside comments, is then 64, and {N - 1} is 63; `section` is the function of the block `biquad` with words of
-fix<24,23>. docs/LIBRARY.md has the blocks, and how one is written. They are files of library/, or of a FOLDER, which comes
-first and may be given several times. The source is printed, or written to OUT (-o, --out). It is checked by `silc eval`;
-where something is wrong, a line has the file and the place, nothing is made, and the exit status is 1.
+{N} in it, outside comments, is then 64, and {N - 1} is 63; `section` is the function of the block `biquad` with words
+of fix<24,23>. docs/LIBRARY.md has the blocks, and how one is written. They are files of library/, or of a FOLDER, which
+comes first and may be given several times. The source is printed, or written to OUT (-o, --out). It is checked by `silc
+eval`; where something is wrong, a line has the file and the place, nothing is made, and the exit status is 1.
 
-  --template      makes a template of `explore`: a `let N = 64 in 8, 16..64;` becomes its range {N: 8, 16 .. 64}
   --check         says whether OUT is what would be made now; status 1 where it is not, with what is another
   --where LINE    says from which file and line a line of OUT, which was linked, is
   --test          tries all blocks, or those that are named: the front end takes each with its own numbers and at the
@@ -34,10 +32,9 @@ from silc.designing.programs import Unrun
 from silc.linking import pages
 from silc.linking.blocks import Block, Library, Source
 from silc.linking.checked import Unable, check, stale
-from silc.linking.linker import Linked, link, place_of
+from silc.linking.linker import link, place_of
 from silc.linking.numbers import NoNumber
 from silc.linking.places import Unlinked, file_at
-from silc.linking.templates import template
 from silc.linking.trying import faults_of
 from silc.made_files import MadeFiles, NotMade, add_force, put_whole
 
@@ -54,7 +51,6 @@ def options_of(words: list[str]) -> argparse.Namespace:
                                      allow_abbrev=False)
     parser.add_argument("words", nargs="*", metavar="SRC")
     kinds = parser.add_mutually_exclusive_group()
-    kinds.add_argument("--template", action="store_true")
     kinds.add_argument("--where", type=int, metavar="LINE")
     kinds.add_argument("--test", action="store_true")
     kinds.add_argument("--pages", action="store_true")
@@ -73,7 +69,7 @@ def faults_in(options: argparse.Namespace) -> list[str]:
     count = len(options.words)
     many = "no SRC" if options.pages else "one SRC" if not options.test else None
     wrong = [f"it takes {many}"] if many and count != (0 if options.pages else 1) else []
-    if options.check and (options.template or options.where is not None or options.test):
+    if options.check and (options.where is not None or options.test):
         wrong.append("--check goes with SRC, or with --pages")
     if options.check and not options.pages and not options.out:
         wrong.append("--check needs -o OUT, which it compares")
@@ -92,21 +88,14 @@ def make(options: argparse.Namespace, library: Library) -> None:
     """Writes the linked source, where it is one."""
     files = MadeFiles([options.words[0]], options.force)
     files.look_at(options.out)
-    linked = made(options, library)
-    used = [block.file.name for block in linked.blocks]
-    files.inputs += used
-    if not options.template:
-        check(linked)
+    linked = link(library, source_of(options.words[0]))
+    files.inputs += [block.file.name for block in linked.blocks]
+    check(linked)
     files.write(options.out or STDOUT, linked.text.encode("latin-1"))
 
 
-def made(options: argparse.Namespace, library: Library) -> Linked:
-    main = source_of(options.words[0])
-    return template(library, main) if options.template else link(library, main)
-
-
 def compare(options: argparse.Namespace, library: Library) -> None:
-    why = stale(made(options, library), Path(options.out).read_bytes().decode("latin-1"))
+    why = stale(link(library, source_of(options.words[0])), Path(options.out).read_bytes().decode("latin-1"))
     if why:
         raise Failed(f"{options.out} is stale: {why}")
 

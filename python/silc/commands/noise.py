@@ -3,22 +3,22 @@
 usage: tools/noise SRC SAMPLES --against REFERENCE [--picture FILE [--force]]
        tools/noise SRC --zero-input N [--impulse WORD]
 
-REFERENCE has a row of real numbers for each sample, or is a second source (its name ends with .sil), with finer shapes say,
-so that the noise of one `round` is seen by itself. For each output word: signal to noise in decibels, and the noise in
-decibels of full scale, which is the power of the least word; the mean error and the greatest one in last bits, and the power
-of the error in eight bands, in decibels of full scale.
+REFERENCE has a row of real numbers for each sample, or is a second source (its name ends with .sil), with finer shapes
+say, so that the noise of one `round` is seen by itself. For each output word: signal to noise in decibels, and the
+noise in decibels of full scale, which is the power of the least word; the mean error and the greatest one in last bits,
+and the power of the error in eight bands, in decibels of full scale.
 
-With --zero-input the first input has an impulse, WORD or its greatest word, and then N zeros. It is said whether the output
-dies out, and with what period it does not. A state of the program that comes back says what it does forever. One without
-state, which reads nothing with a delay, is done with the impulse. The rows are those of `silc eval`, and of `silc_show
-values`.
+With --zero-input the first input has an impulse, WORD or its greatest word, and then N zeros. It is said whether the
+output dies out, and with what period it does not. A state of the program that comes back says what it does forever. One
+without state, which reads nothing with a delay, is done with the impulse. The rows are those of `silc eval`, and of
+`silc_show values`.
 """
 import argparse
 import math
 import sys
 from pathlib import Path
 
-from silc.designing.noise import Silence, noises, silence_after
+from silc.designing.noise import Noise, Silence, noises, silence_after
 from silc.designing.programs import Unrun, fall_silent
 from silc.designing.samples import samples_in
 from silc.designing.sources import words_of_main
@@ -37,7 +37,7 @@ def decibels(number: float) -> str:
     return f"{number:.1f} dB" if math.isfinite(number) else "nothing" if number < 0 else "no error"
 
 
-def show(noise, number, count):
+def show(noise: Noise, number: int, count: int) -> None:
     named = f"output {number}: " if count > 1 else ""
     step = noise.shape.step
     beside = f", noise {decibels(noise.level())} of full scale" if noise.error else ""
@@ -60,8 +60,9 @@ def compare(options: argparse.Namespace) -> None:
         show(noise, number, len(found))
     if options.picture:
         first, full = found[0], (found[0].shape.step * -found[0].shape.least) ** 2
-        powers = [[power / full for power in spectrum] for spectrum in (first.signal_spectrum, first.error_spectrum)]
-        files.write(options.picture, draw_spectra(*powers, "0 dB is full scale") + "\n")
+        signal, error = ([power / full for power in spectrum]
+                         for spectrum in (first.signal_spectrum, first.error_spectrum))
+        files.write(options.picture, draw_spectra(signal, error, "0 dB is full scale") + "\n")
 
 
 def falls_silent(options: argparse.Namespace) -> None:
@@ -78,14 +79,15 @@ def said_of_silence(silence: Silence, word: int, length: int) -> str:
     words = " ".join(",".join(map(str, row)) for row in silence.words[:SHOWN])
     if not silence.has_state:
         return f"it has no state, and after an impulse of {word} its output is constant: from sample 2 on it is {words}"
-    if silence.period is None:
+    if silence.start is None or silence.period is None:
         return f"after an impulse of {word} it neither dies out nor repeats within {length} samples"
     if silence.dies_out():
         return f"after an impulse of {word} it dies out: from sample {silence.last + 2} on it is 0"
     before = f"after an impulse of {word} it does not die out: from sample {silence.start + 3} on"
     if silence.period == 1:
         return f"{before} its output is constant, {words} forever"
-    return f"{before} it repeats every {silence.period} samples forever: {words}{' ..' if silence.period > SHOWN else ''}"
+    return (f"{before} it repeats every {silence.period} samples forever: "
+            f"{words}{' ..' if silence.period > SHOWN else ''}")
 
 
 def positive(word: str) -> int:
@@ -123,7 +125,8 @@ def main(words: list[str]) -> int:
         print(f"noise: {why}", file=sys.stderr)
         return 1
     except (ValueError, Unrun) as why:
-        print(f"noise: {why}" if str(why).startswith(tuple(files)) else f"noise: {options.source}: {why}", file=sys.stderr)
+        print(f"noise: {why}" if str(why).startswith(tuple(files)) else f"noise: {options.source}: {why}",
+              file=sys.stderr)
         return 1
     except BrokenPipeError:
         fall_silent()

@@ -1,21 +1,24 @@
 """Says how much of its range each element of a source uses, and where it wraps or saturates.
 
 usage: tools/ranges [--all] [--json] [--wraps NAME ..] [--picture FILE] [--force] SRC SAMPLES
-       tools/ranges --worst [--seconds S] [--all] [--json] [--picture FILE] [--worst-input FILE [--element NAME]] [--force] SRC
+       tools/ranges --worst [--seconds S] [--all] [--json] [--picture FILE] [--worst-input FILE [--element NAME]]
+       [--force] SRC
 
 A line for each element, the tightest first: its shape, the least and the greatest of its words and of their values, the
-bits that these words need and how many are left, the share of the range, and the first sample, from 1, at which it passed
-the range. The words are the exact ones of the same program in which nothing wraps or saturates, so that this is seen:
-`wraps` where the word has no place in the element, `saturates` where the element then has the nearest word, `overflows
-inside` where only a part of its expression did that, `follows` where only something before it did. It is also counted how
-often, but where an overflow comes back by feedback. Elements that never change are left out, but with --all.
+bits that these words need and how many are left, the share of the range, and the first sample, from 1, at which it
+passed the range. The words are the exact ones of the same program in which nothing wraps or saturates, so that this is
+seen: `wraps` where the word has no place in the element, `saturates` where the element then has the nearest word,
+`overflows inside` where only a part of its expression did that, `follows` where only something before it did. It is
+also counted how often, but where an overflow comes back by feedback. Elements that never change are left out, but with
+--all.
 
---wraps NAME says that an element is meant to wrap, or all of an array; `*` in NAME stands for anything, as in 'osc#*.phase'.
-It has its wrapped word there, and what follows it is judged by that.
+--wraps NAME says that an element is meant to wrap, or all of an array; `*` in NAME stands for anything, as in
+'osc#*.phase'. It has its wrapped word there, and what follows it is judged by that.
 
-With --worst, the words are bounds: no input brings the program's own words further, rounding included, as long as nothing
-wraps. They come from the sums of the magnitudes of all responses, each up to some sample, and a proved bound of what comes
-after. In so many seconds of the processor's time, 4 where none are given, they become as tight as they can. A line says
+With --worst, the words are bounds: no input brings the program's own words further, rounding included, as long as
+nothing wraps. They come from the sums of the magnitudes of all responses, each up to some sample, and a proved bound of
+what comes after. In so many seconds of the processor's time, 4 where none are given, they become as tight as they can.
+A line says
 
   may pass its range   the bound does: it is what the word would be if it did not wrap
   may saturate         the same of an element that saturates; what reads it is bounded by its range
@@ -24,8 +27,9 @@ after. In so many seconds of the processor's time, 4 where none are given, they 
   not linear           something before it is not linear, and was taken as any word of its range
   at least             no bound was found in the time: an input is known by which it gets as far as this
 
-and the exit status is 3 where a line says `at least`. --worst-input writes the samples that come nearest to the bound, for the
-tightest linear element or the one that is named, to such a length that what is left out is less than half of its last bit.
+and the exit status is 3 where a line says `at least`. --worst-input writes the samples that come nearest to the bound,
+for the tightest linear element or the one that is named, to such a length that what is left out is less than half of
+its last bit.
 
 With --json the table is a line of JSON (docs/PYTHON.md).
 """

@@ -6,19 +6,19 @@ usage: tools/rows from-wav [--columns C,..] WAV W,F
                               makes a WAV file of rows with one or two words, at RATE samples a second
 
 A WAV file that is read has one or two channels of 16, 24 or 32 bits, PCM, whose words are taken for fix<16,15>,
-fix<24,23> or fix<32,31>; one that is made has 16 bits, or as many as --bits says. Bits that a shape has not are rounded, to
-the nearest word and up from the middle. A word that is out of the range is no word: it is refused with its row, and nothing
-is printed or made.
+fix<24,23> or fix<32,31>; one that is made has 16 bits, or as many as --bits says. Bits that a shape has not are
+rounded, to the nearest word and up from the middle. A word that is out of the range is no word: it is refused with its
+row, and nothing is printed or made.
 
-By --columns the rows of from-wav have these columns: a channel by its number, or a word by =WORD, which is the same in each
-row and is printed as it is. So `--columns 1,=100,2` is for a program with a parameter between the left and the right sample.
-Of to-wav they are the columns of the rows that become the channels, from 1 on: `--columns 3` makes a sound of the third word
-of each row. What is in the other columns need not be of the shape.
+By --columns the rows of from-wav have these columns: a channel by its number, or a word by =WORD, which is the same in
+each row and is printed as it is. So `--columns 1,=100,2` is for a program with a parameter between the left and the
+right sample. Of to-wav they are the columns of the rows that become the channels, from 1 on: `--columns 3` makes a
+sound of the third word of each row. What is in the other columns need not be of the shape.
 
-WAV and ROWS may be `-`, the standard input, and the WAV that is made the standard output. What comes from standard input
-is turned as it comes, and what was made of it is handed on before more is waited for, in the same little memory however
-much it is: then what stands before a fault is printed or made. A sound whose head has no length, as one that comes out of
-a pipe, goes on to its end, and one that is made into a pipe has such a head.
+WAV and ROWS may be `-`, the standard input, and the WAV that is made the standard output. What comes from standard
+input is turned as it comes, and what was made of it is handed on before more is waited for, in the same little memory
+however much it is: then what stands before a fault is printed or made. A sound whose head has no length, as one that
+comes out of a pipe, goes on to its end, and one that is made into a pipe has such a head.
 
 A WAV file is there once it is whole. It does not replace ROWS, nor, without --force, a file that no tool made.
 """
@@ -28,7 +28,7 @@ import sys
 from collections.abc import Iterator
 from contextlib import AbstractContextManager
 from itertools import chain
-from typing import BinaryIO
+from typing import IO
 
 from silc.made_files import MadeFiles, add_force, is_stream
 from silc.sounds.rows_of_sound import Rows, columns_of
@@ -69,13 +69,16 @@ def to_wav(options: argparse.Namespace) -> None:
         parts = handed_on(sound.parts(source), options.file)
         first = next(parts, b"")
         with output(files, options.made) as out:
-            stopped = put_sound(sound, first, parts, out, NO_LENGTH if is_standard else len(first), may_go_back(options.made))
+            stopped = put_sound(sound, first, parts, out, NO_LENGTH if is_standard else len(first),
+                                may_go_back(options.made))
     if stopped:
         raise stopped
 
 
-def output(files: MadeFiles, made: str) -> AbstractContextManager[BinaryIO]:
-    return opened(STANDARD, "wb") if made == STANDARD else files.opened(made)
+def output(files: MadeFiles, made: str) -> AbstractContextManager[IO[bytes]]:
+    if made == STANDARD:
+        return opened(STANDARD, "wb")
+    return files.opened(made)
 
 
 def may_go_back(made: str) -> bool:
@@ -83,7 +86,7 @@ def may_go_back(made: str) -> bool:
     return made != STANDARD and not is_stream(made)
 
 
-def put_sound(sound: Sound, first: bytes, parts: Iterator[bytes], out: BinaryIO, length: int,
+def put_sound(sound: Sound, first: bytes, parts: Iterator[bytes], out: IO[bytes], length: int,
               is_head_mended: bool) -> BaseException | None:
     """Writes a sound as its parts come. Gives what stopped these, after which the sound is whole up to there."""
     put(out, sound.head(length))

@@ -1,27 +1,51 @@
-"""Says what hardware the core of a microcode file takes: cells, flip-flops, block memories, multipliers and clock.
+"""Says what hardware the core of a microcode file takes: cells, flip-flops, block memories, multipliers and clock. Of a
+net file it says what all its cores and queues take together.
 
-usage: tools/synthesize MIC [--datapath DP] [--for ice40|xilinx|ecp5] [--dsp] [--full] [--route] [--json]
+usage: tools/synthesize MIC [--datapath DP] [--for ice40|xilinx|ecp5] [--dsp] [--full] [--route] [--part up5k|hx8k]
+                        [--rate HZ] [--json]
+       tools/synthesize NET [--for ice40|xilinx|ecp5] [--dsp] [--route] [--part up5k|hx8k] [--json]
 
-Yosys synthesizes the core that tools/verilog makes. --dsp uses the multipliers that an ice40 up5k has; the others have some
-always. --route places and routes for an ice40 (hx8k, with --dsp up5k) by nextpnr, and says at which clock the core runs.
+NET is a file that ends in .toml (docs/NETS.md). Yosys synthesizes the core, or the net of cores, that tools/verilog
+makes. --dsp uses the multipliers that an ice40 up5k has; the others have some always. --route places and routes for an
+ice40 by nextpnr, and says at which clock the core runs: for the part that --part names, else for an hx8k, with --dsp
+for an up5k. A part is routed with its multipliers, where it has some. What the core takes is printed before it is
+routed; where a number is above what the part has, that is said, and nothing is routed. Where the package has fewer pins
+than the core, the words of its rows come and go through shift registers, which is said too.
+
+With --rate HZ, samples a second, it says which clock that takes: a sample takes as many clocks as the period of the
+microcode has cycles. Where the core's is less, the exit status is 3, and a line says through what its longest path
+goes, and which latency or split would make it shorter: that is an estimate from the path's names, and has to be tried.
+The clock is an estimate of one placement: nextpnr's, or, since that takes multipliers for ones with registers,
+icetime's where the core has some.
+
 With --json the numbers come as one line of JSON. It writes no file but in a folder of its own, which goes away.
 """
 import argparse
 import json
 import re
-import shutil
 import subprocess
+import sys
 import tempfile
+from dataclasses import dataclass
 from pathlib import Path
 
 from silc.commands import ended
+from silc.hardware import pins
+from silc.hardware.datapath import names_of, numbered
+from silc.hardware.fpga import MULTIPLIERS, PARTS, Fpga
+from silc.hardware.netlist import NoCore
+from silc.hardware.paths import Unit, path_of, remedies
+from silc.hardware.routing import Unrouted, need, routed, run
+from silc.micro_file import BadImage, image_of
+from silc.nets import is_net
 from silc.programs import command, with_package
 
-NAME = "core"
+NAME, SHARED, MEGA, SHORT = "core", "silc_parts.v", 1e6, 3
 # For each family the command of Yosys, and which cells count for what. What no pattern has is no cell of the logic.
 FAMILIES = {
-    "ice40": ("synth_ice40", {"logic cells": r"SB_LUT4", "flip-flops": r"SB_DFF\w*", "block memories": r"SB_(RAM40|SPRAM256)\w*",
-                              "multipliers": r"SB_MAC16"}),
+    "ice40": ("synth_ice40",
+              {"logic cells": r"SB_LUT4", "flip-flops": r"SB_DFF\w*", "block memories": r"SB_(RAM40|SPRAM256)\w*",
+               "multipliers": r"SB_MAC16"}),
     "xilinx": ("synth_xilinx", {"logic cells": r"LUT\d|CARRY4|MUXF\d", "flip-flops": r"FD[RSCP]E(_1)?",
                                 "memories in cells": r"RAM\d+[MX]\w*", "block memories": r"RAMB\d+\w*",
                                 "multipliers": r"DSP48\w*"}),
@@ -29,31 +53,28 @@ FAMILIES = {
                             "memories in cells": r"TRELLIS_DPR16X4", "block memories": r"DP16KD|PDPW16KD",
                             "multipliers": r"MULT18X18D"}),
 }
-PARTS = {False: ["--hx8k", "--package", "ct256"], True: ["--up5k", "--package", "sg48"]}
 
 
 class Unmade(Exception):
     """Why there are no numbers."""
 
 
-def run(words, folder, what):
-    done = subprocess.run(words, cwd=folder, stdin=subprocess.DEVNULL, capture_output=True, text=True)
-    if done.returncode:
-        lines = (done.stderr + done.stdout).strip().splitlines() or ["nothing"]
-        told = next((line for line in lines if "ERROR" in line), lines[-1])
-        raise Unmade(f"{what} ended with {done.returncode}: {told}")
-    return done.stdout + done.stderr
-
-
 def check_programs(options: argparse.Namespace) -> None:
-    if not shutil.which("yosys"):
-        raise Unmade("there is no yosys; apt-get install yosys")
-    if options.route and options.family != "ice40":
-        raise Unmade("--route is for ice40")
-    if options.route and not shutil.which("nextpnr-ice40"):
-        raise Unmade("there is no nextpnr-ice40; apt-get install nextpnr-ice40")
-    if options.dsp and options.family != "ice40":
-        raise Unmade("--dsp is for ice40")
+    need("yosys")
+    for flag in ("route", "dsp", "part"):
+        if getattr(options, flag) and options.family != "ice40":
+            raise Unmade(f"--{flag} is for ice40")
+    if options.route:
+        need("nextpnr-ice40")
+    if options.dsp and options.part and not PARTS[options.part].has_multipliers():
+        raise Unmade(f"--dsp: an {options.part} has no multipliers")
+    if options.rate is not None and not options.route:
+        raise Unmade("--rate HZ goes with --route")
+
+
+def part_of(options: argparse.Namespace) -> Fpga:
+    """The part for which a core is routed."""
+    return PARTS[options.part or ("up5k" if options.dsp else "hx8k")]
 
 
 def make_core(options: argparse.Namespace, folder: Path) -> None:
@@ -65,61 +86,145 @@ def make_core(options: argparse.Namespace, folder: Path) -> None:
         raise Unmade(done.stderr.strip().removeprefix("verilog: "))
 
 
-def synthesized(options, folder):
-    """How many cells of each type the core takes. The parts wait for their parameters."""
-    command = FAMILIES[options.family][0] + (" -dsp" if options.dsp else "")
-    script = (f"read_verilog -defer silc_parts.v; read_verilog {NAME}.v; {command} -top {NAME}; "
+def synthesized(options: argparse.Namespace, folder: Path, top: str) -> dict[str, int]:
+    """How many cells of each type the core takes, in the module `top`. The parts wait for their parameters."""
+    has_multipliers = options.dsp or options.part and PARTS[options.part].has_multipliers()
+    command = FAMILIES[options.family][0] + (" -dsp" if has_multipliers else "")
+    sources = " ".join(sorted({file.name for file in folder.glob("*.v")} - {SHARED, f"{NAME}_tb.v"}))
+    script = (f"read_verilog -defer {SHARED}; read_verilog -defer {sources}; {command} -top {top}; "
               f"write_json {NAME}.json; tee -q -o stat.txt stat")
     run(["yosys", "-q", "-p", script], folder, "Yosys")
     last = (folder / "stat.txt").read_text().rpartition("Number of cells:")[2]
     return {name: int(count) for name, count in re.findall(r"^\s+(\w+)\s+(\d+)$", last, re.M)}
 
 
-def counted(family, cells):
+def counted(family: str, cells: dict[str, int]) -> dict[str, int]:
     """The numbers for each kind of cell."""
     return {kind: sum(count for name, count in cells.items() if re.fullmatch(pattern, name))
             for kind, pattern in FAMILIES[family][1].items()}
 
 
-def routed(options, folder):
-    """The clock that nextpnr finds, in MHz."""
-    said = run(["nextpnr-ice40", *PARTS[options.dsp], "--json", f"{NAME}.json", "--pcf-allow-unconstrained",
-                "--timing-allow-fail", "--seed", "1"], folder, "nextpnr")
-    found = re.findall(r"Max frequency for clock\s+'[^']*': ([\d.]+) MHz", said)
-    if not found:
-        raise Unmade("nextpnr found no clock")
-    return float(found[-1])
+# Places and routes
 
 
-def numbers_of(options):
-    check_programs(options)
-    with tempfile.TemporaryDirectory(prefix="silc-core-") as folder:
-        make_core(options, Path(folder))
-        numbers = counted(options.family, synthesized(options, Path(folder)))
-        if options.route:
-            numbers["MHz"] = routed(options, Path(folder))
-    return numbers
+@dataclass(frozen=True)
+class Core:
+    """What is known of the core beside its Verilog: its period, its units, and its ports."""
+    period: int
+    units: list[Unit]
+    ports: list[pins.Port]
+
+
+def core_in(options: argparse.Namespace, folder: Path) -> Core:
+    """What there is to know of the core that was made in a folder. Of a net that is its ports."""
+    ports = pins.ports_of((folder / f"{NAME}.v").read_text())
+    if is_net(options.microcode):
+        return Core(0, [], ports)
+    try:
+        image = image_of(Path(options.microcode).read_bytes())
+        names = names_of(Path(options.datapath).read_text(), image) if options.datapath else numbered(image)
+    except (BadImage, NoCore) as why:
+        raise Unmade(f"{options.microcode}: {why}") from None
+    units = [Unit(name, unit.kind, unit.latency) for name, unit in zip(names.units, image.units)]
+    return Core(image.period, units, ports)
+
+
+def top_for(options: argparse.Namespace, folder: Path, core: Core) -> str:
+    """The module that is synthesized: the core itself, or one round it where its ports have more pins than the part."""
+    part = part_of(options)
+    taken = pins.pins_of(core.ports)
+    if not options.route or taken <= part.pins:
+        return NAME
+    (folder / f"{pins.NAME}.v").write_text(pins.wrapped(NAME, core.ports))
+    tell(options, f"{taken} pins do not fit the {part.pins} of an {part.name}: rows come and go through shift "
+                  "registers, which are counted with the core")
+    return pins.NAME
+
+
+def tell(options: argparse.Namespace, line: str) -> None:
+    """Prints a line at once; where the numbers are JSON, on standard error."""
+    print(line, file=sys.stderr if options.json else sys.stdout, flush=True)
+
+
+def shown(options: argparse.Namespace, numbers: dict[str, float]) -> str:
+    return f"{options.family}: " + ", ".join(f"{count} {kind}" for kind, count in numbers.items())
+
+
+def check_fit(options: argparse.Namespace, numbers: dict[str, float]) -> None:
+    over = part_of(options).over(numbers)
+    if over:
+        raise Unmade(f"it does not fit: it takes {'; '.join(over)}")
+
+
+def route(options: argparse.Namespace, folder: Path, core: Core, numbers: dict[str, float]) -> int:
+    """Adds the clock to the numbers, and says what it is beside the one that the rate takes. Gives the exit status."""
+    part = part_of(options)
+    needed = options.rate * core.period / MEGA if options.rate else None
+    made = routed(NAME, folder, part, needed, bool(numbers.get(MULTIPLIERS)))
+    clock = numbers["MHz"] = made.clock
+    if not needed:
+        return 0
+    numbers["needed MHz"] = round(needed, 6)
+    takes = f"{options.rate:,g} samples a second take {needed:.2f} MHz, {core.period} clocks a sample"
+    if clock >= needed:
+        tell(options, f"{part.name}: {takes}, and it runs at {clock:.2f}")
+        return 0
+    path = path_of(made.names, core.units)
+    tell(options, f"{part.name}: {takes}, and it runs at {clock:.2f} alone; the longest path goes through {path}")
+    for remedy in remedies(path):
+        tell(options, f"  {remedy}")
+    return SHORT
 
 
 def options_of(words: list[str]) -> argparse.Namespace:
-    parser = argparse.ArgumentParser(prog="synthesize", usage=__doc__.partition("usage: ")[2].partition("\n")[0],
+    parser = argparse.ArgumentParser(prog="synthesize", usage=__doc__.partition("usage: ")[2].partition("\n\n")[0],
                                      description=__doc__, formatter_class=argparse.RawDescriptionHelpFormatter)
-    parser.add_argument("microcode", metavar="MIC")
+    parser.add_argument("microcode", metavar="MIC|NET")
     parser.add_argument("--datapath", metavar="DP")
     parser.add_argument("--for", dest="family", choices=FAMILIES, default="ice40")
+    parser.add_argument("--part", choices=PARTS)
+    parser.add_argument("--rate", metavar="HZ", type=rate_word)
     for flag in ("--dsp", "--full", "--route", "--json"):
         parser.add_argument(flag, action="store_true")
-    return parser.parse_args(words)
+    options = parser.parse_args(words)
+    if is_net(options.microcode) and (options.datapath is not None or options.full):
+        parser.error(
+            "--datapath and --full are for microcode: a net file names the datapaths, and its cores have one program")
+    if is_net(options.microcode) and options.rate is not None:
+        parser.error("--rate is for microcode: of a net the slowest core counts")
+    return options
 
 
-def put(options: argparse.Namespace) -> None:
-    numbers = numbers_of(options)
+def rate_word(word: str) -> float:
+    rate = float(word)
+    if not 0 < rate < MEGA * MEGA:
+        raise argparse.ArgumentTypeError(f"{word} is no rate")
+    return rate
+
+
+def put(options: argparse.Namespace) -> int:
+    """Prints the numbers. Gives the exit status."""
+    check_programs(options)
+    status = 0
+    with tempfile.TemporaryDirectory(prefix="silc-core-") as name:
+        folder = Path(name)
+        make_core(options, folder)
+        core = core_in(options, folder) if options.route else None
+        numbers: dict[str, float] = dict(counted(options.family, synthesized(
+            options, folder, top_for(options, folder, core) if core else NAME)))
+        if not options.json:
+            print(shown(options, numbers), flush=True)
+        if options.part or core:
+            check_fit(options, numbers)
+        if core:
+            status = route(options, folder, core, numbers)
     if options.json:
         print(json.dumps(numbers))
-    else:
-        print(f"{options.family}: " + ", ".join(f"{count} {kind}" for kind, count in numbers.items()))
+    elif core:
+        print(f"{part_of(options).name}: {numbers['MHz']} MHz")
+    return status
 
 
 def main(words: list[str]) -> int:
     options = options_of(words)
-    return ended("synthesize", lambda: put(options), Unmade)
+    return ended("synthesize", lambda: put(options), Unmade, Unrouted)

@@ -2,9 +2,9 @@
 
 usage: tools/values [--json] SRC SAMPLES [NAME ..]
 
-A row for each sample, behind a row of the names. NAME is an element, or an array of which all are meant; `*` in it stands for
-anything, as in 'w[*]'. Without one it prints all. With --json it is a line, `{"NAME": [word, ..], ..}`. It runs the
-`silc_show` that is built, or the one that `SILC_SHOW` names; the words are those of its `values`.
+A row for each sample, behind a row of the names. NAME is an element, or an array of which all are meant; `*` in it
+stands for anything, as in 'w[*]'. Without one it prints all. With --json it is a line, `{"NAME": [word, ..], ..}`. It
+runs the `silc_show` that is built, or the one that `SILC_SHOW` names; the words are those of its `values`.
 """
 from __future__ import annotations
 

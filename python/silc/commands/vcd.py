@@ -9,11 +9,11 @@ sample, `sample` and `word` are the numbers of the sample and of the microword. 
 `opcode` its number in microcode files. A run ends at a conflict, which is a text as well. Words are in two's
 complement: show them as signed numbers. docs/MACHINE.md, "A trace", says more.
 
-With FROM and TO it has the cycles from FROM on and before TO, as `silc_show trace` prints them. Registers, latches and cells
-have at FROM what the cycles before left there, so these are run too.
+With FROM and TO it has the cycles from FROM on and before TO, as `silc_show trace` prints them. Registers, latches and
+cells have at FROM what the cycles before left there, so these are run too.
 
-OUT is there once it is whole. It replaces no input, nor, without --force, a file that no tool made. It builds nothing: it
-runs the `silc_show` that is built, or the one that `SILC_SHOW` names in the environment.
+OUT is there once it is whole. It replaces no input, nor, without --force, a file that no tool made. It builds nothing:
+it runs the `silc_show` that is built, or the one that `SILC_SHOW` names in the environment.
 """
 import argparse
 import shutil
@@ -22,7 +22,9 @@ import sys
 import tempfile
 import time
 from collections.abc import Iterable, Iterator
+from io import BufferedReader, TextIOWrapper
 from pathlib import Path
+from typing import cast
 
 from silc.commands import ended
 from silc.hardware.datapath import Names, names_of
@@ -38,7 +40,7 @@ SECONDS_BETWEEN = 5
 PIECE = 1 << 18
 
 
-def say(text) -> None:
+def say(text: object) -> None:
     print(f"vcd: {text}", file=sys.stderr, flush=True)
 
 
@@ -73,7 +75,8 @@ def pieces_of(words: list) -> Iterator[str]:
     with tempfile.TemporaryFile("w+") as said:
         with subprocess.Popen([show, *words], stdin=subprocess.DEVNULL, stdout=subprocess.PIPE, stderr=said) as running:
             try:
-                while piece := running.stdout.read1(PIECE):
+                stream = cast(BufferedReader, running.stdout)
+                while piece := stream.read1(PIECE):
                     yield piece.decode()
             except BaseException:
                 running.terminate()
@@ -126,20 +129,23 @@ def make(options: argparse.Namespace) -> str:
     count, first = rows_in(options.samples) * image.period, options.first or 0
     words = ["trace", options.microcode, options.samples, *([] if options.to is None else ["0", str(options.to)])]
     files.look_at(options.out)
-    with tempfile.TemporaryFile("w+") as changes:
+    with tempfile.TemporaryFile() as kept:
+        changes = TextIOWrapper(kept)
         waveform = Waveform(image, names, changes)
         last = put_cycles(waveform, pieces_of(words), first, count if options.to is None else min(count, options.to))
         shown, end = extent(last, first)
-        changes.seek(0)
+        changes.flush()
+        kept.seek(0)
         with files.opened(options.out) as file:
             file.write("".join(f"{line}\n" for line in head_of(waveform)).encode())
-            shutil.copyfileobj(changes.buffer, file, PIECE)
+            shutil.copyfileobj(kept, file, PIECE)
     since = f" from {first} on" if options.to is not None else ""
     return f"{shown} cycles{since}, {len(waveform.signals.by_key)} signals{end}"
 
 
 def options_of(words: list[str]) -> argparse.Namespace:
-    parser = argparse.ArgumentParser(prog="vcd", usage=__doc__.partition("usage: ")[2].partition("\n")[0], description=__doc__,
+    parser = argparse.ArgumentParser(prog="vcd", usage=__doc__.partition("usage: ")[2].partition("\n")[0],
+                                     description=__doc__,
                                      formatter_class=argparse.RawDescriptionHelpFormatter, allow_abbrev=False)
     add_force(parser)
     for name, shown in (("microcode", "MIC"), ("datapath", "DP"), ("samples", "SAMPLES"), ("out", "OUT")):

@@ -4,17 +4,17 @@
     of_input, of_error = norms(system, [[(0, 0, 1)], [(1, 0, 1)]], seconds=2.0)
     of_input[1].positive, of_input[1].negative, of_input[1].either, of_input[1].is_bound
 
-A system is made of the terms of each node, (node, delay, factor), with binary fractions as factors. A source is a list of
-kicks (node, sample, amount): what is put in there, and at what sample. Of each source `norms` gives the `Norm` of each node
-that it reaches; a node that is missing is not reached, and has the norm 0. Where `is_bound` holds, the sum of all positive
-words is at most `positive` and that of the magnitudes of all negative ones `negative`, but for `either`, which belongs to
-one of them or to both in parts. So inputs from `least` to `greatest` bring the node between the two numbers of
-`reach(least, greatest)`. `summed` is a sum of magnitudes that the truth is not below, so it says how tight the bound is. Where
-`is_bound` does not hold, no bound was found in the time, and the other numbers are sums so far.
+A system is made of the terms of each node, (node, delay, factor), with binary fractions as factors. A source is a list
+of kicks (node, sample, amount): what is put in there, and at what sample. Of each source `norms` gives the `Norm` of
+each node that it reaches; a node that is missing is not reached, and has the norm 0. Where `is_bound` holds, the sum of
+all positive words is at most `positive` and that of the magnitudes of all negative ones `negative`, but for `either`,
+which belongs to one of them or to both in parts. So inputs from `least` to `greatest` bring the node between the two
+numbers of `reach(least, greatest)`. `summed` is a sum of magnitudes that the truth is not below, so it says how tight
+the bound is. Where `is_bound` does not hold, no bound was found in the time, and the other numbers are sums so far.
 
 Feed-forward systems are exact. Of others the response is summed up to some sample, and what comes after is bounded: see
-`loops`, and `ellipsoids`. No bound rests on what seems to be over. More time makes it tighter; it ends before where what comes
-after is below 2^-TIGHT of the whole, or where more time would not help.
+`loops`, and `ellipsoids`. No bound rests on what seems to be over. More time makes it tighter; it ends before where
+what comes after is below 2^-TIGHT of the whole, or where more time would not help.
 """
 import math
 from collections.abc import Iterable, Sequence
@@ -23,14 +23,15 @@ from fractions import Fraction
 
 from silc.designing.ellipsoids import MOST_STATES, Ellipsoid, NoBound, States
 from silc.designing.impulses import Kick, Response
-from silc.designing.loops import (NOTHING, PLACES, WORD_PLACES, Clock, Passing, Sums, advanced, amount_of, cuts_of, in_flight,
-                             sums_of)
+from silc.designing.loops import (NOTHING, PLACES, WORD_PLACES, Clock, Passing, Sums, advanced, amount_of, cuts_of,
+                                  in_flight, sums_of)
 from silc.designing.systems import NoSystem, System
 
 __all__ = ["Certified", "Norm", "NoSystem", "Offset", "System", "norms"]
 
 SECONDS = 3.0
-# What comes after is little where it is below 2^-TIGHT of the whole, and is worth the time where it may come below 2^-LITTLE.
+# What comes after is little where it is below 2^-TIGHT of the whole, and is worth the time where it may come below
+# 2^-LITTLE.
 TIGHT, LITTLE = 20, 10
 # A response is summed to lengths that grow by STEP. Whether it is worth the time is asked after as many longest delays.
 FIRST_LENGTH, STEP, DELAYS = 64, 2, 16
@@ -111,7 +112,8 @@ class Source:
         return max((rest.total / self.whole(rank) for rank, rest in self.rest.items() if rest.total), default=0.0)
 
     def sum_up(self, clock: Clock, tight: int, is_last: bool) -> None:
-        """Sums until what comes after is below 2^-tight of the whole, or no longer gets less, or as long as there is time."""
+        """Sums until what comes after is below 2^-tight of the whole, or no longer gets less, or as long as there is
+        time."""
         length = max(FIRST_LENGTH, self.response.time * STEP)
         while not self.is_done:
             began, left, share = self.response.time, clock.left, self.share()
@@ -128,8 +130,8 @@ class Source:
             length *= STEP
 
     def samples_wanted(self, trend: float, tight: int, is_last: bool) -> float:
-        """After about how many samples more what comes after is little, or as little as is wanted where it is that already;
-        with the last time that there is, a little less helps too."""
+        """After about how many samples more what comes after is little, or as little as is wanted where it is that
+        already; with the last time that there is, a little less helps too."""
         decay = max(trend, min((self.passing.decay(rank) for rank in self.rest), default=math.inf))
         share, little = max(self.share(), 2.0**-tight), min(LITTLE, tight)
         wanted = math.log(share) + math.log(2) * (little if share > 2.0**-little else tight)
@@ -165,8 +167,8 @@ class Source:
         return found
 
     def norms(self, clock: Clock | None) -> dict[int, Norm]:
-        """What is known of all nodes that are reached. The response that was summed is that of the cuts too. Nodes without a
-        bound are left out where there is no time for what is known of them."""
+        """What is known of all nodes that are reached. The response that was summed is that of the cuts too. Nodes
+        without a bound are left out where there is no time for what is known of them."""
         errors, _ = self.passing.passed(cuts_of(self.response))
         exact = exact_sums(self.system, self.kicks, clock) if self.unbounded and clock else []
         made = {}
@@ -174,19 +176,21 @@ class Source:
             if rank in self.unbounded:
                 if not clock:
                     continue
-                made[node] = Norm(*exact[rank], Fraction(0), sum(exact[rank]), False)
+                above, below = exact[rank]
+                made[node] = Norm(above, below, Fraction(0), above + below, False)
                 continue
             so_far, rest = sums_of(self.response, rank), self.rest.get(rank, NOTHING)
             if so_far.total or rest.total:
                 least = max(0, so_far.total - errors.get(rank, NOTHING).total)
-                made[node] = Norm(*map(value_of, so_far.plus(rest)), value_of(least), True)
+                positive, negative, either = map(value_of, so_far.plus(rest))
+                made[node] = Norm(positive, negative, either, value_of(least), True)
         return made
-
 
     def offsets(self) -> dict[int, Offset]:
         """Between which numbers the sum of the words is in each node that is reached."""
         errors, _ = self.passing.passed(cuts_of(self.response))
         response, made = self.response, {}
+        assert isinstance(response, Running)
         for rank, node in enumerate(self.system.order):
             rest, error = self.rest.get(rank, NOTHING), errors.get(rank, NOTHING).total
             now = sums_of(response, rank)[0] - sums_of(response, rank)[1]
@@ -199,7 +203,8 @@ class Source:
 
 
 def exact_sums(system: System, kicks: Iterable[Kick], clock: Clock) -> list[tuple[Fraction, Fraction]]:
-    """The sums of what is above 0 and of what is below of a response in which nothing is cut, to a length that allows it."""
+    """The sums of what is above 0 and of what is below of a response in which nothing is cut, to a length that allows
+    it."""
     response, length, made = Response(system, kicks, EXACT_PLACES), 1, [[0] * len(system)] * 2
     while advanced(response, length, clock) and not any(response.cuts):
         made = [list(response.positive), list(response.negative)]
@@ -219,8 +224,8 @@ class Certified:
         self.passing = Passing(system, self.clock)
 
     def norms(self, sources: Sequence[Iterable[Kick]], share: float = 1.0, tight: int = TIGHT) -> list[dict[int, Norm]]:
-        """The norms of all nodes by each source, in a share of the time that is left. It ends before where what comes after
-        the sums is below 2^-tight of them."""
+        """The norms of all nodes by each source, in a share of the time that is left. It ends before where what comes
+        after the sums is below 2^-tight of them."""
         clock = Clock(self.clock.left * share)
         made = [Source(self.system, kicks, self.passing) for kicks in sources]
         for is_last in (False, True):
@@ -233,14 +238,15 @@ class Certified:
 
     def spread(self, ends: dict[int, Ends], share: float, tight: int,
                few: dict[int, Fraction]) -> tuple[dict[int, Ends], set[int]]:
-        """How far numbers between two ends, one for each sample, bring the nodes when they are put into some of them, and the
-        nodes without a bound. Where they bring none further than `few` by the gains of the loops alone, nothing is summed;
-        else each response is, in a share of the time."""
+        """How far numbers between two ends, one for each sample, bring the nodes when they are put into some of them,
+        and the nodes without a bound. Where they bring none further than `few` by the gains of the loops alone, nothing
+        is summed; else each response is, in a share of the time."""
         clock = Clock(self.clock.left * share)
         rough, unbounded = self.roughly(ends)
         if all(max(-least, greatest) <= few.get(node, 0) for node, (least, greatest) in rough.items()):
             return rough, unbounded
-        rest, made = dict(ends), {}
+        rest = dict(ends)
+        made: dict[int, Ends] = {}
         while rest and clock.left > 0:
             node, (least, greatest) = rest.popitem()
             source = Source(self.system, [(node, 0, Fraction(1))], self.passing)
@@ -275,8 +281,9 @@ class Certified:
         made, rank, length = [Source(self.system, kicks, self.passing) for kicks in sources], self.system.rank[node], 1
         while True:
             in_time = all([source.bring(length, self.clock) for source in made])
-            rests = [None if rank in source.unbounded else value_of(source.rest.get(rank, NOTHING).total) for source in made]
-            left = None if None in rests else sum(rest * weight for rest, weight in zip(rests, weights))
+            rests = [None if rank in source.unbounded else value_of(source.rest.get(rank, NOTHING).total)
+                     for source in made]
+            left = None if None in rests else sum((rest * weight for rest, weight in zip(rests, weights)), Fraction(0))
             if not in_time or left is not None and left <= most:
                 return max(source.response.time for source in made), left
             length += 1 + length // 4

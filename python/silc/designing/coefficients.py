@@ -1,6 +1,7 @@
 """Coefficients as SciPy, Octave and MATLAB print them: rows of numbers, with or without brackets."""
 import math
 import re
+from collections.abc import Iterator
 from pathlib import Path
 
 from silc.designing.filters import Section
@@ -18,7 +19,7 @@ class BadFile(ValueError):
     """What is wrong with a file, and where."""
 
 
-def lines_of(file):
+def lines_of(file: str | Path) -> list[str]:
     try:
         return Path(file).read_text().splitlines()
     except OSError as fault:
@@ -27,7 +28,7 @@ def lines_of(file):
         raise BadFile(f"{file}: it is no text") from fault
 
 
-def number_of(word, place):
+def number_of(word: str, place: str) -> float:
     try:
         number = float(word)
     except ValueError as fault:
@@ -37,9 +38,10 @@ def number_of(word, place):
     return number
 
 
-def rows_in(file):
+def rows_in(file: str | Path) -> Iterator[tuple[str, list[float]]]:
     """The rows of numbers of a file, each with its place. A row in brackets may go over several lines."""
-    factor, open_row = 1.0, None
+    factor = 1.0
+    open_row: tuple[str, list[float]] | None = None
     for number, line in enumerate(lines_of(file), 1):
         place = f"{file}:{number}"
         if scaled := FACTOR.fullmatch(line):
@@ -48,7 +50,7 @@ def rows_in(file):
             is_open = "[" in line or open_row is not None
             said = re.sub(r"^\s*\w+\s*=\s*", "", line).replace("array(", "")
             words = [number_of(word, place) * factor for word in re.split(r"[\s,;\[\]]+", ENDING.sub("", said)) if word]
-            place, before = open_row or (place, [])
+            place, before = open_row or (place, list[float]())
             if is_open and not re.search(r"[\];]", line):
                 open_row = place, before + words
             elif before + words:
@@ -58,7 +60,7 @@ def rows_in(file):
         yield open_row
 
 
-def section_of(place, numbers):
+def section_of(place: str, numbers: list[float]) -> Section:
     if len(numbers) != SECTION_WORDS:
         raise BadFile(f"{place}: it has {len(numbers)} numbers, and a section has {SECTION_WORDS}: {SECTION_NAMES}")
     *b, a0, a1, a2 = numbers
@@ -72,7 +74,7 @@ def section_of(place, numbers):
     return section
 
 
-def sections_in(file):
+def sections_in(file: str | Path) -> list[Section]:
     """The second-order sections of a file, a row each."""
     made = [section_of(place, numbers) for place, numbers in rows_in(file)]
     if not made:
@@ -80,7 +82,7 @@ def sections_in(file):
     return made
 
 
-def taps_in(file):
+def taps_in(file: str | Path) -> list[float]:
     """The taps of a FIR filter, in one row or one a line."""
     rows = list(rows_in(file))
     if len(rows) > 1 and (long := next((place for place, numbers in rows if len(numbers) != 1), None)):

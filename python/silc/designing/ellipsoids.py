@@ -3,12 +3,12 @@
 With a weight w > 1, sum |c A^t x| is at most the root of sum w^-2t times that of sum (c A'^t x)^2 (Cauchy and Schwarz),
 where A' = w A. The second sum is c X c* for the X with X = A' X A'* + x x* (a star transposes). Such an X is found by
 doubling, without proof, and then checked in whole numbers: where X - A' X A'* - x x* is positive semidefinite and A' is
-stable, c X c* is no less than the sum. A' is stable where Y - A' Y A'* is positive definite for a positive definite Y. So
-nothing rests on how X, Y and the weight were found. For one real pole the bound is exact, for two complex ones it is 11 % too
-great.
+stable, c X c* is no less than the sum. A' is stable where Y - A' Y A'* is positive definite for a positive definite Y.
+So nothing rests on how X, Y and the weight were found. For one real pole the bound is exact, for two complex ones it is
+11 % too great.
 """
 import math
-from collections.abc import Iterable
+from collections.abc import Callable, Iterable
 from fractions import Fraction
 
 from silc.designing.systems import System
@@ -35,10 +35,10 @@ def times(a: Matrix, b: Matrix, places: int = 0) -> Matrix:
 
 def around(a: Matrix, x: Matrix, places: int = 0) -> Matrix:
     """a x a*."""
-    return times(times(a, x, places), [list(column) for column in zip(*a)], places)
+    return times(times(a, x, places), transposed(a), places)
 
 
-def each(change, *matrices: Matrix) -> Matrix:
+def each(change: Callable[..., int], *matrices: Matrix) -> Matrix:
     """The matrix of what a change makes of the numbers that stand at one place."""
     return [[change(*numbers) for numbers in zip(*rows)] for rows in zip(*matrices)]
 
@@ -47,15 +47,24 @@ def unit(size: int) -> Matrix:
     return [[int(row == column) for column in range(size)] for row in range(size)]
 
 
+def transposed(a: Matrix) -> Matrix:
+    return [list(column) for column in zip(*a)]
+
+
+def magnitude(row: list[int]) -> int:
+    """The sum of the magnitudes of a row."""
+    return sum([abs(number) for number in row])
+
+
 def size_of(a: Matrix) -> int:
     """The greatest sum of magnitudes of a row."""
-    return max((sum(map(abs, row)) for row in a), default=0)
+    return max((magnitude(row) for row in a), default=0)
 
 
 def is_dominant(a: Matrix) -> bool:
     """Whether each number on the diagonal is no less than the magnitudes beside it together: then a symmetric matrix is
     positive semidefinite."""
-    return all(2 * row[k] >= sum(map(abs, row)) for k, row in enumerate(a))
+    return all(2 * row[k] >= magnitude(row) for k, row in enumerate(a))
 
 
 def is_positive(a: Matrix) -> bool:
@@ -96,7 +105,7 @@ def root_of(square: Fraction) -> Fraction:
 class States:
     """What comes into some nodes, now and later, as a state: how it changes in a sample, and which words it gives."""
 
-    def __init__(self, system: System, ranks: Iterable[int], pending: Iterable[tuple[int, int]]):
+    def __init__(self, system: System, ranks: Iterable[int], pending: Iterable[tuple[int, int]]) -> None:
         inside, self.system = set(ranks), system
         self.edges = {rank: [edge for edge in system.edges[rank] if edge.target in inside] for rank in sorted(inside)}
         lengths: dict[int, int] = {}
@@ -129,7 +138,7 @@ class States:
 class Ellipsoid:
     """The weight and the Y by which tails are bounded, for some states. Raises `NoBound`."""
 
-    def __init__(self, states: States):
+    def __init__(self, states: States) -> None:
         if len(states.names) > MOST_STATES:
             raise NoBound(f"there are more than {MOST_STATES} states")
         self.names = states.names
@@ -155,7 +164,7 @@ class Ellipsoid:
         """The sum of A'^t x A'*^t over all t, nearly; symmetric, as the checks need it."""
         for power in self.powers:
             x = each(int.__add__, x, around(power, x, PLACES))
-        return each(lambda a, b: a + b >> 1, x, list(zip(*x)))
+        return each(lambda a, b: a + b >> 1, x, transposed(x))
 
     def rest(self, x: Matrix) -> Matrix:
         """x - A' x A'*, exactly, with twice the places of A' behind those of x."""
@@ -163,7 +172,7 @@ class Ellipsoid:
 
     def tails(self, pending: Pending) -> dict[int, Fraction]:
         """Of each node that is reached a bound of the sum of its magnitudes, from a state on."""
-        most = max(map(abs, pending.values()))
+        most = max(abs(word) for word in pending.values())
         scale = Fraction(2) ** (most.denominator.bit_length() - most.numerator.bit_length())
         state = [pending.get(name, Fraction(0)) * scale for name in self.names]
         places = max(x.denominator for x in state).bit_length() - 1
@@ -193,5 +202,5 @@ class Ellipsoid:
         for number, words in enumerate(self.gives):
             for rank, word in words.items():
                 rows.setdefault(rank, []).append((number, word))
-        return {rank: sum(a * b * Fraction(x[i][j], 1 << PLACES) for i, a in row for j, b in row)
+        return {rank: sum((a * b * Fraction(x[i][j], 1 << PLACES) for i, a in row for j, b in row), Fraction(0))
                 for rank, row in rows.items()}

@@ -1,5 +1,5 @@
-"""The noise that is expected of the roundings of a filter, as an estimate: each error as white noise, even over a step, that
-knows nothing of the signal and of the errors of other products, through the norm of its response in the output."""
+"""The noise that is expected of the roundings of a filter, as an estimate: each error as white noise, even over a step,
+that knows nothing of the signal and of the errors of other products, through the norm of its response in the output."""
 import math
 from collections.abc import Hashable, Iterable, Sequence
 from dataclasses import dataclass
@@ -36,7 +36,8 @@ def moments_of(rounding: "Rounding", bits: int, step: float) -> Moments:
         return Moments(step * least / 2, even)
     if rounding.value == "down":
         return Moments(-step * (1 - least) / 2, even)
-    # Toward zero the error goes down where the signal is above 0, and up where it is below, here as if that were by chance.
+    # Toward zero the error goes down where the signal is above 0, and up where it is below, here as if that were by
+    # chance.
     return Moments(0.0, step * step * (1 - least) * (2 - least) / 6)
 
 
@@ -47,8 +48,8 @@ def zeros_behind(word: int) -> int:
 
 @dataclass(frozen=True)
 class Product:
-    """A word of a coefficient times a node's word some samples ago, with the sign that it has in a sum. One that is taken
-    off is rounded with the other sign."""
+    """A word of a coefficient times a node's word some samples ago, with the sign that it has in a sum. One that is
+    taken off is rounded with the other sign."""
     word: int
     node: int
     delay: int
@@ -56,12 +57,15 @@ class Product:
 
 
 class Errors:
-    """The errors of a filter: for each what makes it, with its variance and with the kicks by which it comes in, as (node,
-    sample, sign); and the mean of the errors that come into each node. One product that is rounded, or cut off, at two places
-    makes one error, with the sign that it has there."""
+    """The errors of a filter: for each what makes it, with its variance and with the kicks by which it comes in, as
+    (node, sample, sign); and the mean of the errors that come into each node. One product that is rounded, or cut off,
+    at two places makes one error, with the sign that it has there."""
 
     def __init__(self, shapes: "Shapes"):
-        self.shapes, self.kicks, self.variances, self.means = shapes, {}, {}, {}
+        self.shapes = shapes
+        self.kicks: dict[Hashable, list[tuple[int, int, int]]] = {}
+        self.variances: dict[Hashable, float] = {}
+        self.means: dict[int, float] = {}
 
     def add(self, cause: Hashable, node: int, delay: int, sign: int, moments: Moments) -> None:
         if moments.variance:
@@ -101,12 +105,16 @@ class Errors:
         return noise + mean * mean
 
 
+# A node, and how many samples ago.
+State = tuple[int, int]
+
+
 class StateSpace:
-    """A linear system over its delayed words: what each is at the next sample, and what the last node is, by those and by what
-    is put into a node."""
+    """A linear system over its delayed words: what each is at the next sample, and what the last node is, by those and
+    by what is put into a node."""
 
     def __init__(self, nodes: Sequence[Sequence[Term]]):
-        delays = {}
+        delays: dict[int, int] = {}
         for other, delay, _ in (term for terms in nodes for term in terms):
             delays[other] = max(delays.get(other, 0), delay)
         self.states = [(node, back) for node, delay in sorted(delays.items()) for back in range(1, delay + 1)]
@@ -115,17 +123,20 @@ class StateSpace:
         self.turn = [[column[0][row] for column in columns] for row in range(len(self.states))]
         self.put = [column[1] for column in columns]
 
-    def after(self, states: dict, kicked: dict[int, float]) -> tuple[list[float], float]:
-        """The states at the next sample and the last node, where some states are not 0 and something is put into nodes."""
-        words = []
+    def after(self, states: dict[State, float], kicked: dict[int, float]) -> tuple[list[float], float]:
+        """The states at the next sample and the last node, where some states are not 0 and something is put into
+        nodes."""
+        words: list[float] = []
         for number, terms in enumerate(self.nodes):
             words.append(kicked.get(number, 0.0) + sum(
-                factor * (states.get((other, delay), 0.0) if delay else words[other]) for other, delay, factor in terms))
+                factor * (states.get((other, delay), 0.0) if delay else words[other])
+                for other, delay, factor in terms))
         following = [words[node] if back == 1 else states.get((node, back - 1), 0.0) for node, back in self.states]
         return following, words[-1]
 
     def summed(self) -> tuple[list[list[float]], list[float]]:
-        """The sum of squares of the last node over all samples as a form of the states, and its sum as a row of them."""
+        """The sum of squares of the last node over all samples as a form of the states, and its sum as a row of
+        them."""
         size = range(len(self.states))
         turn, row = self.turn, list(self.put)
         form = [[self.put[i] * self.put[j] for j in size] for i in size]
@@ -143,7 +154,8 @@ class StateSpace:
     def energy(self, kicks: Sequence[tuple[int, int, int]], form: list[list[float]]) -> float:
         """The sum of squares of the response to kicks."""
         first, last = min(sample for _, sample, _ in kicks), max(sample for _, sample, _ in kicks)
-        states, made = {}, 0.0
+        states: dict[State, float] = {}
+        made = 0.0
         for now in range(first, last + 1):
             following, output = self.after(states, {node: sign for node, sample, sign in kicks if sample == now})
             states, made = dict(zip(self.states, following)), made + output * output

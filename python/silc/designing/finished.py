@@ -1,4 +1,5 @@
-"""The source of a filter with the comment that says what was asked, what was made of it, and how far the response moved."""
+"""The source of a filter with the comment that says what was asked, what was made of it, and how far the response
+moved."""
 import math
 from dataclasses import dataclass
 from enum import Enum
@@ -17,7 +18,8 @@ SHARE_PLACES, BIT_PLACES = 3, 1
 
 
 class Order(Enum):
-    """In which order sections follow one another: poles nearest to the unit circle last, first, or as they are given."""
+    """In which order sections follow one another: poles nearest to the unit circle last, first, or as they are
+    given."""
     UP = "up"
     DOWN = "down"
     GIVEN = "given"
@@ -25,8 +27,8 @@ class Order(Enum):
 
 @dataclass(frozen=True)
 class Wanted:
-    """What is wanted of a filter: the words for it, the shapes of its coefficients, of the input and of the signals, whose
-    places may be open, and how it is scaled, computed, rounded and put in order."""
+    """What is wanted of a filter: the words for it, the shapes of its coefficients, of the input and of the signals,
+    whose places may be open, and how it is scaled, computed, rounded and put in order."""
     title: str
     asked: str
     shape: Shape
@@ -71,12 +73,14 @@ def said_of_norm(norm: Norm, share: float | Fraction, is_bound: bool) -> str:
     if norm is Norm.NONE:
         return "not scaled, so they may overflow"
     if norm is Norm.SUM and not is_bound:
-        return (f"scaled by {norm.value}, by some input at least {downward_in(Fraction(share), SHARE_PLACES)} of their range, and no "
+        return (f"scaled by {norm.value}, by some input at least {downward_in(Fraction(share), SHARE_PLACES)} of their "
+                f"range, and no "
                 "bound was found, so an input may make one overflow")
     ensured = {Norm.SUM: "no input makes one overflow", Norm.ROOT: "an input may make one overflow",
                Norm.PEAK: "no tone makes one overflow"}[norm]
     estimated = "" if norm is Norm.SUM else ", as an estimate"
-    return f"scaled by {norm.value}, up to {upward_in(Fraction(share), SHARE_PLACES)} of their range{estimated}: {ensured}"
+    return (f"scaled by {norm.value}, up to {upward_in(Fraction(share), SHARE_PLACES)} of their range{estimated}: "
+            f"{ensured}")
 
 
 def said_of_rounding(cascade: scaling.Cascade) -> str:
@@ -109,27 +113,34 @@ def order_of(sections: list[Section], wanted: Wanted) -> tuple[float, list[Secti
     return gain, made if wanted.order is Order.DOWN else made[::-1]
 
 
-def sections_source(wanted: Wanted, sections: list[Section]) -> tuple[str, bool]:
-    """The source of a cascade of sections, and whether all that its comment says is certified."""
+def made_cascade(wanted: Wanted, sections: list[Section]) -> tuple[scaling.Cascade, list[str]]:
+    """The cascade of sections, scaled, and what its comment says."""
     gain, ordered = order_of(sections, wanted)
     scale = scaling.fitting_cascade if not wanted.has_places else scaling.cascade_of
     cascade = scale(gain, ordered, shapes_of(wanted), wanted.norm, wanted.form, Allowance(wanted.seconds))
     made = [section for _, section in cascade.made]
     shares = shares_for([*sections, *made])
     move = moved([abs(response(sections, share)) for share in shares], [abs(response(made, share)) for share in shares])
-    is_bound = cascade.certificate.is_bound
-    said = [f"{wanted.title}, as {writing.counted(len(made), 'section')} in {writing.FORM_NAMES[wanted.form]}.",
-            f"Asked: {wanted.asked}",
-            f"Made: coefficients in {wanted.shape}, signals in {cascade.shapes.signal}, "
-            f"{said_of_norm(wanted.norm, cascade.share(), is_bound)}. {said_of_rounding(cascade)}", said_of_move(move)]
-    return writing.cascade_source(said, cascade, wanted.form), is_bound
+    return cascade, [
+        f"{wanted.title}, as {writing.counted(len(made), 'section')} in {writing.FORM_NAMES[wanted.form]}.",
+        f"Asked: {wanted.asked}",
+        f"Made: coefficients in {wanted.shape}, signals in {cascade.shapes.signal}, "
+        f"{said_of_norm(wanted.norm, cascade.share(), cascade.certificate.is_bound)}. {said_of_rounding(cascade)}",
+        said_of_move(move)]
+
+
+def sections_source(wanted: Wanted, sections: list[Section]) -> tuple[str, bool]:
+    """The source of a cascade of sections, and whether all that its comment says is certified."""
+    cascade, said = made_cascade(wanted, sections)
+    return writing.cascade_source(said, cascade, wanted.form), cascade.certificate.is_bound
 
 
 def taps_source(wanted: Wanted, taps: list[float]) -> tuple[str, bool]:
     """The source of a FIR filter, and whether all that its comment says is certified, as it is."""
     words, shapes, share = scaling.fitting_taps(taps, shapes_of(wanted), wanted.norm, not wanted.has_places)
     made, shares = [wanted.shape.value(word) for word in words], shares_for()
-    move = moved([abs(fir_response(taps, share)) for share in shares], [abs(fir_response(made, share)) for share in shares])
+    move = moved([abs(fir_response(taps, share)) for share in shares],
+                 [abs(fir_response(made, share)) for share in shares])
     said = [f"{wanted.title}, with {len(taps)} taps.", f"Asked: {wanted.asked}",
             f"Made: coefficients in {wanted.shape}, the output in {shapes.signal}, "
             f"{said_of_norm(wanted.norm, share, True)}. "

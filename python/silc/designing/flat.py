@@ -1,7 +1,7 @@
-"""A program with its calls and loops expanded: each element with the operations that give its word (docs/GRAPH.md, "Flat
-programs"), from the typed program that `silc_show types` prints."""
+"""A program with its calls and loops expanded: each element with the operations that give its word (docs/GRAPH.md,
+"Flat programs"), from the typed program that `silc_show types` prints."""
 import re
-from dataclasses import dataclass, field
+from dataclasses import dataclass, field, replace
 
 from silc.designing.programs import in_room, ran
 from silc.designing.shapes import Shape
@@ -14,7 +14,8 @@ FORMAT_END = re.compile(r",((?:round,)?\w+),(\d+)>\(")
 RAW, NAME = re.compile(r"-?\d+"), re.compile(r"\w+")
 WHOLE_OR_INDEX = re.compile(r"\d+|\w+")
 
-# A number as a tree, the indices of the loops around it, and the declarations of an instance, each with its first element.
+# A number as a tree, the indices of the loops around it, and the declarations of an instance, each with its first
+# element.
 Manifest = int | str | tuple
 Indices = dict[str, int]
 Signals = dict[str, tuple["Declared", int]]
@@ -54,8 +55,8 @@ def number_of(manifest: Manifest, indices: Indices) -> int:
 class Read:
     """A place in a source, with its delay."""
     name: str
-    subscripts: tuple
-    delay: object = 0
+    subscripts: tuple[Manifest, ...]
+    delay: Manifest = 0
 
 
 @dataclass(frozen=True)
@@ -63,13 +64,17 @@ class Operation:
     """What is made of the parts before it: by how much it is shifted down, by which mode, and to how many bits."""
     name: str
     shift: int
-    amount: object
+    amount: Manifest
     mode: str
     width: int
     parts: int = 0
 
 
-def place_at(text: str, place: int) -> tuple[str, tuple, int]:
+# A part of an expression: a raw word, a place that is read, or what is made of the parts before it.
+Part = int | Read | Operation
+
+
+def place_at(text: str, place: int) -> tuple[str, tuple[Manifest, ...], int]:
     """A name with its subscripts, and the place behind it."""
     name, subscripts = NAME.match(text, place), []
     place = name.end()
@@ -85,7 +90,7 @@ def leaf_at(text: str, place: int) -> tuple[int | Read, int]:
     if raw := RAW.match(text, place):
         return int(raw[0]), raw.end()
     name, subscripts, place = place_at(text, place)
-    delay = 0
+    delay: Manifest = 0
     if text[place : place + 1] == "@":
         delay, place = manifest_at(text, place + 1)
     return Read(name, subscripts, delay), place
@@ -93,9 +98,10 @@ def leaf_at(text: str, place: int) -> tuple[int | Read, int]:
 
 def operation_at(text: str, place: int) -> tuple[Operation | None, int]:
     """The beginning of an operation, up to its first part, and the place there; or nothing."""
-    found, amount = OPERATION.match(text, place), 1
+    found = OPERATION.match(text, place)
     if not found:
         return None, place
+    amount: Manifest = 1
     place = found.end()
     if found[3]:
         amount, place = manifest_at(text, place)
@@ -103,22 +109,26 @@ def operation_at(text: str, place: int) -> tuple[Operation | None, int]:
     return Operation(found[1], int(found[2]), amount, ended[1], int(ended[2])), ended.end()
 
 
-def expressions_in(text: str) -> list[list]:
+def expressions_in(text: str) -> list[list[Part]]:
     """The expressions of a text with commas between them, each as its parts and then what is made of them."""
-    made, own, open_ones, place = [], [], [], 0
+    made, place = [], 0
+    own: list[Part] = []
+    # The operations whose parts are not all there, each with the number of that which comes now.
+    open_ones: list[tuple[Operation, int]] = []
     while place < len(text):
         operation, place = operation_at(text, place)
         if operation:
-            open_ones.append([operation, 1])
+            open_ones.append((operation, 1))
             continue
         leaf, place = leaf_at(text, place)
         own.append(leaf)
         while open_ones and text[place] == ")":
             operation, parts = open_ones.pop()
-            own.append(Operation(operation.name, operation.shift, operation.amount, operation.mode, operation.width, parts))
+            own.append(replace(operation, parts=parts))
             place += 1
         if open_ones:
-            open_ones[-1][1] += 1
+            operation, parts = open_ones[-1]
+            open_ones[-1] = operation, parts + 1
         else:
             made.append(own)
             own = []
@@ -198,17 +208,20 @@ def typed_of(text: str) -> tuple[dict, dict[int, Function]]:
 
 # Expansion
 
+# A part of an element's body, as a part of an expression, but that a read is the element and the delay.
+FlatPart = int | tuple[int, int] | Operation
+
 
 @dataclass
 class FlatElement:
     """An element: its name, its shape (`None` for a truth value), its body, and its words before the first sample.
 
-    A body is the number of an input word, or parts and then what is made of them: raw words, pairs of the element that is
-    read and the delay, and operations."""
+    A body is the number of an input word, or parts and then what is made of them: raw words, pairs of the element that
+    is read and the delay, and operations."""
     name: str
     shape: Shape | None
-    body: object = None
-    initials: dict = field(default_factory=dict)
+    body: int | list[FlatPart] | None = None
+    initials: dict[int, int] = field(default_factory=dict)
 
     def reads(self) -> list[tuple[int, int]]:
         """The elements that it reads, each with the delay."""
@@ -221,7 +234,8 @@ class Flat:
     def __init__(self, text: str, names: str):
         self.tables, self.functions = typed_of(text)
         tops = {int(words[1]): words[2] for words in map(str.split, names.splitlines()) if words[0] == "top"}
-        self.names, self.entered, self.elements = tops, {}, []
+        self.names, self.entered = tops, dict.fromkeys(tops.values(), 0)
+        self.elements: list[FlatElement] = []
         main = int(names.split()[1])
         signals = self.enter(main, "")
         for place, element in enumerate(self.own(main, signals, "parameter")):
@@ -266,16 +280,16 @@ class Flat:
                 target, body = parts
                 self.elements[self.element_at(signals, target, indices)].body = self.body(signals, body, indices)
 
-    def body(self, signals: Signals, parts: list, indices: Indices) -> list:
+    def body(self, signals: Signals, parts: list[Part], indices: Indices) -> list[FlatPart]:
         return [self.part(signals, part, indices) for part in parts]
 
-    def part(self, signals: Signals, part: int | Read | Operation, indices: Indices) -> int | tuple[int, int] | Operation:
+    def part(self, signals: Signals, part: Part, indices: Indices) -> FlatPart:
         """A part of an expression in a turn of the loops."""
         if isinstance(part, int):
             return part
         if isinstance(part, Operation):
             shift = part.shift * number_of(part.amount, indices)
-            return Operation(part.name, shift, 1, part.mode, part.width, part.parts)
+            return replace(part, shift=shift, amount=1)
         if part.name in signals:
             return self.element_at(signals, (part.name, part.subscripts), indices), number_of(part.delay, indices)
         return self.word_at(part, indices)
@@ -290,7 +304,7 @@ class Flat:
     def call(self, signals: Signals, indices: Indices, targets: list, number: int, arguments: list) -> None:
         """The elements of a call: its parameters are its arguments, and the places of its results read these."""
         name = self.names[number]
-        self.entered[name] = self.entered.get(name, 0) + 1
+        self.entered[name] += 1
         inner, function = self.enter(number, f"{name}#{self.entered[name]}."), self.functions[number]
         for one, argument in zip(function.of("parameter"), arguments):
             first = inner[one.name][1]
@@ -321,5 +335,6 @@ def subscripts_of(place: int, dims: tuple[int, ...]) -> str:
 
 def flat_of(source: str) -> Flat:
     """The elements of a source that has no fault."""
-    return Flat(*(in_room(source, [], lambda room, what=what: ran("silc_show", what, "source", room=room))
-                  for what in ("types", "names")))
+    def shown(what: str) -> str:
+        return in_room(source, [], lambda room: ran("silc_show", what, "source", room=room))
+    return Flat(shown("types"), shown("names"))

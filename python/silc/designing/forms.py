@@ -1,4 +1,5 @@
 """The forms of a section: its equations in the order of their evaluation, which signals are rounded, and its words."""
+from collections.abc import Sequence
 from dataclasses import dataclass
 from enum import Enum
 
@@ -14,8 +15,8 @@ class Form(Enum):
 
 @dataclass(frozen=True)
 class Term:
-    """A coefficient times a signal some samples ago. One that is taken off has a factor with the other sign than the product
-    in the source."""
+    """A coefficient times a signal some samples ago. One that is taken off has a factor with the other sign than the
+    product in the source."""
     factor: float
     signal: str
     delay: int = 0
@@ -26,18 +27,18 @@ class Term:
 class Equation:
     """A signal as a sum of terms. A rounded one is a word of the signals' shape and may not overflow."""
     signal: str
-    terms: tuple
+    terms: tuple[Term, ...]
     is_rounded: bool = True
 
 
-def direct(b, a):
+def direct(b: Sequence[float], a: Sequence[float]) -> list[Equation]:
     """Direct form I. The transposed direct form II rounds at the same place and has the same words."""
     feed = [Term(factor, INPUT, delay) for delay, factor in enumerate(b)]
     back = [Term(-factor, OUTPUT, delay, True) for delay, factor in enumerate(a, 1)]
     return [Equation(OUTPUT, tuple(feed + back))]
 
 
-def lattice(gain, k, v):
+def lattice(gain: float, k: Sequence[float], v: Sequence[float]) -> list[Equation]:
     """The two-multiplier lattice with reflection coefficients k1, k2, a ladder v0, v1, v2 and a gain before it."""
     top = len(k)
     made = []
@@ -48,18 +49,18 @@ def lattice(gain, k, v):
     return [*made, Equation(OUTPUT, tuple(Term(factor, back(m)) for m, factor in enumerate(v)))]
 
 
-def back(m):
+def back(m: int) -> str:
     """The backward signal m of a lattice; the one of order 0 is the forward one."""
     return f"g{m}" if m else "f0"
 
 
-def reflections(a):
+def reflections(a: Sequence[float]) -> list[float]:
     """The reflection coefficients k1, k2 of 1 + a1 z^-1 + a2 z^-2, or k1 of the first order."""
     a1, a2 = a
     return [a1 / (1 + a2), a2] if a2 else [a1]
 
 
-def ladder(b, k):
+def ladder(b: Sequence[float], k: Sequence[float]) -> list[float]:
     """The taps of the ladder that give the numerator b over the lattice of k."""
     if len(k) == 1:
         return [b[0] - b[1] * k[0], b[1]]
@@ -70,7 +71,7 @@ def ladder(b, k):
     return [b[0] - v2 * k2 - v1 * k1, v1, v2]
 
 
-def numerator(v, k):
+def numerator(v: Sequence[float], k: Sequence[float]) -> tuple[float, float, float]:
     """The numerator that a ladder gives over a lattice: the other way round."""
     if len(k) == 1:
         return v[0] + v[1] * k[0], v[1], 0.0
@@ -78,19 +79,21 @@ def numerator(v, k):
     return v[0] + v[1] * k1 + v[2] * k2, v[1] + v[2] * k1 * (1 + k2), v[2]
 
 
-def denominator(k):
+def denominator(k: Sequence[float]) -> tuple[float, float]:
     """a1, a2 of a lattice."""
     return (k[0] * (1 + k[1]), k[1]) if len(k) == 2 else (k[0], 0.0)
 
 
-def run(equations, samples=(), kicked=None, length=None):
+def run(equations: Sequence[Equation], samples: Sequence[float] = (), kicked: str | None = None,
+        length: int | None = None) -> dict[str, list[float]]:
     """All signals of a section over samples, or after a kick of 1 at one of them, in real numbers."""
     length = len(samples) if length is None else length
     # Zeros stand before the first sample, and what a delay reads of a signal is so many places before its end.
     before = max(term.delay for equation in equations for term in equation.terms)
     signals = {equation.signal: [0.0] * before for equation in equations}
     signals[INPUT] = [0.0] * before + list(samples) + [0.0] * (length - len(samples))
-    work = [(signals[equation.signal], [(term.factor, signals[term.signal], before - term.delay) for term in equation.terms])
+    work = [(signals[equation.signal],
+             [(term.factor, signals[term.signal], before - term.delay) for term in equation.terms])
             for equation in equations]
     kicks = [1.0 if equation.signal == kicked else 0.0 for equation in equations]
     for n in range(length):

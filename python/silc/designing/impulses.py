@@ -1,8 +1,8 @@
 """Responses of a linear system to impulses, sample by sample in whole numbers, and what is in flight at their end.
 
-A word is a whole number of units of 2^-places, cut toward 0 where it has more places. That is an error of less than a unit and
-acts as one more input of the node, and `cuts` counts them. So the response that is summed here is the exact one of the kicks
-and of these inputs together.
+A word is a whole number of units of 2^-places, cut toward 0 where it has more places. That is an error of less than a
+unit and acts as one more input of the node, and `cuts` counts them. So the response that is summed here is the exact
+one of the kicks and of these inputs together.
 """
 from collections.abc import Iterable
 from fractions import Fraction
@@ -14,7 +14,8 @@ Kick = tuple[int, int, Fraction]
 
 
 class Response:
-    """The response to kicks (rank, sample, amount) up to a sample, as sums of its positive words and of its negative ones."""
+    """The response to kicks (rank, sample, amount) up to a sample, as sums of its positive words and of its negative
+    ones."""
 
     def __init__(self, system: System, kicks: Iterable[Kick], places: int):
         self.system, self.places, self.time = system, places, 0
@@ -80,7 +81,8 @@ class Response:
         return made
 
     def flying(self) -> dict[int, tuple[int, int]]:
-        """What comes into each node after the last sample above 0 and below it, in units of 2^-places over its denominator."""
+        """What comes into each node after the last sample above 0 and below it, in units of 2^-places over its
+        denominator."""
         made: dict[int, tuple[int, int]] = {}
         for words in self.coming.values():
             for rank, total in enumerate(words):

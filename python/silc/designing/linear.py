@@ -1,8 +1,9 @@
-"""A program as a linear system with inputs and errors: of each element the terms, a constant, and the errors of its rounding.
+"""A program as a linear system with inputs and errors: of each element the terms, a constant, and the errors of its
+rounding.
 
-Words are raw, so a step is 1. What rounds or truncates is exact but for an error, of which it is known between what it lies.
-What is not linear (a choice, a truth value, a product of two signals, an operation that saturates) is a node without terms,
-whose word may be any of a range.
+Words are raw, so a step is 1. What rounds or truncates is exact but for an error, of which it is known between what it
+lies. What is not linear (a choice, a truth value, a product of two signals, an operation that saturates) is a node
+without terms, whose word may be any of a range.
 """
 from collections.abc import Callable
 from dataclasses import dataclass, field, replace
@@ -62,8 +63,9 @@ class Form:
         return not self.terms and not self.least and not self.greatest
 
     def times(self, factor: Fraction) -> "Form":
-        ends = sorted((self.least * factor, self.greatest * factor))
-        return Form({read: other * factor for read, other in self.terms.items()}, self.constant * factor, *ends)
+        least, greatest = sorted((self.least * factor, self.greatest * factor))
+        terms = {read: other * factor for read, other in self.terms.items()}
+        return Form(terms, self.constant * factor, least, greatest)
 
     def plus(self, other: "Form") -> "Form":
         terms = dict(self.terms)
@@ -102,15 +104,16 @@ class Choice:
 
 
 class Linear:
-    """The system of a program. Of the saturating operations those in `bent` are not taken as linear; they are named by the
-    element and their number there."""
+    """The system of a program. Of the saturating operations those in `bent` are not taken as linear; they are named by
+    the element and their number there."""
 
     def __init__(self, flat: Flat, order: list[int], bent: frozenset = frozenset()):
         self.elements: list[FlatElement] = flat.elements
         self.bent, self.number = bent, 0
         count = len(self.elements)
         self.forms: list[Form] = [Form() for _ in range(count)]
-        self.node_of, self.constants = list(range(count)), [None] * count
+        self.node_of = list(range(count))
+        self.constants: list[int | None] = [None] * count
         self.inputs: list[int] = flat.inputs
         self.checks: list[Check] = []
         self.choices: dict[int, Choice] = {}
@@ -144,7 +147,8 @@ class Linear:
             self.constants[number] = int(form.constant)
         if number in self.choices:
             return
-        if form.width is None and not self.elements[number].initials and self.is_node(form) and not self.is_element(form):
+        is_read = form.width is None and not self.elements[number].initials
+        if is_read and self.is_node(form) and not self.is_element(form):
             self.node_of[number] = next(iter(form.terms))[0]
             return
         self.forms[number] = form

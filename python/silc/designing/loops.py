@@ -1,14 +1,15 @@
-"""How much a system passes on at most: of each loop bounds of the sums of magnitudes, and what they make of an amount that
-comes in. Each bound is an inequality that was checked in whole numbers; how it was found does not matter.
+"""How much a system passes on at most: of each loop bounds of the sums of magnitudes, and what they make of an amount
+that comes in. Each bound is an inequality that was checked in whole numbers; how it was found does not matter.
 
-Of the nodes h of a loop, let S be the sums up to a sample, of a response to 1 put into h, and W what is in flight then to each
-node of the loop. Whatever comes later comes of W, so sums G up to any sample fulfil G <= S + W G' with those G' of fewer
-samples. So each G with S + W G <= G is a bound. The parts above and below 0 are told apart, and a part of which only the
-magnitude is known is the third of a `Sums`.
+Of the nodes h of a loop, let S be the sums up to a sample, of a response to 1 put into h, and W what is in flight then
+to each node of the loop. Whatever comes later comes of W, so sums G up to any sample fulfil G <= S + W G' with those G'
+of fewer samples. So each G with S + W G <= G is a bound. The parts above and below 0 are told apart, and a part of
+which only the magnitude is known is the third of a `Sums`.
 """
 import heapq
 import math
 import time
+from collections.abc import Callable
 from dataclasses import dataclass
 from fractions import Fraction
 from typing import NamedTuple
@@ -21,7 +22,8 @@ from silc.designing.systems import System
 PLACES, WORD_PLACES = 192, 128
 # The equations of a loop are solved with more places, and for sums that are greater by 2^-SLACK.
 SOLVED_PLACES, SLACK = 320, 64
-# A loop with no more states is bounded by an ellipsoid, after so many samples. The time is looked at after so many words.
+# A loop with no more states is bounded by an ellipsoid, after so many samples. The time is looked at after so many
+# words.
 FEW_STATES, FIRST_SAMPLES, CHUNK = 24, 16, 1 << 14
 
 
@@ -93,7 +95,8 @@ Gains = dict[int, dict[int, Sums]]
 
 
 def solved(matrix: list[list[int]], right: list[list[int]]) -> list[list[int]] | None:
-    """About the x with matrix x = right, in numbers with SOLVED_PLACES, or nothing where it seems not to be positive."""
+    """About the x with matrix x = right, in numbers with SOLVED_PLACES, or nothing where it seems not to be
+    positive."""
     rows, size = [[*a, *b] for a, b in zip(matrix, right)], len(matrix)
     for k in range(size):
         if rows[k][k] <= 0:
@@ -111,10 +114,11 @@ def gains_of(ranks: list[int], sums: Gains, left: Gains) -> Gains | None:
     finer = SOLVED_PLACES - PLACES
     both = [[left[h].get(k, NOTHING) for k in ranks] for h in ranks]
 
-    def system(weight):
-        return [[((h == k) << SOLVED_PLACES) - (weight(w) << finer) for k, w in enumerate(row)] for h, row in enumerate(both)]
+    def system(weight: Callable[[Sums], int]) -> list[list[int]]:
+        return [[((h == k) << SOLVED_PLACES) - (weight(w) << finer) for k, w in enumerate(row)]
+                for h, row in enumerate(both)]
 
-    def right(value, slack):
+    def right(value: Callable[[Sums], int], slack: int) -> list[list[int]]:
         return [[value(sums[h].get(k, NOTHING)) + slack << finer for k in ranks] for h in ranks]
 
     slack = 1 << PLACES - SLACK
@@ -143,7 +147,7 @@ def are_gains(made: Gains, sums: Gains, left: Gains) -> bool:
 class Clock:
     """When the time is over that there is: that of the processor, so that bounds do not depend on what else it does."""
 
-    def __init__(self, seconds: float):
+    def __init__(self, seconds: float) -> None:
         self.end = time.process_time() + seconds
 
     @property
@@ -226,7 +230,7 @@ def short_loop(system: System, responses: dict[int, Response], sums: Gains) -> L
 class Passing:
     """The loops of a system with their gains, and what comes of amounts that are put into nodes."""
 
-    def __init__(self, system: System, clock: Clock):
+    def __init__(self, system: System, clock: Clock) -> None:
         self.system = system
         self.loops: dict[int, Loop | None] = {}
         self.clock = clock
@@ -270,7 +274,8 @@ class Passing:
                         open_parts.add(other)
                     else:
                         there = coming[other].get(edge.target, NOTHING)
-                        coming[other][edge.target] = there.plus(words[rank].times(edge.number, system.shift[edge.target]))
+                        more = words[rank].times(edge.number, system.shift[edge.target])
+                        coming[other][edge.target] = there.plus(more)
         return made, unbounded
 
     def words(self, part: int, here: dict[int, Sums]) -> dict[int, Sums] | None:

@@ -1,16 +1,25 @@
 """The error of a program's output against a reference, and what its output does without input."""
 import math
+import os
+from collections.abc import Iterator, Sequence
 from dataclasses import dataclass
+from typing import TypeAlias
 
 from silc.designing.programs import Unrun, evaluated, graph_of, longest_delay, valued
 from silc.designing.samples import BadSamples, reals_in
+from silc.designing.shapes import Shape
 from silc.designing.sources import words_of_main
 from silc.designing.spectra import welch
+
+
+# Shapes of words, `None` for a truth value.
+WordShapes: TypeAlias = Sequence[Shape | None]
 
 SOURCE_ENDING, WINDOW, BANDS = ".sil", 1024, 8
 
 
-def reference_rows(file, rows, inputs, outputs):
+def reference_rows(file: str | os.PathLike[str], rows: Sequence[Sequence[int]], inputs: WordShapes,
+                   outputs: WordShapes) -> list[tuple[float, ...]]:
     """The rows of a reference in real numbers: of a file, or of a source over the same samples."""
     if not str(file).endswith(SOURCE_ENDING):
         made = reals_in(file, len(outputs))
@@ -33,7 +42,7 @@ def reference_rows(file, rows, inputs, outputs):
     return values(put, own_outputs)
 
 
-def scaled(row, shapes, others, file):
+def scaled(row: Sequence[int], shapes: WordShapes, others: WordShapes, file: str | os.PathLike[str]) -> list[int]:
     """A row of words as words of other shapes, with the same values."""
     made = []
     for word, shape, other in zip(row, shapes, others):
@@ -44,23 +53,23 @@ def scaled(row, shapes, others, file):
     return made
 
 
-def values(rows, shapes):
+def values(rows: Sequence[Sequence[int]], shapes: WordShapes) -> list[tuple[float, ...]]:
     return [tuple(word * (shape.step if shape else 1.0) for word, shape in zip(row, shapes)) for row in rows]
 
 
 @dataclass
 class Noise:
     """The error of one output: powers, means and peaks in values, and spectra."""
-    shape: object
+    shape: Shape
     signal: float
     error: float
     mean: float
     peak: float
     peak_at: int
-    signal_spectrum: list
-    error_spectrum: list
+    signal_spectrum: list[float]
+    error_spectrum: list[float]
 
-    def ratio(self):
+    def ratio(self) -> float:
         """Signal to noise in decibels, or infinity without noise."""
         if not self.error:
             return math.inf
@@ -71,7 +80,7 @@ class Noise:
         full = (self.shape.step * -self.shape.least) ** 2
         return 10 * math.log10(self.error / full) if self.error else -math.inf
 
-    def bands(self):
+    def bands(self) -> Iterator[tuple[float, float, float]]:
         """The power of the error in bands of equal width, in decibels of the full scale."""
         full = (self.shape.step * -self.shape.least) ** 2
         size = (len(self.error_spectrum) - 1) // BANDS
@@ -80,7 +89,7 @@ class Noise:
             yield band / (2 * BANDS), (band + 1) / (2 * BANDS), 10 * math.log10(power / full) if power else -math.inf
 
 
-def noise_of(own, reference, shape):
+def noise_of(own: Sequence[float], reference: Sequence[float], shape: Shape) -> Noise:
     """The noise of an output, a column of values, against another one."""
     errors = [value - wanted for value, wanted in zip(own, reference)]
     peak_at = max(range(len(errors)), key=lambda n: abs(errors[n]))
@@ -88,12 +97,12 @@ def noise_of(own, reference, shape):
                  sum(errors) / len(errors), errors[peak_at], peak_at, welch(reference, WINDOW), welch(errors, WINDOW))
 
 
-def noises(source, rows, file):
+def noises(source: str, rows: Sequence[Sequence[int]], file: str | os.PathLike[str]) -> list[Noise]:
     """The noise of each output of a source over the samples, against a reference."""
     inputs, outputs = words_of_main(source)
     reference = reference_rows(file, rows, inputs, outputs)
-    own = values(evaluated(source, rows), outputs)
-    return [noise_of(*columns, shape) for *columns, shape in zip(zip(*own), zip(*reference), outputs) if shape]
+    made = values(evaluated(source, rows), outputs)
+    return [noise_of(own, wanted, shape) for own, wanted, shape in zip(zip(*made), zip(*reference), outputs) if shape]
 
 
 @dataclass
@@ -102,18 +111,19 @@ class Silence:
     last sample at which it is not 0; and whether there is a state."""
     start: int | None
     period: int | None
-    words: list
+    words: list[tuple[int, ...]]
     last: int
     has_state: bool
 
-    def dies_out(self):
+    def dies_out(self) -> bool:
         return self.period is not None and not any(map(any, self.words))
 
 
-def repetition(columns, delay):
+def repetition(columns: Sequence[tuple[int, ...]], delay: int) -> tuple[int, int] | tuple[None, None]:
     """Where the state of a program, all its words over the longest delay, is first one that it was before, and how long
     before that was."""
-    numbers, seen = {}, {}
+    numbers: dict[tuple[int, ...], int] = {}
+    seen: dict[tuple[int, ...], int] = {}
     ids = [numbers.setdefault(column, len(numbers)) for column in columns]
     for n in range(delay, len(ids)):
         state = tuple(ids[n - delay + 1 : n + 1])
@@ -123,7 +133,7 @@ def repetition(columns, delay):
     return None, None
 
 
-def silence_after(source, word, length):
+def silence_after(source: str, word: int, length: int) -> Silence:
     """What a program does after an impulse of this word at its first input."""
     inputs, outputs = words_of_main(source)
     zeros = (0,) * len(inputs)

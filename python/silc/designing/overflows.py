@@ -1,5 +1,5 @@
-"""What each element of a program needs on samples, and where it wraps or saturates: by its exact words, which nothing brings
-to a width, beside those that it has."""
+"""What each element of a program needs on samples, and where it wraps or saturates: by its exact words, which nothing
+brings to a width, beside those that it has."""
 import re
 import sys
 import time
@@ -35,8 +35,9 @@ def numbers_named(elements: Sequence[FlatElement], patterns: Iterable[str]) -> f
 class Places:
     """The samples at which something happens: the first of them, from 1, and how many there are."""
 
-    def __init__(self):
-        self.first, self.count = None, 0
+    def __init__(self) -> None:
+        self.first: int | None = None
+        self.count = 0
 
     def add(self, start: int, places: list[int]) -> None:
         if places and self.first is None:
@@ -50,9 +51,12 @@ class Places:
 class Tally:
     """What became of an element so far, by its own words and the exact ones."""
 
-    def __init__(self, number: int, each: FlatElement):
+    def __init__(self, number: int, each: FlatElement) -> None:
         self.number, self.name, self.shape, self.reads = number, each.name, each.shape, each.reads()
-        self.least = self.greatest = self.own = None
+        # Of its own words so far the first one, and of the exact ones the least and the greatest.
+        self.own: int | None = None
+        self.least: int | None = None
+        self.greatest: int | None = None
         self.is_changing, self.kind = False, WRAPS
         self.passing, self.inside, self.others, self.meant = Places(), Places(), Places(), Places()
 
@@ -85,7 +89,8 @@ class Tally:
 
     def said(self, is_counted: bool) -> str:
         kinds = {self.kind: self.passing, INSIDE: self.inside, FOLLOWS: self.others, MEANT: self.meant}
-        return next((places.said(kind, is_counted or kind is MEANT) for kind, places in kinds.items() if places.count), "")
+        return next((places.said(kind, is_counted or kind is MEANT) for kind, places in kinds.items() if places.count),
+                    "")
 
 
 def among_loops(elements: Sequence[FlatElement]) -> set[int]:
@@ -118,8 +123,8 @@ def levels_of(source: str, rows: Sequence[tuple[int, ...]], patterns: Iterable[s
 
 
 def passing_samples(source: str, rows: Sequence[tuple[int, ...]], put: Sequence[tuple[int, ...]]) -> int | None:
-    """At how many samples the rows of a program are others than without wraps and saturation; nothing where a word without
-    them grows too large."""
+    """At how many samples the rows of a program are others than without wraps and saturation; nothing where a word
+    without them grows too large."""
     flat, count = flat_of(source), 0
     exact = unbounded_run(flat.elements, frozenset())
     try:

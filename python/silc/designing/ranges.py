@@ -13,8 +13,8 @@ LONGEST = 10**20
 
 @dataclass
 class Range:
-    """An element with the least and the greatest word that it has or needs, the bits that these need, and what there is to
-    say of it."""
+    """An element with the least and the greatest word that it has or needs, the bits that these need, and what there is
+    to say of it."""
     name: str
     shape: Shape
     least: int
@@ -58,8 +58,8 @@ def range_over(each: Any, said: str) -> Range:
 
 def ranges_on(source: str, rows: Sequence[tuple[int, ...]], wraps: Iterable[str] = (),
               is_all: bool = False) -> tuple[list[Range], bool]:
-    """The ranges of all elements over the rows, but of those that never change without `is_all`, and whether an overflow may
-    have come back by feedback."""
+    """The ranges of all elements over the rows, but of those that never change without `is_all`, and whether an
+    overflow may have come back by feedback."""
     levels, is_fed_back = levels_of(source, rows, wraps)
     return [range_over(each, each.said(not is_fed_back)) for each in levels
             if each.shape and (is_all or each.is_changing)], is_fed_back

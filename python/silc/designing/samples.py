@@ -1,12 +1,16 @@
 """Sample files: rows of words for the inputs of a program, or of real numbers."""
+import os
+from collections.abc import Sequence
 from pathlib import Path
+
+from silc.designing.shapes import Shape
 
 
 class BadSamples(ValueError):
     """What is wrong with a file of samples, and where."""
 
 
-def lines_of(file):
+def lines_of(file: str | os.PathLike[str]) -> list[str]:
     try:
         return Path(file).read_text().splitlines()
     except OSError as fault:
@@ -15,11 +19,11 @@ def lines_of(file):
         raise BadSamples(f"{file}: it is no text") from fault
 
 
-def range_of(shape):
+def range_of(shape: Shape | None) -> tuple[int, int]:
     return (0, 1) if shape is None else (shape.least, shape.greatest)
 
 
-def word_of(text, shape, place):
+def word_of(text: str, shape: Shape | None, place: str) -> int:
     try:
         word = int(text)
     except ValueError as fault:
@@ -30,7 +34,7 @@ def word_of(text, shape, place):
     return word
 
 
-def samples_in(file, shapes):
+def samples_in(file: str | os.PathLike[str], shapes: Sequence[Shape | None]) -> list[tuple[int, ...]]:
     """The rows of a file, a word of each of the shapes in each."""
     rows = []
     for number, line in enumerate(lines_of(file), 1):
@@ -43,7 +47,7 @@ def samples_in(file, shapes):
     return rows
 
 
-def reals_in(file, count):
+def reals_in(file: str | os.PathLike[str], count: int) -> list[tuple[float, ...]]:
     """The rows of real numbers of a file, so many in each."""
     rows = []
     for number, line in enumerate(lines_of(file), 1):

@@ -3,7 +3,9 @@ import json
 import shutil
 import subprocess
 import sys
+from collections.abc import Iterable
 from pathlib import Path
+from typing import Any
 
 SCRIPT = Path(__file__).resolve().parent / "with_scipy.py"
 # The exit status of the script in a Python without SciPy.
@@ -16,13 +18,13 @@ class Lacking(Exception):
     """A program that is not there, and what installs it."""
 
 
-def pythons():
+def pythons() -> Iterable[str]:
     return dict.fromkeys(python for python in (sys.executable, shutil.which("python3"), SYSTEM) if python)
 
 
-def designed(**asked):
-    """What SciPy makes of the words: sections or taps, or a list of these where the words are several designs. `ValueError`
-    has what it says against them."""
+def designed(**asked: Any) -> Any:
+    """What SciPy makes of the words: sections or taps, or a list of these where the words are several designs.
+    `ValueError` has what it says against them."""
     for python in pythons():
         try:
             done = subprocess.run([python, SCRIPT], input=json.dumps(asked), capture_output=True, text=True)

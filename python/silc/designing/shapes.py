@@ -15,38 +15,38 @@ class Shape:
     width: int
     places: int
 
-    def __str__(self):
+    def __str__(self) -> str:
         return f"fix<{self.width},{self.places}>"
 
     @property
-    def whole_bits(self):
+    def whole_bits(self) -> int:
         """The bits before the point, the sign among them."""
         return self.width - self.places
 
     @property
-    def least(self):
+    def least(self) -> int:
         return -(1 << (self.width - 1))
 
     @property
-    def greatest(self):
+    def greatest(self) -> int:
         return (1 << (self.width - 1)) - 1
 
     @property
-    def step(self):
+    def step(self) -> float:
         """The value of the last bit."""
         return 2.0**-self.places
 
-    def has(self, word):
+    def has(self, word: int) -> bool:
         return self.least <= word <= self.greatest
 
-    def value(self, word):
+    def value(self, word: int) -> float:
         return word * self.step
 
-    def nearest(self, value):
+    def nearest(self, value: float | Fraction) -> int:
         """The word that a source's number becomes: the nearest one, and up from the middle."""
         return math.floor(Fraction(value) * 2**self.places + Fraction(1, 2))
 
-    def text(self, word):
+    def text(self, word: int) -> str:
         """The shortest decimal number that becomes this word."""
         exact = Fraction(word, 2**self.places)
         for digits in range(1, MOST_DIGITS):
@@ -58,23 +58,24 @@ class Shape:
         raise ValueError(f"{self} has words that no number of {MOST_DIGITS} digits becomes")
 
 
-def decimal(number, digits):
+def decimal(number: int, digits: int) -> str:
     """A number of so many digits after the point."""
     text = f"{abs(number):0{digits + 1}d}"
     return ("-" if number < 0 else "") + f"{text[:-digits]}.{text[-digits:]}"
 
 
-def shape_of(words):
+def shape_of(words: str) -> Shape:
     """The shape that `W,F` names."""
     found = re.fullmatch(r"(\d{1,2}),(\d{1,2})", words)
     if not found:
         raise ValueError(f"{words} is no shape W,F")
     width, places = map(int, found.groups())
     if not 1 <= width <= WIDEST or places > width:
-        raise ValueError(f"fix<{width},{places}> is no type: it has 1 to {WIDEST} bits, and at most all after the point")
+        raise ValueError(
+            f"fix<{width},{places}> is no type: it has 1 to {WIDEST} bits, and at most all after the point")
     return Shape(width, places)
 
 
-def bits_of(least, greatest):
+def bits_of(least: int, greatest: int) -> int:
     """The bits that words from the least to the greatest need in two's complement."""
     return 1 + max(greatest, -least - 1, 0).bit_length()

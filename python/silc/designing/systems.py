@@ -1,7 +1,7 @@
 """Linear systems of recurrences, their nodes in an order of evaluation, and their loops.
 
-The word of node j at sample n is the sum of `factor` times the word of node i at sample n - `delay`, over the terms of j, and
-of what is put into it there. Factors are binary fractions, as those of fixed-point words are.
+The word of node j at sample n is the sum of `factor` times the word of node i at sample n - `delay`, over the terms of
+j, and of what is put into it there. Factors are binary fractions, as those of fixed-point words are.
 """
 from collections.abc import Iterable, Iterator, Sequence
 from dataclasses import dataclass
@@ -16,15 +16,17 @@ class NoSystem(ValueError):
 
 @dataclass(frozen=True)
 class Edge:
-    """What a node's word adds to another, `delay` samples later: `number` times it, in units of that node's denominator."""
+    """What a node's word adds to another, `delay` samples later: `number` times it, in units of that node's
+    denominator."""
     target: int
     delay: int
     number: int
 
 
 class System:
-    """A system, from the terms of each node as (node, delay, factor). Its nodes are kept by their rank: a node comes behind
-    those that it reads without a delay, and a loop, as a strongly connected part, behind those that lead to it."""
+    """A system, from the terms of each node as (node, delay, factor). Its nodes are kept by their rank: a node comes
+    behind those that it reads without a delay, and a loop, as a strongly connected part, behind those that lead to
+    it."""
 
     def __init__(self, terms: Sequence[Iterable[Term]]):
         merged = [merge(each) for each in terms]
@@ -45,7 +47,8 @@ class System:
         self.ranks = [sorted(self.rank[node] for node in part) for part in self.parts]
         # What a step needs: the edges without a delay and those with one, and what a word loses of its places.
         self.now = [tuple((edge.target, edge.number) for edge in edges if not edge.delay) for edges in self.edges]
-        self.later = [tuple((edge.delay, edge.target, edge.number) for edge in edges if edge.delay) for edges in self.edges]
+        self.later = [tuple((edge.delay, edge.target, edge.number) for edge in edges if edge.delay)
+                      for edges in self.edges]
         self.masks = [(1 << places) - 1 for places in self.shift]
 
     def __len__(self) -> int:
@@ -92,8 +95,13 @@ def places_of(factors: Iterable[Fraction]) -> int:
 
 
 def parts_of(reads: Sequence[Sequence[int]]) -> list[list[int]]:
-    """The strongly connected parts of a graph, each behind those that its nodes read (Tarjan's way, without recursion)."""
-    number, low, on_stack, stack, parts = {}, {}, set(), [], []
+    """The strongly connected parts of a graph, each behind those that its nodes read (Tarjan's way, without
+    recursion)."""
+    number: dict[int, int] = {}
+    low: dict[int, int] = {}
+    on_stack: set[int] = set()
+    stack: list[int] = []
+    parts: list[list[int]] = []
 
     def enter(node: int) -> tuple[int, Iterator[int]]:
         number[node] = low[node] = len(number)
@@ -130,7 +138,8 @@ def ordered(part: Sequence[int], merged: Sequence[dict[tuple[int, int], Fraction
     """The nodes of a part, each behind those that it reads without a delay."""
     if len(part) == 1 and (part[0], 0) not in merged[part[0]]:
         return list(part)
-    inside, readers = set(part), {node: [] for node in part}
+    inside = set(part)
+    readers: dict[int, list[int]] = {node: [] for node in part}
     waits = dict.fromkeys(part, 0)
     for node in part:
         for other in {other for other, delay in merged[node] if not delay and other in inside}:

@@ -1,14 +1,15 @@
 """The words of a program over samples: as it has them, and as they are where none wraps or saturates, in whole numbers
 without bounds."""
 from collections.abc import Sequence, Set
+from typing import Any
 
 from silc.designing.flat import FlatElement, Operation
 from silc.micro_file.operations import FORMATTED
 
 # An expression of a line is at most so deep, since Python has a limit.
 DEEPEST = 40
-# Words without bounds end here. Where a program feeds one back that is meant to wrap, as a generator of noise does, it may
-# double its bits with each sample.
+# Words without bounds end here. Where a program feeds one back that is meant to wrap, as a generator of noise does, it
+# may double its bits with each sample.
 BITS = 256
 LARGEST = 1 << BITS
 BINARY = {"add": "+", "sub": "-", "mul": "*", "lt": "<", "le": "<=", "eq": "==", "ne": "!=", "and": "&", "or": "|"}
@@ -75,7 +76,7 @@ class Writer:
         for each in elements:
             for read, delay in each.reads():
                 self.before[read] = max(self.before[read], delay)
-        self.lines = []
+        self.lines: list[str] = []
 
     def read(self, part: int | tuple[int, int]) -> str:
         """The text of a raw word or a read."""
@@ -124,21 +125,23 @@ class Writer:
             self.element(number)
         head = [f"h{k} = words[{k}]; a{k} = h{k}.append" for k in range(len(self.elements))]
         head += [f"e{k} = exact[{k}].append" for k in self.told_ones]
-        return "\n".join(["def run(words, exact, rows, passed):", *(f"  {line}" for line in head), "  for n, row in rows:",
-                          *(f"    {line}" for line in self.lines)])
+        return "\n".join(["def run(words, exact, rows, passed):", *(f"  {line}" for line in head),
+                          "  for n, row in rows:", *(f"    {line}" for line in self.lines)])
 
 
 class Run:
-    """A program on its way over samples. `words` has for each element its last words before a block of samples, as many as
-    are read with delays, and then those of the block; `exact` has those before they are brought to a width, by number."""
+    """A program on its way over samples. `words` has for each element its last words before a block of samples, as many
+    as are read with delays, and then those of the block; `exact` has those before they are brought to a width, by
+    number."""
 
     def __init__(self, elements: Sequence[FlatElement], bounded_ones: Set[int], told_ones: Set[int] = frozenset()):
-        writer, names = Writer(elements, bounded_ones, told_ones), {}
+        writer = Writer(elements, bounded_ones, told_ones)
+        names: dict[str, Any] = {}
         exec(compile(writer.whole(), "elements", "exec"), names)
         self.elements, self.function, self.before, self.count = elements, names["run"], writer.before, 0
         self.words = [[each.initials.get(back, 0) for back in range(before, 0, -1)]
                       for each, before in zip(elements, self.before)]
-        self.exact = {number: [] for number in told_ones}
+        self.exact: dict[int, list[int]] = {number: [] for number in told_ones}
 
     def over(self, rows: Sequence[Sequence[int]]) -> None:
         """Goes over a block of samples."""
@@ -151,7 +154,8 @@ class Run:
 
     def passed(self, number: int, n: int) -> None:
         name = self.elements[number].name
-        raise Passed(f"without a wrap {name} has more than {BITS} bits at sample {self.count + n + 1}; where it is meant to "
+        raise Passed(f"without a wrap {name} has more than {BITS} bits at sample {self.count + n + 1}; where it is "
+                     f"meant to "
                      f"wrap, --wraps {name} says so")
 
     def block(self, number: int) -> list[int]:

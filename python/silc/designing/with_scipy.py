@@ -1,9 +1,12 @@
-"""Designs a filter by SciPy. It is run by a Python that has it: words as JSON on standard input, coefficients as JSON back.
+"""Designs a filter by SciPy. It is run by a Python that has it: words as JSON on standard input, coefficients as JSON
+back.
 
 The exit status is 3 where this Python has no SciPy.
 """
 import json
 import sys
+from collections.abc import Callable
+from typing import Any
 
 LACKING = 3
 
@@ -13,13 +16,15 @@ except ImportError:
     sys.exit(LACKING)
 
 
-def iir(order, edges, band, kind, ripple, attenuation, rate):
-    made = signal.iirfilter(order, edges if len(edges) > 1 else edges[0], rp=ripple, rs=attenuation, btype=band, ftype=kind,
-                            fs=rate, output="sos")
+def iir(order: int, edges: list[float], band: str, kind: str, ripple: float, attenuation: float,
+        rate: float) -> list[list[float]]:
+    made = signal.iirfilter(order, edges if len(edges) > 1 else edges[0], rp=ripple, rs=attenuation, btype=band,
+                            ftype=kind, fs=rate, output="sos")
     return made.tolist()
 
 
-def kaiser(edges, band, taps, width, attenuation, rate):
+def kaiser(edges: list[float], band: str, taps: int | None, width: float, attenuation: float,
+           rate: float) -> list[float]:
     if taps is None:
         taps, beta = signal.kaiserord(attenuation, width / (rate / 2))
         # A filter that passes half of the rate has an odd number of taps.
@@ -29,13 +34,14 @@ def kaiser(edges, band, taps, width, attenuation, rate):
     return signal.firwin(taps, edges, window=("kaiser", beta), pass_zero=band, fs=rate).tolist()
 
 
-def remez(taps, bands, gains, weights, rate):
+def remez(taps: int, bands: list[float], gains: list[float], weights: list[float] | None, rate: float) -> list[float]:
     return signal.remez(taps, bands, gains, weight=weights, fs=rate).tolist()
 
 
-DESIGNS = {"iir": iir, "kaiser": kaiser, "remez": remez}
+DESIGNS: dict[str, Callable[..., Any]] = {"iir": iir, "kaiser": kaiser, "remez": remez}
 
-def made(asked):
+
+def made(asked: dict[str, Any]) -> Any:
     """The coefficients that a design asks for; of several designs those of each."""
     if "several" in asked:
         return [made(one) for one in asked["several"]]

@@ -1,7 +1,7 @@
 """The worst case of a program: between which words each element stays by any input, as long as nothing wraps.
 
-The inputs, the errors of rounding and what is not linear are sources, whose words lie between two numbers. Each adds to an
-element what the sums of its response allow (`certified`), and constants and initial values add what they do.
+The inputs, the errors of rounding and what is not linear are sources, whose words lie between two numbers. Each adds to
+an element what the sums of its response allow (`certified`), and constants and initial values add what they do.
 """
 import math
 import random
@@ -20,16 +20,22 @@ from silc.designing.unbounded import Passed, Run, order_of, own_run, unbounded_r
 
 # How often the ranges of what is not linear are made smaller by those of what goes in.
 PASSES = 4
-# In which share of the time the responses to the inputs are summed, and those to the errors, of which 2^-ROUGH may be bounded.
-# Nothing of them is summed where they come to such a share of what the inputs do anyway.
+# In which share of the time the responses to the inputs are summed, and those to the errors, of which 2^-ROUGH may be
+# bounded. Nothing of them is summed where they come to such a share of what the inputs do anyway.
 INPUT_SHARE, ERROR_SHARE, ROUGH, FEW = 0.5, 0.7, 7, Fraction(1, 1 << 12)
 TRUTH = 0, 1
 # So much time there is where none is given, and of the last bit so much is left out of the worst input.
 SECONDS, LEFT_OUT = 4.0, Fraction(1, 2)
-# Of an element without a bound inputs of so many samples are tried, and so many rows are compared with those of `silc eval`.
+# Of an element without a bound inputs of so many samples are tried, and so many rows are compared with those of `silc
+# eval`.
 TRIED_LENGTH, COMPARED = 2048, 16
 PASSES_RANGE, SATURATES, INSIDE, FOLLOWS = "may pass its range", "may saturate", "may overflow inside", "follows"
 AT_LEAST, PASSED, UNLINEAR = "at least", "passes its range", "not linear"
+
+
+def size_of(of: Range) -> Fraction:
+    """The greatest magnitude in a range."""
+    return Fraction(max(abs(end) for end in of))
 
 
 @dataclass
@@ -61,7 +67,8 @@ class Reaches:
         self.linear = linear
         self.certified = Certified(System(linear.terms()), seconds)
         self.ranges = {node: self.input_range(node) for node in linear.inputs}
-        self.ranges |= {node: range_of(linear.widths[node]) if linear.widths[node] else TRUTH for node in linear.choices}
+        self.ranges |= {node: range_of(linear.widths[node]) if linear.widths[node] else TRUTH
+                        for node in linear.choices}
         self.norms = dict(zip(self.ranges, self.certified.norms([unit(node) for node in self.ranges], INPUT_SHARE)))
         self.fixed = [(Fraction(0), Fraction(0))] * len(linear.forms)
         self.unbounded: set[int] = set()
@@ -84,7 +91,7 @@ class Reaches:
                   if form.least or form.greatest}
         few: dict[int, Fraction] = {}
         for source in self.linear.inputs:
-            most = max(map(abs, self.ranges[source])) * FEW
+            most = size_of(self.ranges[source]) * FEW
             for node, norm in self.norms[source].items():
                 few[node] = few.get(node, zero) + norm.summed * most
         found, unbounded = self.certified.spread(errors, ERROR_SHARE, ROUGH, few)
@@ -214,7 +221,8 @@ class Worst:
         for number, element in enumerate(self.flat.elements):
             for read, _ in element.reads():
                 readers[read].append(number)
-        queue = [number for number, node in enumerate(self.linear.node_of) if self.said.get(node, SATURATES) != SATURATES]
+        queue = [number for number, node in enumerate(self.linear.node_of)
+                 if self.said.get(node, SATURATES) != SATURATES]
         found: set[int] = set()
         for number in queue:
             for reader in readers[number]:
@@ -272,7 +280,8 @@ class Worst:
         return list(zip(*columns))
 
     def input_of(self, bound: Bound) -> tuple[list[tuple[int, ...]], str]:
-        """The rows of samples that bring an element nearest to its bound at the last of them, and what to say of them."""
+        """The rows of samples that bring an element nearest to its bound at the last of them, and what to say of
+        them."""
         node = self.shown(bound.number)
         if not any(node in self.reaches.norms[source] for source in self.linear.inputs):
             raise ValueError(f"no input reaches {bound.name}")
@@ -281,7 +290,7 @@ class Worst:
             length = self.lengths[node]
             return self.rows(node, length, sign), f"{said} {length} samples; a longer one may bring it further"
         certified = Certified(self.reaches.certified.system, self.seconds)
-        weights = [max(map(abs, self.reaches.ranges[source])) for source in self.linear.inputs]
+        weights = [size_of(self.reaches.ranges[source]) for source in self.linear.inputs]
         length, left = certified.length([unit(source) for source in self.linear.inputs], weights, node, LEFT_OUT)
         said += f" {length} samples"
         if left is None or left > LEFT_OUT:
@@ -290,7 +299,8 @@ class Worst:
         return self.rows(node, length, sign), said
 
     def tried(self) -> dict[int, Range]:
-        """Which words elements without a bound have on inputs of some length, as long as there is time, the last first."""
+        """Which words elements without a bound have on inputs of some length, as long as there is time, the last
+        first."""
         clock, nodes = Clock(self.seconds), {self.shown(number) for number in range(len(self.flat.elements))}
         made = {number: (0, 0) for number in range(len(self.flat.elements))}
         rank = self.reaches.certified.system.rank

@@ -1,18 +1,22 @@
 """The smallest edit with which a program goes on after a token that it can't have there, found by trying."""
 import difflib
 import re
+from collections.abc import Iterator
 from dataclasses import dataclass
 
 from silc.explaining.grammar import Unexpected, parsed
-from silc.explaining.text import KEPT_FOR_LATER, RESERVED, tokens_of
+from silc.explaining.program import Source
+from silc.explaining.text import KEPT_FOR_LATER, RESERVED, Edit, Token, tokens_of
 
 # The end of a body, as its tokens. What closes something stands directly after what is before it.
 END, CLOSING = "end ;", (";", ",", ")", "]", ">", ");")
 # Symbols that may be one with what follows them.
 GLUED = ("->", "<", ">", ":", "=", "|", "||", "-")
 # The tokens that are tried for what the grammar wants, where it is not a token; the first that is in the words.
-FILLS = {"`||` and the value in the other case": "|| 0", "`->` and the value": "-> 0", "`:` and the type": ": fix<16,15>",
-         "`,` and the bits after the point": ", 15", "an expression": "0", "a number": "0", "the number of elements": "1",
+FILLS = {"`||` and the value in the other case": "|| 0", "`->` and the value": "-> 0",
+         "`:` and the type": ": fix<16,15>",
+         "`,` and the bits after the point": ", 15", "an expression": "0", "a number": "0",
+         "the number of elements": "1",
          "a whole number": "1", "the bits of a word": "16", "a type": "fix<16,15>", "an equation, a loop or `end`": END,
          "name": "t", "the index": "i"}
 WORDS, ALIKE = sorted(RESERVED - set(KEPT_FOR_LATER)), 0.6
@@ -24,10 +28,10 @@ EVERYTHING = 1 << 30
 
 @dataclass(frozen=True)
 class Trial:
-    """An edit that is tried at a token: its words, the tokens with it, what is written for how many of them, and whether it
-    is the token before that is replaced. It may be one of several that are as likely."""
+    """An edit that is tried at a token: its words, the tokens with it, what is written for how many of them, and
+    whether it is the token before that is replaced. It may be one of several that are as likely."""
     cure: str
-    tokens: list
+    tokens: list[Token]
     text: str
     removed: int
     added: int
@@ -35,8 +39,9 @@ class Trial:
     is_sure: bool = True
 
 
-def edit_for(source, position, wanted):
-    """The cure for a token where something else is wanted, in words and as edits, or nothing where no edit is good enough."""
+def edit_for(source: Source, position: int, wanted: str) -> tuple[str, list[Edit]] | None:
+    """The cure for a token where something else is wanted, in words and as edits, or nothing where no edit is good
+    enough."""
     tokens = source.tokens
     first = next((k for k in range(position - 1, -1, -1) if tokens[k].text in ("func", "const")), None)
     first = 0 if first is None else first
@@ -44,7 +49,8 @@ def edit_for(source, position, wanted):
         return None
     window = tokens[first:position + AHEAD]
     at, is_all = position - first, position + AHEAD >= len(tokens)
-    is_first = position in (0, len(tokens)) or source.line(tokens[position].start) > source.line(tokens[position - 1].start)
+    is_first = position in (0, len(tokens)) or (
+        source.line(tokens[position].start) > source.line(tokens[position - 1].start))
     # An edit that does not bring the program to the end of this equation says nothing.
     best, reached = None, at
     for trial in trials(window, at, wanted, is_first):
@@ -53,10 +59,12 @@ def edit_for(source, position, wanted):
         end = next((k for k in range(first_kept, len(window)) if window[k].text == ";"), len(window) - 1)
         if goes > max(reached, end):
             best, reached = trial, goes
-    return best and (best.cure, [made_edit(source, position, best)] if best.is_sure else [])
+    if best is None:
+        return None
+    return best.cure, [made_edit(source, position, best)] if best.is_sure else []
 
 
-def trials(window, at, wanted, is_first):
+def trials(window: list[Token], at: int, wanted: str, is_first: bool) -> Iterator[Trial]:
     """The edits at a place, the likeliest first. The token may be the first one of its line."""
     token = window[at].text if at < len(window) else None
     rest = window[at + 1:]
@@ -70,8 +78,8 @@ def trials(window, at, wanted, is_first):
     for shown, text in tries:
         made, _ = tokens_of(text)
         is_exact = shown == f"`{text.replace(' ;', ';')}`"
-        yield Trial(f"write {shown}" + (f" before `{token}`." if token else "."), window[:at] + made + window[at:], text, 0,
-                    len(made),
+        yield Trial(f"write {shown}" + (f" before `{token}`." if token else "."), window[:at] + made + window[at:],
+                    text, 0, len(made),
                     is_sure=is_exact)
         if token:
             yield Trial(f"write {shown} in the place of `{token}`.", window[:at] + made + rest, text, 1, len(made),
@@ -79,7 +87,7 @@ def trials(window, at, wanted, is_first):
     yield from out
 
 
-def misspelt(window, at):
+def misspelt(window: list[Token], at: int) -> Iterator[Trial]:
     """The words of the language that a name there, or the one before it, is like."""
     for place in (at - 1, at):
         token = window[place] if 0 <= place < len(window) else None
@@ -87,12 +95,12 @@ def misspelt(window, at):
                                           ALIKE) if token and token.kind in ("name", "reserved") else ()
         for word in words:
             made, _ = tokens_of(word)
-            yield Trial(f"write `{word}` in the place of `{token.text}`.", window[:place] + made + window[place + 1:], word, 1,
-                        1,
+            yield Trial(f"write `{word}` in the place of `{token.text}`.", window[:place] + made + window[place + 1:],
+                        word, 1, 1,
                         is_before=place < at)
 
 
-def removal(window, at, wanted):
+def removal(window: list[Token], at: int, wanted: str) -> Trial:
     """The edit by which a token goes. It is sure where the token is there twice, and no operator may be missing."""
     token, kind = window[at].text, window[at].kind
     beside = [window[place].text for place in (at - 1, at + 1) if 0 <= place < len(window)]
@@ -106,7 +114,7 @@ def removal(window, at, wanted):
     return Trial(cure, window[:at] + window[at + 1:], "", 1, 0, is_sure=is_sure)
 
 
-def made_edit(source, position, trial):
+def made_edit(source: Source, position: int, trial: Trial) -> Edit:
     """The edit of the text: in the place of a token, or else directly after the one before it."""
     tokens, text = source.tokens, trial.text.replace(" ;", ";")
     if trial.removed:
@@ -119,7 +127,7 @@ def made_edit(source, position, trial):
     return source.text.edit(place, place, lead + text + (" " if rest.isalnum() or rest == "_" or text in GLUED else ""))
 
 
-def fills(wanted):
+def fills(wanted: str) -> Iterator[tuple[str, str]]:
     """What may be written for what is wanted: its words, and its tokens."""
     for words, text in FILLS.items():
         if words in wanted:
@@ -129,7 +137,7 @@ def fills(wanted):
             yield f"`{text}`", text
 
 
-def goes_to(tokens, is_all):
+def goes_to(tokens: list[Token], is_all: bool) -> int:
     """The position of the first token with which no program goes on; one beyond all where there is none."""
     try:
         parsed(tokens)

@@ -1,7 +1,13 @@
 """The tree of a source by the grammar of docs/LANGUAGE.md, or the token at which it ends, and what was wanted there."""
+from __future__ import annotations
+
+from collections.abc import Callable
 from dataclasses import dataclass, field
+from typing import Any, NoReturn, TypeVar
 
 from silc.explaining.text import Token
+
+Thing = TypeVar("Thing")
 
 COMPARISONS = ("<", "<=", "==", "!=", ">", ">=")
 END = Token("end", "", -1, -1)
@@ -10,7 +16,7 @@ END = Token("end", "", -1, -1)
 class Unexpected(Exception):
     """A token with which no program goes on: its position among the tokens, and what was wanted."""
 
-    def __init__(self, position, wanted):
+    def __init__(self, position: int, wanted: str) -> None:
         super().__init__(wanted)
         self.position, self.wanted = position, wanted
 
@@ -23,11 +29,11 @@ class Node:
     start: int
     end: int
     name: str = ""
-    parts: list = field(default_factory=list)
-    subs: list = field(default_factory=list)
-    amount: "Node | None" = None
-    type: "Type | None" = None
-    value: object = None
+    parts: list[Node] = field(default_factory=list)
+    subs: list[Node] = field(default_factory=list)
+    amount: Node | None = None
+    type: Type | None = None
+    value: Any = None
 
 
 @dataclass
@@ -39,7 +45,7 @@ class Type:
     start: int
     end: int
 
-    def shape(self):
+    def shape(self) -> tuple[int | None, int]:
         return self.width, self.places
 
 
@@ -48,7 +54,7 @@ class Decl:
     name: str
     at: int
     end: int
-    dims: list
+    dims: list[int]
     type: Type
     # parameter, result, local or table
     role: str = "local"
@@ -60,7 +66,7 @@ class Table:
     at: int
     end: int
     decl: Decl
-    words: list
+    words: list[Node]
 
 
 @dataclass
@@ -68,53 +74,53 @@ class Func:
     name: str
     at: int
     end: int
-    params: list
-    results: list
-    locals: list
-    items: list
+    params: list[Decl]
+    results: list[Decl]
+    locals: list[Decl]
+    items: list[Node]
 
-    def decls(self):
+    def decls(self) -> list[Decl]:
         return [*self.params, *self.results, *self.locals]
 
 
 class Parser:
     """A list of tokens, and the position up to which they are read."""
 
-    def __init__(self, tokens):
+    def __init__(self, tokens: list[Token]) -> None:
         self.tokens, self.at = tokens, 0
 
-    def token(self, ahead=0):
+    def token(self, ahead: int = 0) -> Token:
         position = self.at + ahead
         return self.tokens[position] if position < len(self.tokens) else END
 
-    def is_next(self, text):
+    def is_next(self, text: str) -> bool:
         return self.token().text == text and self.token().kind != "end"
 
-    def skip(self, text):
+    def skip(self, text: str) -> bool:
         if self.is_next(text):
             self.at += 1
             return True
         return False
 
-    def fail(self, wanted):
+    def fail(self, wanted: str) -> NoReturn:
         raise Unexpected(self.at, wanted)
 
-    def expect(self, text, wanted=None):
+    def expect(self, text: str, wanted: str | None = None) -> Token:
         if not self.is_next(text):
             self.fail(wanted or f"`{text}`")
         self.at += 1
         return self.tokens[self.at - 1]
 
-    def take(self, kind, wanted):
+    def take(self, kind: str, wanted: str) -> Token:
         if self.token().kind != kind:
             self.fail(wanted)
         self.at += 1
         return self.tokens[self.at - 1]
 
-    def last(self):
+    def last(self) -> int:
         return self.tokens[self.at - 1].end
 
-    def many(self, one):
+    def many(self, one: Callable[[], Thing]) -> list[Thing]:
         made = [one()]
         while self.skip(","):
             made.append(one())
@@ -122,8 +128,8 @@ class Parser:
 
     # declarations
 
-    def program(self):
-        tops = []
+    def program(self) -> list[Table | Func]:
+        tops: list[Table | Func] = []
         while self.token().kind != "end":
             if self.is_next("const"):
                 tops.append(self.table())
@@ -133,7 +139,7 @@ class Parser:
                 self.fail("`const` or `func`")
         return tops
 
-    def table(self):
+    def table(self) -> Table:
         self.expect("const")
         name, dims = self.declared()
         self.expect(":")
@@ -149,7 +155,7 @@ class Parser:
         self.expect(";")
         return Table(name.text, name.start, name.end, decl, words)
 
-    def func(self):
+    def func(self) -> Func:
         self.expect("func")
         name = self.take("name", "the name of the function")
         self.expect("(")
@@ -173,32 +179,32 @@ class Parser:
         self.expect(";", "`;` after `end`")
         return Func(name.text, name.start, name.end, params, results, local, items)
 
-    def declared(self):
+    def declared(self) -> tuple[Token, list[int]]:
         name = self.take("name", "a name")
-        dims = []
+        dims: list[int] = []
         while len(dims) < 2 and self.skip("["):
             dims.append(int(self.whole("the number of elements").text))
             self.expect("]")
         return name, dims
 
-    def decl(self, role):
+    def decl(self, role: str) -> Decl:
         name, dims = self.declared()
         self.expect(":", "`:` and the type")
         return Decl(name.text, name.start, name.end, dims, self.type(), role)
 
-    def whole(self, wanted):
+    def whole(self, wanted: str) -> Token:
         if self.token().kind != "number" or "." in self.token().text:
             self.fail(wanted)
         self.at += 1
         return self.tokens[self.at - 1]
 
-    def type(self):
+    def type(self) -> Type:
         token = self.token()
         if self.skip("bool"):
             return Type(None, 0, "bool", token.start, token.end)
         return self.fix()
 
-    def fix(self):
+    def fix(self) -> Type:
         start = self.expect("fix", "a type").start
         self.expect("<")
         width = int(self.whole("the bits of a word").text)
@@ -210,7 +216,7 @@ class Parser:
         self.expect(">")
         return Type(width, places, f"fix<{width},{places}{mode}>", start, self.last())
 
-    def mode(self):
+    def mode(self) -> str:
         if not any(self.is_next(word) for word in ("trunc", "round", "sat")):
             self.fail("`trunc`, `round` or `sat`")
         word = self.token().text
@@ -220,7 +226,7 @@ class Parser:
         self.expect("sat", "`sat`")
         return "round,sat"
 
-    def signed(self):
+    def signed(self) -> Node:
         start = self.token().start
         sign = self.skip("-")
         number = self.take("number", "a number")
@@ -228,7 +234,7 @@ class Parser:
 
     # items
 
-    def items(self):
+    def items(self) -> list[Node]:
         made = []
         while not self.skip("end"):
             if self.token().kind not in ("name",) and not self.is_next("("):
@@ -236,7 +242,7 @@ class Parser:
             made.append(self.item())
         return made
 
-    def item(self):
+    def item(self) -> Node:
         start = self.token().start
         if self.is_next("(") and self.token(1).kind == "name" and self.token(2).text == ":":
             return self.loop(start)
@@ -260,7 +266,7 @@ class Parser:
         self.expect(";", "an operator or `;`")
         return Node("equation", target.at, start, self.last(), parts=[target, value])
 
-    def loop(self, start):
+    def loop(self, start: int) -> Node:
         self.expect("(")
         index = self.take("name", "the index of the loop")
         self.expect(":")
@@ -274,7 +280,7 @@ class Parser:
         self.expect(";", "`;` after `end`")
         return Node("loop", start, start, self.last(), index.text, items, [low, high], value=index)
 
-    def call(self, start, targets):
+    def call(self, start: int, targets: list[Node]) -> Node:
         name = self.take("name", "the name of a function")
         self.expect("(")
         arguments = self.many(self.expression)
@@ -282,13 +288,13 @@ class Parser:
         self.expect(";")
         return Node("call", name.start, start, self.last(), name.text, arguments, targets, value=name)
 
-    def target(self):
+    def target(self) -> Node:
         name = self.take("name", "the name of a signal")
         subs = self.subscripts()
         return Node("target", name.start, name.start, self.last(), name.text, subs=subs)
 
-    def subscripts(self):
-        made = []
+    def subscripts(self) -> list[Node]:
+        made: list[Node] = []
         while len(made) < 2 and self.skip("["):
             made.append(self.manifest())
             self.expect("]")
@@ -296,26 +302,26 @@ class Parser:
 
     # manifest numbers
 
-    def manifest(self):
+    def manifest(self) -> Node:
         left = self.term()
         while self.is_next("+") or self.is_next("-"):
             left = self.joined("manifest", left, self.term)
         return left
 
-    def term(self):
+    def term(self) -> Node:
         left = self.factor()
         while self.is_next("*"):
             left = self.joined("manifest", left, self.factor)
         return left
 
-    def factor(self):
+    def factor(self) -> Node:
         start = self.token().start
         if self.skip("-"):
             inside = self.factor()
             return Node("minus", start, start, inside.end, parts=[inside])
         return self.manifest_primary()
 
-    def manifest_primary(self):
+    def manifest_primary(self) -> Node:
         token = self.token()
         if self.skip("("):
             inside = self.manifest()
@@ -329,43 +335,43 @@ class Parser:
 
     # expressions
 
-    def joined(self, kind, left, part):
+    def joined(self, kind: str, left: Node, part: Callable[[], Node]) -> Node:
         operator = self.token()
         self.at += 1
         right = part()
         return Node(kind, operator.start, left.start, self.last(), operator.text, [left, right])
 
-    def expression(self):
+    def expression(self) -> Node:
         left = self.conjunction()
         while self.is_next("|"):
             left = self.joined("logic", left, self.conjunction)
         return left
 
-    def conjunction(self):
+    def conjunction(self) -> Node:
         left = self.comparison()
         while self.is_next("&"):
             left = self.joined("logic", left, self.comparison)
         return left
 
-    def comparison(self):
+    def comparison(self) -> Node:
         left = self.sum()
         if self.token().text in COMPARISONS:
             left = self.joined("comparison", left, self.sum)
         return left
 
-    def sum(self):
+    def sum(self) -> Node:
         left = self.product()
         while self.is_next("+") or self.is_next("-"):
             left = self.joined("sum", left, self.product)
         return left
 
-    def product(self):
+    def product(self) -> Node:
         left = self.shift()
         while self.is_next("*"):
             left = self.joined("product", left, self.shift)
         return left
 
-    def shift(self):
+    def shift(self) -> Node:
         left = self.unary()
         while self.is_next("<<") or self.is_next(">>"):
             operator = self.token()
@@ -374,17 +380,18 @@ class Parser:
             left = Node("shift", operator.start, left.start, self.last(), operator.text, [left], amount=amount)
         return left
 
-    def unary(self):
+    def unary(self) -> Node:
         token = self.token()
         if token.text == "-" and self.token(1).kind == "number":
             return self.signed()
         if token.text in ("-", "!"):
             self.at += 1
             inside = self.unary()
-            return Node("negation" if token.text == "-" else "not", token.start, token.start, inside.end, token.text, [inside])
+            return Node("negation" if token.text == "-" else "not", token.start, token.start, inside.end, token.text,
+                        [inside])
         return self.primary()
 
-    def primary(self):
+    def primary(self) -> Node:
         token = self.token()
         if token.kind == "number":
             return self.signed()
@@ -408,18 +415,18 @@ class Parser:
             back = self.manifest_primary()
         return Node("read", token.start, token.start, self.last(), token.text, subs=subs, amount=back)
 
-    def truth(self):
+    def truth(self) -> Node:
         token = self.token()
         self.at += 1
         return Node("truth", token.start, token.start, token.end, value=token.text)
 
-    def in_parentheses(self):
+    def in_parentheses(self) -> Node:
         self.expect("(")
         inside = self.expression()
         self.expect(")", "an operator or `)`")
         return inside
 
-    def choice(self):
+    def choice(self) -> Node:
         start = self.expect("if").start
         condition = self.expression()
         self.expect("->", "an operator or `->` and the value")
@@ -433,6 +440,6 @@ class Parser:
             parts += [value, self.expression()]
 
 
-def parsed(tokens):
+def parsed(tokens: list[Token]) -> list[Table | Func]:
     """The tables and functions of a source, in order. Raises Unexpected where its tokens are no program."""
     return Parser(tokens).program()

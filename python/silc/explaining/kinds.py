@@ -1,6 +1,7 @@
 """Files in the place of others: what kind a file looks like."""
 import re
 
+from silc.explaining.command import Case
 from silc.explaining.outputs import COMMANDS
 from silc.explaining.refusals import COMMANDS_PAGE
 from silc.explaining.report import Report, listed
@@ -13,7 +14,7 @@ KEY = re.compile(rb"\s*(\[\[(unit|bus)\]\]|(period|word|hold|name|kind|files|lat
 WORD = re.compile(rb"\s*(/\*|(func|const|var|begin)\b)")
 
 
-def kind_of(data):
+def kind_of(data: bytes) -> str | None:
     """What kind of file the bytes look like, or nothing."""
     if data.startswith(MAGIC):
         return "MIC"
@@ -25,7 +26,7 @@ def kind_of(data):
     return "SAMPLES" if lines and all(map(ROW.fullmatch, lines[:-1] or lines)) else None
 
 
-def other_kind(case, what):
+def other_kind(case: Case, what: str) -> Report | None:
     """The report where a file looks like one of another kind."""
     with open(case.files[what], "rb") as file:
         found = kind_of(file.read(HEAD))
@@ -46,7 +47,7 @@ def other_kind(case, what):
         .note(f"The words of `{command}` are `{order}`.")
 
 
-def looks_like(name, what):
+def looks_like(name: str, what: str) -> bool:
     try:
         with open(name, "rb") as file:
             return kind_of(file.read(HEAD)) == what

@@ -2,10 +2,11 @@
 import re
 from decimal import Decimal
 
+from silc.explaining.program import Source
 from silc.explaining.refusals import language
 from silc.explaining.report import Report
 from silc.explaining.table_words import in_words, words_of_table
-from silc.explaining.text import RESERVED
+from silc.explaining.text import RESERVED, Text
 
 TEXT = language("Text")
 LONGEST_NUMBER = 18
@@ -14,7 +15,8 @@ LOOKALIKES = {"\u2212": "-", "\u2013": "-", "\u2014": "-", "\u00d7": "*", "\u00b
               "\u2265": ">=", "\u2260": "!=", "\u00a0": " ", "\uff1b": ";", "\u2026": ".."}
 BYTE_ORDER_MARK = "\ufeff"
 CURES = {
-    "/": ("there is no division", "divide by a power of two by a shift, as `x >> 1`, and else multiply by the inverse, as "
+    "/": ("there is no division",
+          "divide by a power of two by a shift, as `x >> 1`, and else multiply by the inverse, as "
           "`x * 0.5`.", "Equations"),
     "%": ("there is no remainder", "write a subtraction or a shift.", "Equations"),
     "^": ("there is no power", "write a product.", "Equations"),
@@ -29,7 +31,7 @@ CURES = {
 WRITTEN = {"{": "begin", "}": "end;", "~": "!"}
 
 
-def bad_byte(source, at):
+def bad_byte(source: Source, at: int) -> Report:
     text, chars = source.text, source.text.chars
     char, after = chars[at], chars[at + 1:at + 2]
     if char == "/" and after == "/":
@@ -54,8 +56,9 @@ def bad_byte(source, at):
     return other_character(source, at)
 
 
-def question_mark(text, at):
-    """The report on a choice `condition ? value : other`, which is written as a choice of this language where it is simple."""
+def question_mark(text: Text, at: int) -> Report:
+    """The report on a choice `condition ? value : other`, which is written as a choice of this language where it is
+    simple."""
     short, cure, section = CURES["?"]
     line = text.starts[text.line_of(at) - 1]
     before = re.search(r"(?<![=<>!])=(?!=)\s*((?:[^?;:=<>!]|[=<>!]=|[<>!])+)$", text.chars[line:at])
@@ -68,7 +71,7 @@ def question_mark(text, at):
         .by(text.edit(line + before.start(1), at + after.end() - 1, written))
 
 
-def is_balanced(part):
+def is_balanced(part: str) -> bool:
     """Whether a part of an expression closes what it opens, and nothing else."""
     depth = 0
     for char in part:
@@ -78,7 +81,7 @@ def is_balanced(part):
     return depth == 0
 
 
-def line_comment(text, at, mark, short):
+def line_comment(text: Text, at: int, mark: str, short: str) -> Report:
     """The report on a comment that goes to the end of its line in another language."""
     end = text.chars.find("\n", at)
     end = len(text.chars.rstrip("\n")) if end < 0 else end
@@ -87,7 +90,7 @@ def line_comment(text, at, mark, short):
     return report if "*/" in said else report.by(text.edit(at, end, f"/* {said} */"))
 
 
-def other_character(source, at):
+def other_character(source: Source, at: int) -> Report:
     """The report on a character that is none of the language's."""
     text, end = source.text, at + width_of(source.text, at)
     char = text.data[at:end].decode(errors="replace")
@@ -96,17 +99,18 @@ def other_character(source, at):
         return Report(f"{byte_name(text, at)} looks like `{LOOKALIKES[char]}`, and is another character",
                       f"write `{LOOKALIKES[char]}`.", TEXT, span).by(text.edit(at, end, LOOKALIKES[char]))
     if char == BYTE_ORDER_MARK:
-        return Report("the file begins with a byte order mark, which is no blank", "save it as UTF-8 without one.", TEXT,
-                      span) \
+        return Report("the file begins with a byte order mark, which is no blank", "save it as UTF-8 without one.",
+                      TEXT, span) \
             .by(text.edit(at, end, ""))
     if char.isalpha():
         return Report(f"a name has the letters `a` to `z` and `A` to `Z`, digits and `_`, and no `{char}`",
                       "take another name, or put the text into a comment `/* .. */`.", TEXT, span)
-    return Report(f"{byte_name(text, at)} is no part of the language, which has letters, digits, `_` and the operators of its "
+    return Report(f"{byte_name(text, at)} is no part of the language, which has letters, digits, `_` and the operators "
+                  f"of its "
                   f"table", "take it out, or put it into a comment `/* .. */`.", TEXT, span)
 
 
-def division(source, at):
+def division(source: Source, at: int) -> Report:
     """A division, with the shift or the product that does it where the divisor is a number."""
     found = re.match(r"/\s*(\d{1,6}(?:\.\d{1,6})?)(?![\w.])", source.text.chars[at:at + 40])
     by = float(found[1]) if found else 0
@@ -119,7 +123,7 @@ def division(source, at):
                   source.text.span(at, at + found.end())).by(source.text.edit(at, at + found.end(), written))
 
 
-def bad_point(source, at):
+def bad_point(source: Source, at: int) -> Report:
     before = re.search(r"\d+$", source.text.chars[:at])
     after = re.match(r"\d+", source.text.chars[at + 1:])
     if before:
@@ -131,10 +135,11 @@ def bad_point(source, at):
         return Report(f"a number has digits on both sides of its point, and `.{after[0]}` has none before it",
                       f"write `0.{after[0]}`.", TEXT, source.text.span(at, at + 1 + after.end())) \
             .by(source.text.edit(at, at, "0"))
-    return Report("a point stands in numbers only", "take it out, or write `..` for a range.", TEXT, source.text.span(at))
+    return Report("a point stands in numbers only", "take it out, or write `..` for a range.", TEXT,
+                  source.text.span(at))
 
 
-def width_of(text, at):
+def width_of(text: Text, at: int) -> int:
     """How many bytes the character has that begins there."""
     for count in range(1, 5):
         try:
@@ -145,7 +150,7 @@ def width_of(text, at):
     return 1
 
 
-def byte_name(text, at):
+def byte_name(text: Text, at: int) -> str:
     data = text.data[at:at + width_of(text, at)]
     try:
         char = data.decode()
@@ -154,14 +159,14 @@ def byte_name(text, at):
         return f"the byte 0x{data[0]:02x}"
 
 
-def bad_number(source, at):
+def bad_number(source: Source, at: int) -> Report:
     found = re.match(r"\d+(\.\d+)?", source.text.chars[at:])
     word = re.match(r"[\w.]+", source.text.chars[at:], re.A)[0]
     rest = word[found.end():]
     span = source.text.span(at, at + len(word))
     if sum(char.isdigit() for char in found[0]) > LONGEST_NUMBER:
-        return Report(f"a number has at most {LONGEST_NUMBER} digits", "write fewer digits: a word has at most 40 bits.", TEXT,
-                      span)
+        return Report(f"a number has at most {LONGEST_NUMBER} digits",
+                      "write fewer digits: a word has at most 40 bits.", TEXT, span)
     if re.fullmatch(r"0[xX][0-9A-Fa-f]+|0[bB][01]+", word):
         return Report("numbers are decimal", f"write `{int(word, 0)}`.", TEXT,
                       span).by(source.text.edit(at, at + len(word), f"{int(word, 0)}"))
@@ -170,8 +175,8 @@ def bad_number(source, at):
     if power:
         return with_power(source, at, power[0], short)
     if re.fullmatch(r"[fFlLuU]+|[A-Za-z_]\w*\..*", rest):
-        return Report(short, f"write `{found[0]}`." if len(rest) < 4 else "write a blank or an operator between them.", TEXT,
-                      span)
+        return Report(short, f"write `{found[0]}`." if len(rest) < 4 else "write a blank or an operator between them.",
+                      TEXT, span)
     if re.fullmatch(r"(_\d+)+", rest):
         written = word.replace("_", "")
         return Report("a number has digits, and no `_` between them", f"write `{written}`.", TEXT, span) \
@@ -182,7 +187,7 @@ def bad_number(source, at):
     return Report(short, cure, TEXT, span).by(source.text.edit(at, at + len(word), f"{found[0]} * {rest}"))
 
 
-def with_power(source, at, word, short):
+def with_power(source: Source, at: int, word: str, short: str) -> Report:
     """The report on a number with a power of ten, as 1e-3."""
     digits = format(Decimal(word), "f")
     span = source.text.span(at, at + len(word))
@@ -191,7 +196,7 @@ def with_power(source, at, word, short):
     return Report(short, f"write all digits: `{digits}`.", TEXT, span).by(source.text.edit(at, at + len(word), digits))
 
 
-def open_comment(source, at):
+def open_comment(source: Source, at: int) -> Report:
     end = source.text.chars.find("\n", at)
     end = len(source.text.chars.rstrip("\n")) if end < 0 else end
     return Report("this comment has no end", "write `*/` at its end.", TEXT, source.text.span(at, end)) \

@@ -4,29 +4,45 @@ import errno
 import os
 import resource
 import stat
+from collections.abc import Iterator
+from contextlib import suppress
 
+from silc.explaining.command import Case
 from silc.explaining.refusals import COMMANDS_PAGE
 from silc.explaining.report import Report
+from silc.nets import NetFault, net_file_of
 
-INPUTS = ("SRC", "DP", "MIC", "SAMPLES")
+INPUTS = ("SRC", "DP", "MIC", "NET", "SAMPLES")
 
 
-def report_of(case):
+def inputs_of(case: Case) -> Iterator[tuple[str, str]]:
+    """What is read, in order, each with what it is: of a net the files of its processors before the samples."""
+    for what in INPUTS:
+        if what in case.files:
+            yield what, case.files[what]
+        if what == "NET" and what in case.files and not unread(case.files[what]):
+            with suppress(NetFault):
+                for number, processor in enumerate(net_file_of(case.text(what).data).processors):
+                    yield from ((f"`src` of processor {number}", processor.src),
+                                (f"`dp` of processor {number}", processor.dp))
+
+
+def report_of(case: Case) -> Report:
     if case.status == 1:
         return Report("there is no memory left", "run it where there is more, or with a smaller source.", COMMANDS_PAGE,
                       about="silc")
-    for what in INPUTS:
-        if what in case.files:
-            fault = unread(case.files[what])
-            if fault:
-                return unreadable(what, case.files[what], fault)
+    for what, name in inputs_of(case):
+        fault = unread(name)
+        if fault:
+            return unreadable(what, name, fault)
     if "OUT" in case.files:
         return unwritten(case.files["OUT"])
-    return Report("standard output could not be written", "see where it goes: to a full disk, or to a program that has ended.",
+    return Report("standard output could not be written",
+                  "see where it goes: to a full disk, or to a program that has ended.",
                   COMMANDS_PAGE, about="silc")
 
 
-def unread(name):
+def unread(name: str) -> OSError | None:
     """Why a file can't be read."""
     try:
         with open(name, "rb") as file:
@@ -36,7 +52,7 @@ def unread(name):
     return None
 
 
-def unreadable(what, name, fault):
+def unreadable(what: str, name: str, fault: OSError) -> Report:
     cures = {errno.ENOENT: "give the name of a file that is there.", errno.EISDIR: "give the name of a file in it.",
              errno.ENOTDIR: "give a name in a folder: a part of this one is a file.",
              errno.EACCES: f"ask for the right to read it, as by `chmod +r {name}`."}
@@ -49,7 +65,7 @@ def unreadable(what, name, fault):
     return report
 
 
-def near_file(name):
+def near_file(name: str) -> str | None:
     """The name of a file beside it that is most like the name."""
     folder, last = os.path.split(name)
     try:
@@ -60,12 +76,13 @@ def near_file(name):
     return os.path.join(folder, near[0]) if near else None
 
 
-def unwritten(name):
+def unwritten(name: str) -> Report:
     """Why an output can't be written, as the system says it of the name, its folder and its disk."""
     target = os.path.realpath(name) if os.path.islink(name) else name
     folder = os.path.dirname(target) or "."
     if os.path.isdir(name):
-        return no_output(name, os.strerror(errno.EISDIR), f"give the name of a file, as `{os.path.join(name, 'rows.txt')}`.")
+        return no_output(name, os.strerror(errno.EISDIR),
+                         f"give the name of a file, as `{os.path.join(name, 'rows.txt')}`.")
     fault = stat_fault(target)
     if fault == errno.ENOTDIR:
         return no_output(name, os.strerror(fault), "give a name in a folder: a part of this one is a file.")
@@ -84,18 +101,18 @@ def unwritten(name):
         return no_output(name, os.strerror(errno.EACCES),
                          f"give a name in another folder, or ask for the right to make files in "
                          f"{place_of(folder)}.")
-    fault = no_room(name, folder)
-    if fault:
-        return no_output(name, *fault)
+    room = no_room(name, folder)
+    if room:
+        return no_output(name, *room)
     return no_output(name, "the system has not said why", "give another name.")
 
 
-def place_of(folder):
+def place_of(folder: str) -> str:
     """A folder in words that name it: one that is told by its way from here has its whole name too."""
     return f"`{folder}`" if folder.strip("./") else f"`{os.path.abspath(folder)}`"
 
 
-def stat_fault(name):
+def stat_fault(name: str) -> int | None:
     """The number of the fault with which the system answers for a name, or nothing."""
     try:
         os.stat(name)
@@ -104,7 +121,7 @@ def stat_fault(name):
     return None
 
 
-def no_room(name, folder):
+def no_room(name: str, folder: str) -> tuple[str | None, str] | None:
     """What the system says where there is no room for more, and the cure."""
     try:
         if os.path.exists(name) and stat.S_ISCHR(os.stat(name).st_mode):
@@ -121,5 +138,5 @@ def no_room(name, folder):
     return None
 
 
-def no_output(name, why, cure):
+def no_output(name: str, why: str | None, cure: str) -> Report:
     return Report(f"OUT can't be written: {why}", cure, COMMANDS_PAGE, about=name)

@@ -1,13 +1,17 @@
 """Why a file is no microcode, and which parts of microcode are in conflict."""
 import sys
 import tomllib
+from collections.abc import Sequence
 from pathlib import Path
 
+from silc.explaining.command import Case
 from silc.explaining.kinds import other_kind
-from silc.explaining.refusals import CONFLICTS, MICROCODE, refusal_of
+from silc.explaining.refusals import CONFLICTS, MICROCODE, Refusal, refusal_of
 from silc.explaining.report import Report, counted, listed
+from silc.explaining.text import Text
 from silc.hardware.datapath import called, unit_faults
 from silc.micro_file import FIELD, MAGIC, SHORT, TRAILING, BadImage, image_of
+from silc.micro_file.image import Image, Issue, Word
 
 MOST_BYTES = 1 << 26
 # The version, in which fields have bits and no whole bytes. Bit 0 of a byte is its most significant.
@@ -16,7 +20,7 @@ PORTS_OF_UNIT = 4
 CONFLICT, BAD_WORDS = 12, 2
 
 
-def report_of(case):
+def report_of(case: Case) -> Report | None:
     text = case.text("MIC")
     if case.status == 12:
         return Conflict(image_of(text.data), case).report()
@@ -26,7 +30,7 @@ def report_of(case):
     return other_kind(case, "MIC") or no_image(text)
 
 
-def no_image(text):
+def no_image(text: Text) -> Report | None:
     try:
         image_of(text.data)
     except BadImage as fault:
@@ -34,7 +38,7 @@ def no_image(text):
     return None
 
 
-def bad_field(text, fault):
+def bad_field(text: Text, fault: BadImage) -> Report:
     cure = "compile the source again, or write what is allowed there."
     if not text.data:
         return Report("the file is empty", "compile the source again.", MICROCODE, about=text.name)
@@ -53,12 +57,12 @@ def bad_field(text, fault):
                   about=text.name)
 
 
-def at_start(clause):
+def at_start(clause: str) -> str:
     """A clause at the beginning of a sentence; a name keeps its letters."""
     return clause if clause.startswith("`") else clause.capitalize()
 
 
-def shown_bytes(data):
+def shown_bytes(data: bytes) -> str:
     """Bytes as letters where they are some, or else as numbers."""
     text = data.decode("latin-1")
     return f"`{text}`" if text.isascii() and text.isprintable() else "the bytes " + data.hex(" ")
@@ -67,21 +71,21 @@ def shown_bytes(data):
 class Called:
     """What units, ports and buses of an image are called: by their numbers, or by the names in its datapath file."""
 
-    def __init__(self, kinds=(), units=(), buses=()):
+    def __init__(self, kinds: Sequence[str] = (), units: Sequence[str] = (), buses: Sequence[str] = ()) -> None:
         self.kinds, self.units, self.buses = kinds, units, buses
 
-    def unit(self, number):
+    def unit(self, number: int) -> str:
         kind = f" ({self.kinds[number]})" if number < len(self.kinds) else ""
         return f"`{self.units[number]}`" + kind if number < len(self.units) else f"unit {number}{kind}"
 
-    def port(self, unit, port):
+    def port(self, unit: int, port: int) -> str:
         return f"`{self.units[unit]}.{port}`" if unit < len(self.units) else f"unit {unit}, port {port}"
 
-    def bus(self, number):
+    def bus(self, number: int) -> str:
         return f"`{self.buses[number]}`" if number < len(self.buses) else f"bus {number}"
 
 
-def names_in(file, image):
+def names_in(file: str | Path, image: Image | None) -> tuple[Sequence[str], Sequence[str], str | None]:
     """The names of units and of buses in a datapath file, or why they are not those of an image."""
     try:
         tree = tomllib.loads(Path(file).read_text(encoding="utf-8-sig"))
@@ -94,12 +98,12 @@ def names_in(file, image):
     except (TypeError, AttributeError, ValueError) as why:
         return (), (), f"{file} is no datapath file: {why}"
     if image and not fault and (tree.get("period"), len(buses)) != (image.period, image.buses):
-        fault = f"it has a period of {tree.get('period')} and {counted(len(buses), 'bus', 'buses')}, and the microcode " \
-                f"{image.period} and {image.buses}"
+        fault = (f"it has a period of {tree.get('period')} and {counted(len(buses), 'bus', 'buses')}, and the "
+                 f"microcode {image.period} and {image.buses}")
     return ((), (), f"{file} is not the datapath of the microcode: {fault}") if fault else (units, buses, None)
 
 
-def told_place(line, datapath=None):
+def told_place(line: str, datapath: str | None = None) -> int:
     """Prints in a line which unit, port or bus the place of a conflict is. Gives the exit status."""
     found = refusal_of(line)
     if not found or found[0].code != CONFLICT:
@@ -118,7 +122,7 @@ def told_place(line, datapath=None):
     return 0
 
 
-def kind_of(refusal):
+def kind_of(refusal: Refusal) -> str:
     """Which conflict a refusal is."""
     return refusal.text.partition(": ")[2].removesuffix(" PLACE")
 
@@ -126,7 +130,7 @@ def kind_of(refusal):
 class Conflict:
     """A conflict of an image: the cycle and the place that `silc` names."""
 
-    def __init__(self, image, case):
+    def __init__(self, image: Image, case: Case) -> None:
         self.image, self.name = image, case.files["MIC"]
         self.cycle, self.place = int(case.values["cycle"]), int(case.values["place"])
         self.kind = kind_of(case.refusal)
@@ -134,52 +138,56 @@ class Conflict:
         units, buses, self.unnamed = names_in(case.datapath, image) if case.datapath else ((), (), None)
         self.called = Called([unit.kind for unit in image.units], units, buses)
 
-    def number(self, cycle):
+    def number(self, cycle: int) -> int:
         return cycle % len(self.image.words)
 
-    def at(self, cycle):
+    def at(self, cycle: int) -> Word:
         return self.image.words[self.number(cycle)]
 
-    def unit(self, number):
+    def unit(self, number: int) -> str:
         return self.called.unit(number)
 
-    def issue(self, cycle, unit):
+    def issue(self, cycle: int, unit: int) -> Issue | None:
         """The issue on a unit in a cycle."""
         if cycle < 0:
             return None
         return self.at(cycle).issues.get(unit)
 
-    def begun(self, unit):
+    def begun(self, unit: int) -> Issue | None:
         """The issue whose result a unit has in the cycle of the conflict, or nothing."""
         return self.issue(self.cycle - self.image.units[unit].latency + 1, unit)
 
-    def result(self, unit):
+    def result(self, unit: int) -> str:
         """What the word on the buses of a unit is, in the cycle of the conflict."""
         issue = self.begun(unit)
         begun = self.cycle - self.image.units[unit].latency + 1
         return f"the result of `{issue.text()}`, which begins in cycle {begun}" if issue else "no result"
 
-    def report(self):
+    def report(self) -> Report:
         report = {"busy": self.busy, "two drivers": self.two_drivers, "file twice": self.file_twice,
                   "no driver": self.no_driver, "no result": self.no_result, "address": self.address}[self.kind]()
         report.about = self.name
         sample = self.cycle // self.image.period
         report.notes.insert(0, type(report)("", "", "").note(
-            f"Cycle {self.cycle} is in sample {sample}, and obeys word {self.word} (`silc list {self.name}`).").notes[0])
+            f"Cycle {self.cycle} is in sample {sample}, and obeys word {self.word} (`silc list {self.name}`).").notes[
+                0])
         if self.unnamed:
             report.note(f"The names are not known: {self.unnamed}.")
         return report
 
-    def busy(self):
+    def busy(self) -> Report:
         unit = self.image.units[self.place]
-        earlier = next(cycle for cycle in range(self.cycle - 1, self.cycle - unit.gap, -1) if self.issue(cycle, self.place))
-        report = Report(f"{self.unit(self.place)} is issued {counted(self.cycle - earlier, 'cycle')} after its last issue, and its "
-                        f"gap is {unit.gap}", f"issue one of the two in another cycle: {unit.gap} after the other, or more.",
+        earlier = next(cycle for cycle in range(self.cycle - 1, self.cycle - unit.gap, -1)
+                       if self.issue(cycle, self.place))
+        report = Report(f"{self.unit(self.place)} is issued {counted(self.cycle - earlier, 'cycle')} after its last "
+                        f"issue, and its "
+                        f"gap is {unit.gap}",
+                        f"issue one of the two in another cycle: {unit.gap} after the other, or more.",
                         CONFLICTS)
         report.note(f"In cycle {earlier} it begins `{self.issue(earlier, self.place).text()}`.")
         return report.note(f"In cycle {self.cycle} it begins `{self.issue(self.cycle, self.place).text()}`.")
 
-    def two_drivers(self):
+    def two_drivers(self) -> Report:
         units = self.at(self.cycle).drivers(self.place)
         report = Report(f"{listed(map(self.unit, units))} drive {self.called.bus(self.place)} in one cycle",
                         "drive another bus with one of them, or issue one of the two in another cycle.", CONFLICTS)
@@ -190,10 +198,11 @@ class Conflict:
             report.cure = f"leave the drive of {self.unit(idle[0])} out."
         return report
 
-    def file_twice(self):
+    def file_twice(self) -> Report:
         unit, port = divmod(self.place, PORTS_OF_UNIT)
         takes = [(bus, register) for u, p, bus, register in self.at(self.cycle).takes if (u, p) == (unit, port)]
-        report = Report(f"the register file of {self.called.port(unit, port)} takes {counted(len(takes), 'word')} in one "
+        report = Report(f"the register file of {self.called.port(unit, port)} takes {counted(len(takes), 'word')} in "
+                        f"one "
                         "cycle, and one is the most",
                         "issue one of the operations in another cycle.", CONFLICTS)
         for bus, register in takes:
@@ -202,11 +211,11 @@ class Conflict:
             report.cure = "leave one of the two takes out: both take the same word."
         return report
 
-    def on_bus(self, bus):
+    def on_bus(self, bus: int) -> str:
         unit = next(iter(self.at(self.cycle).drivers(bus)), None)
         return "a word that nothing drives" if unit is None else f"{self.result(unit)} on {self.unit(unit)}"
 
-    def no_driver(self):
+    def no_driver(self) -> Report:
         takes = [take for take in self.at(self.cycle).takes if take.bus == self.place]
         bus = self.called.bus(self.place)
         report = Report(f"nothing drives {bus}, and {counted(len(takes), 'register takes', 'registers take')} from it",
@@ -222,22 +231,25 @@ class Conflict:
                                                        bus in drives])
                                                if drives else "no bus is driven") + ".")
 
-    def no_result(self):
+    def no_result(self) -> Report:
         unit = self.image.units[self.place]
         begun = self.cycle - unit.latency + 1
         buses = [bus for number, bus in self.at(self.cycle).enables if number == self.place]
-        report = Report(f"{self.unit(self.place)} drives {listed(map(self.called.bus, buses))}, and has no result in this cycle",
-                        f"drive the bus in the cycle of the result, which is there {counted(unit.latency - 1, 'cycle')} after its "
+        report = Report(f"{self.unit(self.place)} drives {listed(map(self.called.bus, buses))}, and has no result in "
+                        f"this cycle", f"drive the bus in the cycle of the result, which is there "
+                        f"{counted(unit.latency - 1, 'cycle')} after its "
                         f"issue and then no more, or leave the drive out.", CONFLICTS)
-        report.note(f"Its latency is {unit.latency}, so the operation would have to begin in cycle {begun}, and none does.")
+        report.note(
+            f"Its latency is {unit.latency}, so the operation would have to begin in cycle {begun}, and none does.")
         near = [cycle for cycle in range(max(0, self.cycle - self.image.period), self.cycle + 1)
                 if self.issue(cycle, self.place)]
         if near:
-            report.note(f"It begins `{self.issue(near[-1], self.place).text()}` in cycle {near[-1]}, with the result in cycle "
+            report.note(f"It begins `{self.issue(near[-1], self.place).text()}` in cycle {near[-1]}, with the result "
+                        f"in cycle "
                         f"{near[-1] + unit.latency - 1}.")
         return report
 
-    def address(self):
+    def address(self) -> Report:
         unit, issue = self.image.units[self.place], self.issue(self.cycle, self.place)
         register = issue.registers[0]
         last = len(unit.cells) - 1
@@ -248,9 +260,10 @@ class Conflict:
         report.note(f"The unit has {counted(len(unit.cells), 'cell')}, and reads the address from register {register} "
                     f"of {port}.")
         written = self.last_write(self.place, 0, register)
-        return report.note(written) if written else report.note("Nothing was written there before: it has its first word.")
+        return report.note(written) if written else report.note(
+            "Nothing was written there before: it has its first word.")
 
-    def last_write(self, unit, port, register):
+    def last_write(self, unit: int, port: int, register: int) -> str | None:
         for cycle in range(self.cycle - 1, max(-1, self.cycle - 1 - 2 * len(self.image.words)), -1):
             for u, p, bus, r in self.at(cycle).takes:
                 if (u, p, r) == (unit, port, register):

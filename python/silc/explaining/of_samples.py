@@ -3,14 +3,19 @@ import codecs
 import math
 import os
 import re
+from collections.abc import Sequence
 from dataclasses import dataclass
 from fractions import Fraction
 
+from silc.explaining.command import Case
 from silc.explaining.kinds import other_kind
 from silc.explaining.refusals import ROWS
 from silc.explaining.report import Report, counted, listed
+from silc.explaining.text import Edit, Text
 
 END = 1 << 32
+# A net reads its samples whole.
+NET_BYTES = 1 << 20
 TRUTHS = {"true": 1, "false": 0}
 EXPONENT = re.compile(r"[-+]?\d+(\.\d+)?[eE][-+]?\d{1,2}")
 NUMBER = re.compile(r"[-+]?\d*\.\d+|[-+]?\d+\.\d*")
@@ -23,19 +28,23 @@ class Channel:
     width: int
     places: int | None
 
-    def range(self):
+    def range(self) -> tuple[int, int]:
         return (0, 1) if self.width == 0 else (-(2 ** (self.width - 1)), 2 ** (self.width - 1) - 1)
 
-    def words(self):
+    def words(self) -> str:
         least, most = self.range()
         return f"{least} to {most}"
 
 
-def channels_of(case):
+def channels_of(case: Case) -> list[Channel]:
     """The input words of the command: of the source, or of the microcode."""
     if "MIC" in case.files:
         from silc.micro_file import image_of
         return [Channel(f"word {k}", width, None) for k, width in enumerate(image_of(case.text("MIC").data).inputs)]
+    if "NET" in case.files:
+        from silc.nets import Net
+        return [Channel(f"in.{number}", of.shape.width if of.shape else 0, of.shape.places if of.shape else None)
+                for number, of in enumerate(Net(case.files["NET"]).types)]
     from silc.explaining.program import Source, element_name
     made = []
     for decl in Source(case.text("SRC")).funcs["main"].params:
@@ -44,11 +53,12 @@ def channels_of(case):
     return made
 
 
-def report_of(case):
+def report_of(case: Case) -> Report:
     if "l" not in case.values:
         name = case.files["SAMPLES"]
         has = f"the file has {os.path.getsize(name)} bytes" if os.path.isfile(name) else "more came"
-        return Report(f"{has}, and fewer than {END} are read", "run the samples in several files.", case.refusal.rule,
+        most = f"at most {NET_BYTES}" if "NET" in case.files else f"fewer than {END}"
+        return Report(f"{has}, and {most} are read", "run the samples in several files.", case.refusal.rule,
                       about=name)
     text = case.text("SAMPLES")
     other = other_kind(case, "SAMPLES")
@@ -58,12 +68,12 @@ def report_of(case):
     return unlike_text(text, line) or broken(text, line, byte, channels_of(case))
 
 
-def unlike_text(text, line):
+def unlike_text(text: Text, line: int) -> Report | None:
     """The report on a line that is no line of a sample file at all, or nothing."""
     row, start = text.line(line).decode("latin-1"), text.starts[line - 1]
     if "\r" in row:
-        return Report("a line ends with LF or CR LF, and here is a CR alone", "save the file with the ends of lines of Unix.",
-                      ROWS, text.span(start, start + row.index("\r")))
+        return Report("a line ends with LF or CR LF, and here is a CR alone",
+                      "save the file with the ends of lines of Unix.", ROWS, text.span(start, start + row.index("\r")))
     if line == 1 and text.data.startswith(codecs.BOM_UTF8):
         mark = len(codecs.BOM_UTF8)
         return Report("the file begins with a byte order mark, which is no number", "save it without one.", ROWS,
@@ -71,7 +81,7 @@ def unlike_text(text, line):
     return None
 
 
-def broken(text, line, byte, channels):
+def broken(text: Text, line: int, byte: int, channels: Sequence[Channel]) -> Report:
     row = text.line(line).decode("latin-1")
     start = text.starts[line - 1]
     names = listed([f"`{channel.name}`" for channel in channels])
@@ -84,7 +94,8 @@ def broken(text, line, byte, channels):
         last = start + len(row) - 1
         return Report("a comma ends the line", "take it away.", ROWS, text.span(last)).by(text.edit(last, last + 1, ""))
     if not row.strip():
-        return Report(f"the line is empty, and {wanted}", "take the line away.", ROWS, span).by(*without_line(text, line))
+        return Report(f"the line is empty, and {wanted}", "take the line away.", ROWS,
+                      span).by(*without_line(text, line))
     if number >= len(channels) or byte < len(row) and row[byte] == "," and number + 1 >= len(channels):
         count = row.count(",") + 1
         return Report(f"the line has {counted(count, 'word')}, and {wanted}: {names}",
@@ -101,7 +112,8 @@ def broken(text, line, byte, channels):
         short = f"no word stands before the comma, where `{channel.name}` has to come"
         if row.count(",") < len(channels):
             return Report(short, f"write a word for `{channel.name}`.", ROWS, span)
-        return Report(short, "take one comma away.", ROWS, span).by(text.edit(start + left, start + left + len(word) + 1, ""))
+        return Report(short, "take one comma away.", ROWS,
+                      span).by(text.edit(start + left, start + left + len(word) + 1, ""))
     if line == 1 and is_header(row):
         return Report(f"`{decoded(row.strip())}` is no row: a sample file has rows only, without a header",
                       "take the line away.", ROWS,
@@ -110,27 +122,30 @@ def broken(text, line, byte, channels):
     report.span = span
     if written is not None:
         report.by(text.edit(start + left, start + left + len(word), written))
-    return report.note(f"`{channel.name}` has the raw words {channel.words()}.") if channel.name not in report.short else report
+    if channel.name in report.short:
+        return report
+    return report.note(f"`{channel.name}` has the raw words {channel.words()}.")
 
 
-def without_line(text, line):
+def without_line(text: Text, line: int) -> list[Edit]:
     """The edit by which a line goes, with its end."""
     end = text.starts[line] if line < len(text.starts) else len(text.data)
     return [text.edit(text.starts[line - 1], end, "")]
 
 
-def decoded(text):
+def decoded(text: str) -> str:
     """The characters of a text that has one for each byte."""
     return text.encode("latin-1").decode(errors="replace")
 
 
-def is_header(row):
+def is_header(row: str) -> bool:
     """Whether a line has names in the place of numbers."""
-    has_names = re.search("[A-Za-z]", row) and not re.search(r"\d", re.sub(r"[A-Za-z_]\w*", "", row))
-    return has_names and not all(number_of(word.strip()) is not None for word in row.split(","))
+    has_digits = re.search(r"\d", re.sub(r"[A-Za-z_]\w*", "", row)) is not None
+    has_letters = re.search("[A-Za-z]", row) is not None
+    return has_letters and not has_digits and any(number_of(word.strip()) is None for word in row.split(","))
 
 
-def number_of(text):
+def number_of(text: str) -> Fraction | None:
     """The number that a word stands for elsewhere, or nothing."""
     if text.lower() in TRUTHS:
         return Fraction(TRUTHS[text.lower()])
@@ -141,9 +156,9 @@ def number_of(text):
     return Fraction(text) if EXPONENT.fullmatch(text) else None
 
 
-def bad_word(word, channel, lacking):
-    """The report on a word that is none of its channel's, and what is written in its place, where that is sure. Its row lacks
-    some words."""
+def bad_word(word: str, channel: Channel, lacking: int) -> tuple[Report, str | None]:
+    """The report on a word that is none of its channel's, and what is written in its place, where that is sure. Its row
+    lacks some words."""
     stripped = word.strip()
     if re.fullmatch(r"-?\d+", word):
         return out_of_range(word, int(word), channel), None
@@ -161,35 +176,37 @@ def bad_word(word, channel, lacking):
         least, most = channel.range()
         if not least <= number <= most:
             return out_of_range(stripped, int(number), channel), None
-        return Report(f"`{stripped}` is no word of a row, which has an optional `-` and digits", f"write {int(number)}.",
-                      ROWS), \
+        return Report(f"`{stripped}` is no word of a row, which has an optional `-` and digits",
+                      f"write {int(number)}.", ROWS), \
             str(int(number))
     return Report(f"`{stripped}` is no whole number", "write a raw word, which is a whole number.", ROWS), None
 
 
-def out_of_range(word, number, channel):
+def out_of_range(word: str, number: int, channel: Channel) -> Report:
     least, most = channel.range()
     return Report(f"{word} is out of range: the raw words of `{channel.name}` are {channel.words()}",
                   f"write a number from {least} to {most}, as {min(max(number, least), most)}.", ROWS)
 
 
-def several(piece, lacking):
+def several(piece: str, lacking: int) -> tuple[Report, str | None]:
     """The report on several words between two commas, and the row's words where these are as many as it lacks."""
     words = re.split(r"\s*[;:|]\s*|\s+", piece)
-    short = f"`{piece}` is {counted(len(words), 'word')}, with a blank between them" if not re.search("[;:|]", piece) else \
-        f"two words have a comma between them, and `{piece}` another sign"
+    short = f"`{piece}` is {counted(len(words), 'word')}, with a blank between them"
+    if re.search("[;:|]", piece):
+        short = f"two words have a comma between them, and `{piece}` another sign"
     if len(words) == lacking + 1:
         return Report(short, f"write `{','.join(words)}`.", ROWS), ",".join(words)
     cure = "write one word a line." if lacking == 0 else "write a comma between two words, and no blank."
     return Report(short, cure, ROWS), None
 
 
-def fraction(word, channel):
+def fraction(word: str, channel: Channel) -> tuple[Report, str | None]:
     """The report on a number with a point, and the raw word that it stands for."""
     if channel.places is None:
         return Report(f"{word} is no whole number", "write a raw word, which is a whole number.", ROWS), None
     raw = math.floor(Fraction(word) * 2**channel.places + Fraction(1, 2))
     least, most = channel.range()
     raw = min(max(raw, least), most)
-    return Report(f"{word} is no whole number: samples are raw words, and `{channel.name}` has {channel.places} of its bits "
+    return Report(f"{word} is no whole number: samples are raw words, and `{channel.name}` has {channel.places} of its "
+                  f"bits "
                   f"after the point", f"write {raw} for {word}.", ROWS), str(raw)

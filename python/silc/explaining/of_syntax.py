@@ -1,36 +1,41 @@
 """Why the tokens of a source are no program: the mistake that is likely, or else what was wanted."""
 import difflib
 import re
+from collections.abc import Sequence
 from dataclasses import dataclass
 
 from silc.explaining.edits import edit_for
 from silc.explaining.grammar import COMPARISONS, Unexpected
 from silc.explaining.of_bytes import bad_byte, bad_number, line_comment, open_comment
+from silc.explaining.program import Source
 from silc.explaining.refusals import language
 from silc.explaining.report import Report, counted
 from silc.explaining.table_words import in_words, words_of_table
-from silc.explaining.text import KEPT_FOR_LATER
+from silc.explaining.text import KEPT_FOR_LATER, Edit, Span, Token
 
 TEXT, GRAMMAR, DECLARATIONS = language("Text"), language("Grammar"), language("Declarations")
 DELAYS, CONDITIONALS = language("Delays and initial values"), language("Conditionals")
 DEEPEST = 256
 # Words and symbols of other languages, with what is written here.
-OTHERS = {"then": ("a condition is followed by `->`", "write `->`"), "else": ("the other case begins with `||`", "write `||`"),
+OTHERS = {"then": ("a condition is followed by `->`", "write `->`"),
+          "else": ("the other case begins with `||`", "write `||`"),
           "and": ("`and` is no operator", "write `&`"), "or": ("`or` is no operator", "write `|`"),
-          "not": ("`not` is no operator", "write `!`"), "for": ("there is no `for`", "write `(i : 0 .. 3) :: begin .. end;`"),
+          "not": ("`not` is no operator", "write `!`"),
+          "for": ("there is no `for`", "write `(i : 0 .. 3) :: begin .. end;`"),
           "while": ("there is no `while`", "write `(i : 0 .. 3) :: begin .. end;`"),
           "return": ("nothing is returned", "define the result by an equation, as `y = ..;`")}
 # Names of types elsewhere, with the type that is likely to be meant.
-TYPES = {"int": "fix<16,0>", "integer": "fix<16,0>", "short": "fix<16,0>", "float": "fix<16,15>", "double": "fix<16,15>",
-         "real": "fix<16,15>", "fixed": "fix<16,15>", "boolean": "bool", "bit": "bool"}
+TYPES = {"int": "fix<16,0>", "integer": "fix<16,0>", "short": "fix<16,0>", "float": "fix<16,15>",
+         "double": "fix<16,15>", "real": "fix<16,15>", "fixed": "fix<16,15>", "boolean": "bool", "bit": "bool"}
 # Names of modes elsewhere.
-MODES = {"rnd": "round", "rounding": "round", "nearest": "round", "half_up": "round", "saturate": "sat", "saturated": "sat",
+MODES = {"rnd": "round", "rounding": "round", "nearest": "round", "half_up": "round", "saturate": "sat",
+         "saturated": "sat",
          "clip": "sat", "clamp": "sat", "wrap": "trunc", "floor": "trunc", "truncate": "trunc", "none": "trunc"}
 MISSPELT_FIX = ("fix", "fixx", "ffix", "fiix", "ifx", "fxi", "ix", "fx", "fixed", "sfix", "ufix")
 OPERATORS = ("+", "-", "*", "<<", ">>", "&", "|", *COMPARISONS)
 
 
-def report_of(source, kind, at):
+def report_of(source: Source, kind: str, at: int) -> Report:
     if kind == "BadByte":
         return bad_byte(source, at)
     if kind == "BadNumber":
@@ -40,7 +45,7 @@ def report_of(source, kind, at):
     return syntax(source, at) if kind == "Syntax" else too_deep(source, at)
 
 
-def end_of_last(source):
+def end_of_last(source: Source) -> Span:
     """The place after the last token, where something is wanted."""
     last = source.tokens[-1].end if source.tokens else 0
     return source.text.span(last, last + 1)
@@ -49,51 +54,51 @@ def end_of_last(source):
 @dataclass
 class Stop:
     """The token with which no program goes on, the one before it, and what the grammar wants there in words."""
-    source: object
+    source: Source
     position: int
-    token: object
-    before: object
+    token: Token | None
+    before: Token | None
     wanted: str
 
-    def tokens(self):
+    def tokens(self) -> list[Token]:
         return self.source.tokens
 
-    def ahead(self, by=1):
+    def ahead(self, by: int = 1) -> str:
         """The text of a token after it, or nothing."""
         tokens, position = self.source.tokens, self.position + by
         return tokens[position].text if 0 <= position < len(tokens) else ""
 
-    def is_at(self, *texts):
+    def is_at(self, *texts: str) -> bool:
         return self.token is not None and self.token.text in texts
 
-    def is_after(self, *texts):
+    def is_after(self, *texts: str) -> bool:
         return self.before is not None and self.before.text in texts
 
-    def span(self, first, last):
+    def span(self, first: int, last: int) -> Span:
         """The place from a token to another one, by how far they are from this."""
         tokens = self.source.tokens
         return self.source.text.span(tokens[self.position + first].start, tokens[self.position + last].end)
 
-    def edit(self, first, last, text):
+    def edit(self, first: int, last: int, text: str) -> Edit:
         """The replacement of the tokens from one to another one, by how far they are from this."""
         tokens = self.source.tokens
         return self.source.text.edit(tokens[self.position + first].start, tokens[self.position + last].end, text)
 
-    def is_joined(self):
+    def is_joined(self) -> bool:
         """Whether the next token follows directly on this one."""
         tokens, position = self.source.tokens, self.position
         return position + 1 < len(tokens) and tokens[position].end == tokens[position + 1].start
 
-    def is_item(self):
+    def is_item(self) -> bool:
         """Whether an equation or a loop may begin here."""
         return self.wanted.startswith("an equation")
 
-    def is_equals(self):
+    def is_equals(self) -> bool:
         """Whether the `=` of an equation is wanted here."""
         return self.wanted.startswith("`=`")
 
 
-def syntax(source, position):
+def syntax(source: Source, position: int) -> Report:
     tokens = source.tokens
     token = tokens[position] if position < len(tokens) else None
     stop = Stop(source, position, token, tokens[position - 1] if position else None, wanted_at(source, position))
@@ -109,13 +114,13 @@ def syntax(source, position):
     return Report(f"{what} is wanted here, and {there}", cure, GRAMMAR, span).by(*edits)
 
 
-def wanted_at(source, position):
+def wanted_at(source: Source, position: int) -> str:
     """What the grammar wants at a token, where it names that token."""
     fault = source.unexpected
     return fault.wanted if isinstance(fault, Unexpected) and fault.position == position else ""
 
 
-def missing_semicolon(stop):
+def missing_semicolon(stop: Stop) -> Report | None:
     if "`;`" not in stop.wanted or stop.before is None or stop.is_at(")"):
         return None
     line = stop.source.line
@@ -126,7 +131,7 @@ def missing_semicolon(stop):
         .by(stop.source.text.edit(stop.before.end, stop.before.end, ";"))
 
 
-def type_first(stop):
+def type_first(stop: Stop) -> Report | None:
     """A type before the name that it is for: `fix<16,15> x`."""
     if not (stop.is_at("fix", "bool") and stop.wanted == "a name"):
         return None
@@ -140,7 +145,7 @@ def type_first(stop):
         .by(stop.edit(0, last + 1, written))
 
 
-def kept_word(stop):
+def kept_word(stop: Stop) -> Report | None:
     token = stop.token
     if stop.is_at("=") and stop.is_after("end"):
         return Report("`end` is a word of the language, and no name", "take another name.", TEXT, stop.span(-1, -1))
@@ -148,11 +153,12 @@ def kept_word(stop):
         what = "is kept for later" if token.text in KEPT_FOR_LATER else "is a word of the language"
         return Report(f"`{token.text}` {what}, and no name", "take another name.", TEXT)
     if token and token.text in KEPT_FOR_LATER:
-        return Report(f"`{token.text}` is kept for later, and has no meaning yet", "take it out, or take another name.", TEXT)
+        return Report(f"`{token.text}` is kept for later, and has no meaning yet", "take it out, or take another name.",
+                      TEXT)
     return None
 
 
-def other_word(stop):
+def other_word(stop: Stop) -> Report | None:
     """A word of another language, which is a name here."""
     for token, by in ((stop.token, 0), (stop.before, -1)):
         is_there = by == 0 or stop.is_equals() or token and token.text == "not"
@@ -169,10 +175,11 @@ def other_word(stop):
     return None
 
 
-def other_type(stop):
+def other_type(stop: Stop) -> Report | None:
     if stop.is_at(",") and stop.ahead(-2) == "<" and stop.ahead(-3).lower() in MISSPELT_FIX:
         return Report(f"`{stop.ahead(-3)}` is no type: the types are `fix<W,F>` and `bool`",
-                      f"write `fix` in the place of `{stop.ahead(-3)}`.", language("Words and types"), stop.span(-3, -3)) \
+                      f"write `fix` in the place of `{stop.ahead(-3)}`.", language("Words and types"),
+                      stop.span(-3, -3)) \
             .by(stop.edit(-3, -3, "fix"))
     if stop.token and stop.token.kind == "name" and stop.wanted == "a type":
         name = stop.token.text
@@ -181,12 +188,13 @@ def other_type(stop):
                           f"write `fix` in the place of `{name}`.",
                           language("Words and types")).by(stop.edit(0, 0, "fix"))
         written = TYPES.get(name.lower(), "fix<16,15>")
-        return Report(f"`{name}` is no type: the types are `fix<W,F>`, words of W bits with F of them after the point, and `bool`",
-                      f"write `{written}` in the place of `{name}`.", language("Words and types")).by(stop.edit(0, 0, written))
+        return Report(f"`{name}` is no type: the types are `fix<W,F>`, words of W bits with F of them after the point, "
+                      f"and `bool`", f"write `{written}` in the place of `{name}`.",
+                      language("Words and types")).by(stop.edit(0, 0, written))
     return None
 
 
-def two_modes(stop):
+def two_modes(stop: Stop) -> Report | None:
     """Two modes in a type that are not `round,sat`."""
     if not (stop.is_at(",") and stop.is_after("trunc", "sat") and stop.ahead() in ("trunc", "round", "sat")):
         return None
@@ -197,7 +205,7 @@ def two_modes(stop):
         .by(stop.edit(-1, 1, right))
 
 
-def other_mode(stop):
+def other_mode(stop: Stop) -> Report | None:
     """A mode by another name, or after `round` one that is none beside it."""
     if not stop.wanted.endswith("`sat`") or stop.token is None or stop.ahead(-1) != ",":
         return None
@@ -210,16 +218,17 @@ def other_mode(stop):
         return None
     if stop.token.kind != "name":
         return None
-    like = MODES.get(word.lower()) or next(iter(difflib.get_close_matches(word.lower(), ("round", "sat", "trunc"), 1, 0.6)),
-                                           None)
+    close = difflib.get_close_matches(word.lower(), ("round", "sat", "trunc"), 1, 0.6)
+    like = MODES.get(word.lower()) or next(iter(close), None)
     if like is None:
         return Report(f"`{word}` is no mode: {modes}", "write one of these, or the type without a mode.",
                       language("Words and types"))
-    return Report(f"`{word}` is no mode: {modes}", f"write `{like}` in the place of `{word}`.", language("Words and types")) \
+    return Report(f"`{word}` is no mode: {modes}", f"write `{like}` in the place of `{word}`.",
+                  language("Words and types")) \
         .by(stop.edit(0, 0, like))
 
 
-def late_var(stop):
+def late_var(stop: Stop) -> Report | None:
     if not stop.is_at("var"):
         return None
     tokens, position = stop.tokens(), stop.position
@@ -236,7 +245,7 @@ def late_var(stop):
         .by(*moved(stop, tokens[begin].end, "\n  {}"))
 
 
-def moved_begin(stop):
+def moved_begin(stop: Stop) -> list[Edit]:
     """The edits by which the next `begin` comes before a token."""
     begin = next((token for token in stop.tokens()[stop.position:] if token.text in ("begin", "func")), None)
     if begin is None or begin.text != "begin":
@@ -245,7 +254,7 @@ def moved_begin(stop):
     return [text.edit(stop.token.start, stop.token.start, "begin\n"), text.edit(begin.start, begin.end, "")]
 
 
-def moved(stop, to, shape):
+def moved(stop: Stop, to: int, shape: str) -> list[Edit]:
     """The edits by which what begins with a token and ends with `;` stands elsewhere; none where it has no end."""
     end = next((token.end for token in stop.tokens()[stop.position:] if token.text in (";", "end")), None)
     said = stop.source.text.chars[stop.token.start:end]
@@ -256,8 +265,9 @@ def moved(stop, to, shape):
             text.edit(stop.token.start, end, "")]
 
 
-def other_declaration(stop):
-    """A declaration without `var`, or with the type of another language: `int t : ..`; an equation after a word too many."""
+def other_declaration(stop: Stop) -> Report | None:
+    """A declaration without `var`, or with the type of another language: `int t : ..`; an equation after a word too
+    many."""
     token, before = stop.token, stop.before
     if not (stop.is_equals() and token and before.kind == "name" and stop.ahead(-2) in (";", "begin")):
         return None
@@ -279,15 +289,16 @@ def other_declaration(stop):
         .by(stop.edit(-1, -1, "var"))
 
 
-def table_inside(stop):
+def table_inside(stop: Stop) -> Report | None:
     if stop.is_at("const") and stop.is_item():
         func = next(token for token in reversed(stop.tokens()[:stop.position]) if token.text == "func")
-        return Report("a table is declared outside of the functions", "move this line up, to before `func`.", DECLARATIONS) \
+        return Report("a table is declared outside of the functions", "move this line up, to before `func`.",
+                      DECLARATIONS) \
             .by(*moved(stop, func.start, "{}\n"))
     return None
 
 
-def valued_var(stop):
+def valued_var(stop: Stop) -> Report | None:
     """A value where a signal is declared."""
     tokens = stop.tokens()
     head = next((k for k in range(stop.position - 1, -1, -1) if tokens[k].text in (";", "begin")), None)
@@ -295,21 +306,21 @@ def valued_var(stop):
         return None
     if stop.wanted != "`;`":
         return Report("`var` declares signals with their type, and an equation defines one",
-                      f"write `: fix<16,15>;` here, and below the declarations the equation `{stop.before.text} = ..;`.",
-                      DECLARATIONS)
+                      f"write `: fix<16,15>;` here, and below the declarations the equation `{stop.before.text} = "
+                      f"..;`.", DECLARATIONS)
     name = tokens[head + 2].text
     return Report("`var` declares signals, and an equation defines one",
                   f"write `;` here, and below the declarations the equation `{name} = ..;`.", DECLARATIONS)
 
 
-def table_words(stop):
+def table_words(stop: Stop) -> Report | None:
     if stop.token and in_words(stop.tokens(), stop.position) and (stop.is_at("[", ",", *OPERATORS)
                                                                   or stop.token.kind == "name"):
         return words_of_table(stop.token.text)
     return None
 
 
-def untyped_table(stop):
+def untyped_table(stop: Stop) -> Report | None:
     if stop.is_at("=") and stop.wanted == "`:`" and stop.ahead(-2) == "const":
         name = stop.before.text
         return Report(f"a table has a type, and `{name}` has none",
@@ -318,14 +329,14 @@ def untyped_table(stop):
     return None
 
 
-def named_dim(stop):
+def named_dim(stop: Stop) -> Report | None:
     if stop.token and stop.token.kind == "name" and stop.wanted == "the number of elements":
         return Report(f"the number of elements is written there, and `{stop.token.text}` is a name",
                       f"write the number in the place of `{stop.token.text}`.", DECLARATIONS)
     return None
 
 
-def no_parameter(stop):
+def no_parameter(stop: Stop) -> Report | None:
     if not (stop.is_at(")") and stop.is_after("(")):
         return None
     if stop.wanted == "a name" and stop.ahead(-3) == "func":
@@ -335,9 +346,9 @@ def no_parameter(stop):
     return None
 
 
-def other_type_part(stop):
+def other_type_part(stop: Stop) -> Report | None:
     """What is wrong inside a type, or in a cast."""
-    token, before = stop.token, stop.before
+    token = stop.token
     rule = language("Words and types")
     if stop.wanted.startswith("a type `fix"):
         return Report("a table has numbers, and no truth values",
@@ -351,30 +362,33 @@ def other_type_part(stop):
     if stop.is_at("-") and stop.wanted in ("the bits of a word", "the bits after the point"):
         return Report("the numbers of a type have no sign", "write a number from 0 to the bits of the word.", rule)
     if stop.is_at("round", "sat", "trunc") and stop.wanted == "an expression":
-        return Report(f"`{token.text}` is a mode, and stands in a type", f"write a cast, as `fix<16,15,{token.text}>(x)`.",
-                      rule)
+        return Report(f"`{token.text}` is a mode, and stands in a type",
+                      f"write a cast, as `fix<16,15,{token.text}>(x)`.", rule)
     if stop.wanted != "`(`" or not stop.is_after(">") or token is None:
         return None
     short = "the expression of a cast stands in parentheses"
     if token.kind in ("name", "number") and stop.ahead() in (";", ")", "||", "->", "fi", *OPERATORS):
-        return Report(short, f"write `({token.text})`.", language("Products and casts")).by(stop.edit(0, 0, f"({token.text})"))
+        return Report(short, f"write `({token.text})`.",
+                      language("Products and casts")).by(stop.edit(0, 0, f"({token.text})"))
     return Report(short, "write them around it, as `fix<16,15>(x)`.", language("Products and casts"))
 
 
-def decimal_comma(stop):
+def decimal_comma(stop: Stop) -> Report | None:
     """A number with a comma for its point."""
     if not (stop.is_at(",") and "operator" in stop.wanted and stop.before and stop.before.text.isdecimal()):
         return None
     position = stop.position + 1
     after = stop.tokens()[position] if position < len(stop.tokens()) else None
-    if after is None or not after.text.isdecimal() or (stop.before.end, stop.token.end) != (stop.token.start, after.start):
+    if after is None or not after.text.isdecimal():
+        return None
+    if (stop.before.end, stop.token.end) != (stop.token.start, after.start):
         return None
     written = f"{stop.before.text}.{after.text}"
     return Report("a number has a point, and no comma", f"write `{written}`.", TEXT,
                   stop.span(-1, 1)).by(stop.edit(-1, 1, written))
 
 
-def other_head(stop):
+def other_head(stop: Stop) -> Report | None:
     """The head of a function in another language."""
     if stop.wanted == "a name" and stop.is_at("->") and stop.is_after(")"):
         return Report("the results follow the parameters directly", "take `->` away.",
@@ -388,21 +402,22 @@ def other_head(stop):
     return None
 
 
-def delayed_sum(stop):
+def delayed_sum(stop: Stop) -> Report | None:
     if not stop.is_at("@") or not stop.is_after(")", "fi"):
         return None
-    return Report("a delay stands after a name", "define a signal by the expression, as `t = ..;`, and write `t@..` here.",
+    return Report("a delay stands after a name",
+                  "define a signal by the expression, as `t = ..;`, and write `t@..` here.",
                   DELAYS)
 
 
-def delayed_target(stop):
+def delayed_target(stop: Stop) -> Report | None:
     if stop.is_at("@") and stop.is_equals():
-        return Report("an equation defines the word of this sample, and what a signal had before the first one is written with `@@`",
-                      "write `@@` in the place of `@`, and a number on the right.", DELAYS)
+        return Report("an equation defines the word of this sample, and what a signal had before the first one is "
+                      "written with `@@`", "write `@@` in the place of `@`, and a number on the right.", DELAYS)
     return None
 
 
-def signed_amount(stop):
+def signed_amount(stop: Stop) -> Report | None:
     """A delay or a shift by less than 0."""
     number = stop.ahead()
     if stop.is_at("-") and stop.is_after("@") and not number.isdecimal():
@@ -415,19 +430,20 @@ def signed_amount(stop):
                       stop.span(0, 1)).by(stop.edit(0, 1, number))
     if stop.is_after("<<", ">>"):
         other = "<<" if stop.before.text == ">>" else ">>"
-        return Report("a shift is by 0 or more bits", f"write the other shift, `{other} {number}`.", language("Equations"),
-                      stop.span(-1, 1)).by(stop.edit(-1, 1, f"{other} {number}"))
+        return Report("a shift is by 0 or more bits", f"write the other shift, `{other} {number}`.",
+                      language("Equations"), stop.span(-1, 1)).by(stop.edit(-1, 1, f"{other} {number}"))
     return None
 
 
-def subscript_in_number(stop):
+def subscript_in_number(stop: Stop) -> Report | None:
     if stop.is_at("[") and stop.before and stop.before.kind == "name" and stop.wanted in ("`)`", "`..`", "`]`"):
-        return Report(f"`{stop.before.text}[..]` is a word, and a number is wanted that is known before the first sample",
+        return Report(f"`{stop.before.text}[..]` is a word, and a number is wanted that is known before the first "
+                      f"sample",
                       "write the number itself, or the index of a loop around it.", language("Loops"), stop.span(-1, 0))
     return None
 
 
-def lone_equals(stop):
+def lone_equals(stop: Stop) -> Report | None:
     if stop.is_at("=") and "operator" in stop.wanted:
         if stop.ahead() == ">" and stop.is_joined():
             return Report("at least is `>=`", "write `>=` in the place of `=>`.", GRAMMAR,
@@ -442,15 +458,16 @@ def lone_equals(stop):
     return None
 
 
-def chained_comparison(stop):
+def chained_comparison(stop: Stop) -> Report | None:
     if stop.token and stop.token.text in COMPARISONS and "operator" in stop.wanted:
         return Report("a comparison has two sides", "join two comparisons by `&`, as `a < x & x < b`.", GRAMMAR)
     return None
 
 
-def doubled(stop):
+def doubled(stop: Stop) -> Report | None:
     if stop.is_at("&") and stop.is_after("&"):
-        return Report("`and` is `&`", "write `&` in the place of `&&`.", GRAMMAR, stop.span(-1, 0)).by(stop.edit(-1, 0, "&"))
+        return Report("`and` is `&`", "write `&` in the place of `&&`.", GRAMMAR,
+                      stop.span(-1, 0)).by(stop.edit(-1, 0, "&"))
     if stop.is_at(">", "<") and stop.is_after(stop.token.text * 2) and "whole number" in stop.wanted:
         shift = stop.before.text
         return Report(f"a shift is `{shift}`, which keeps the sign" if shift == ">>" else f"a shift is `{shift}`",
@@ -459,14 +476,15 @@ def doubled(stop):
     if stop.is_at("*") and stop.is_after("*"):
         return Report("there is no power", "write a product, as `x * x`.", language("Equations"), stop.span(-1, 0))
     if stop.is_at("||") and "`||`" not in stop.wanted and "operator" in stop.wanted:
-        return Report("`or` is `|`, and `||` begins the next case of `if`", "write `|` in the place of `||`.", GRAMMAR) \
+        return Report("`or` is `|`, and `||` begins the next case of `if`", "write `|` in the place of `||`.",
+                      GRAMMAR) \
             .by(stop.edit(0, 0, "|"))
     if stop.is_at("-") and stop.ahead() == "-" and stop.is_item():
         return line_comment(stop.source.text, stop.token.start, "--", "a comment begins with `/*` and ends with `*/`")
     return None
 
 
-def updated(stop):
+def updated(stop: Stop) -> Report | None:
     """An equation as an assignment: `y += x`."""
     if not (stop.token and stop.token.text in OPERATORS and stop.ahead() == "=" and stop.is_equals()):
         return None
@@ -474,12 +492,12 @@ def updated(stop):
     start = stop.tokens()[stop.position + first].start
     name, sign = " ".join(stop.source.text.chars[start:stop.before.end].split()), stop.token.text
     report = Report(f"there is no `{sign}=`: an equation says what a signal is in each sample",
-                    f"write `{name} = {name}@1 {sign} ..;` for the word of one sample ago and more.", language("Equations"),
-                    stop.span(0, 1))
+                    f"write `{name} = {name}@1 {sign} ..;` for the word of one sample ago and more.",
+                    language("Equations"), stop.span(0, 1))
     return report.by(stop.edit(0, 1, f"= {name}@1 +")) if sign == "+" else report
 
 
-def no_target(stop):
+def no_target(stop: Stop) -> Report | None:
     """An expression that defines nothing."""
     if stop.token and stop.token.text in ("+", "-", "*", "<<", ">>", "&", "|") and stop.is_equals():
         return Report("an equation begins with the signal that it defines, and with `=`",
@@ -487,7 +505,7 @@ def no_target(stop):
     return None
 
 
-def choice_as_item(stop):
+def choice_as_item(stop: Stop) -> Report | None:
     if stop.is_at("if") and stop.is_item():
         return Report("an `if` gives a word, and stands on the right of `=`",
                       "write `y = if condition -> value || other fi;`.",
@@ -495,13 +513,14 @@ def choice_as_item(stop):
     return None
 
 
-def bare_results(stop):
+def bare_results(stop: Stop) -> Report | None:
     if stop.wanted == "`(`" and [stop.ahead(k) for k in (-3, -2)] == [")", "="] and stop.before.kind == "name":
         return Report("several places are defined by a call",
                       "write `(p, q) = f(..);`, or an equation for each, as `p = ..;`.",
                       language("Functions"))
     if stop.is_at(",") and stop.is_equals() and stop.is_after(">", "bool"):
-        return Report("several results stand in parentheses", "write `( .. )` around them, as `(p : fix<16,15>, q : bool)`.",
+        return Report("several results stand in parentheses",
+                      "write `( .. )` around them, as `(p : fix<16,15>, q : bool)`.",
                       language("Functions"))
     if stop.is_at(",") and stop.is_equals():
         return Report("the places of several results stand in parentheses",
@@ -510,54 +529,56 @@ def bare_results(stop):
     return None
 
 
-def bodiless_loop(stop):
+def bodiless_loop(stop: Stop) -> Report | None:
     if stop.wanted == "`begin`" and stop.is_after("::"):
         return Report("the equations of a loop stand between `begin` and `end;`",
                       "write `begin` before them, and `end;` after the last one.", language("Loops"))
     return None
 
 
-def no_call(stop, name, span):
+def no_call(stop: Stop, name: str, span: Span) -> Report:
     """The report on brackets after a name that is no function's."""
     if stop.is_equals():
-        return Report(f"`{name}(..)` is no signal", f"write `{name}` alone: an equation defines the word of this sample.",
+        return Report(f"`{name}(..)` is no signal",
+                      f"write `{name}` alone: an equation defines the word of this sample.",
                       language("Equations"), span)
     return Report(f"`{name}(..)` would be a call, and no function is called `{name}`",
                   f"write `{name}@..` for the word of some samples ago, or `{name} * (..)` for a product.",
                   language("Functions"), span)
 
 
-def is_function(tokens, name):
+def is_function(tokens: Sequence[Token], name: str) -> bool:
     """Whether a source declares a function of a name."""
     return any(token.text == "func" and after.text == name for token, after in zip(tokens, tokens[1:]))
 
 
-def call_inside(stop):
+def call_inside(stop: Stop) -> Report | None:
     token, before = stop.token, stop.before
     if stop.is_at("(") and before and before.kind == "name" and not is_function(stop.tokens(), before.text):
         return no_call(stop, before.text, stop.span(-1, 0))
     if stop.is_at("(") and before and before.kind == "name":
         return Report(f"a call stands by itself on the right of `=`, and `{before.text}(..)` is inside an expression",
-                      f"define a signal by the call, as `t = {before.text}(..);`, and write `t` here. Where no call is meant, "
+                      f"define a signal by the call, as `t = {before.text}(..);`, and write `t` here. Where no call is "
+                      f"meant, "
                       f"write `*` for a product.", language("Functions"), stop.span(-1, 0))
     if token and stop.is_after(")") and stop.wanted == "`;`" and token.text in OPERATORS:
         first = next((k for k in range(-1, -stop.position - 1, -1) if stop.ahead(k) == "="), -1) + 1
         if first < -1 and not is_function(stop.tokens(), stop.ahead(first)):
             return no_call(stop, stop.ahead(first), stop.span(first, -1))
         return Report("a call stands by itself on the right of `=`, and an operator follows it",
-                      "define a signal by the call, as `t = ..;`, and write the expression with `t` in an equation of its own.",
-                      language("Functions"))
+                      "define a signal by the call, as `t = ..;`, and write the expression with `t` in an equation of "
+                      "its own.", language("Functions"))
     return None
 
 
-def glued(stop):
+def glued(stop: Stop) -> Report | None:
     if stop.is_at(">=") and "`>`" in stop.wanted:
         return Report("`>=` is one symbol, and `>` ends the type", "write a blank between them, as `> =`.", TEXT) \
             .by(stop.edit(0, 0, "> ="))
     return None
 
 
-def assigned(stop):
+def assigned(stop: Stop) -> Report | None:
     if stop.is_at(":") and stop.ahead() == "=":
         return Report("an equation has `=`", "write `=` in the place of `:=`.", GRAMMAR,
                       stop.span(0, 1)).by(stop.edit(0, 1, "="))
@@ -565,14 +586,14 @@ def assigned(stop):
 
 
 # The mistakes that are likely, the likelier first.
-RULES = (type_first, kept_word, other_word, other_type, other_type_part, two_modes, other_mode, late_var, other_declaration,
-         other_head, decimal_comma, table_inside, valued_var, untyped_table, table_words,
+RULES = (type_first, kept_word, other_word, other_type, other_type_part, two_modes, other_mode, late_var,
+         other_declaration, other_head, decimal_comma, table_inside, valued_var, untyped_table, table_words,
          named_dim, no_parameter, delayed_sum, delayed_target, signed_amount, subscript_in_number, lone_equals, doubled,
-         chained_comparison, updated, no_target, choice_as_item, bare_results, bodiless_loop, call_inside, glued, assigned,
-         missing_semicolon)
+         chained_comparison, updated, no_target, choice_as_item, bare_results, bodiless_loop, call_inside, glued,
+         assigned, missing_semicolon)
 
 
-def too_deep(source, position):
+def too_deep(source: Source, position: int) -> Report:
     token = source.tokens[position]
     if token.text == "begin":
         return Report("this loop is inside 16 others, and 16 is the most", "put the inner loops into a function.",

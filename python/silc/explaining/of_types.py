@@ -1,27 +1,30 @@
 """Why the type of an expression is refused."""
+from collections.abc import Sequence
 from decimal import Decimal
 
-from silc.explaining.grammar import Type
+from silc.explaining.grammar import Node, Type
+from silc.explaining.program import Source
 from silc.explaining.refusals import language
 from silc.explaining.report import Report
-from silc.explaining.typing_rules import LITERAL, MISMATCH, MOST_BITS, NEEDS_CAST, NOT_BOOL, Typing, fits, range_of
+from silc.explaining.typing_rules import (LITERAL, MISMATCH, MOST_BITS, NEEDS_CAST, NOT_BOOL, Fault, Typing, fits,
+                                          range_of)
 
 
 MOST_DIGITS = 18
 WIDEST = Type(MOST_BITS, 0, "", 0, 0)
 
 
-def type_text(of):
+def type_text(of: Type | None) -> str:
     return "a truth value" if of is None or of.width is None else f"`{of.text}`"
 
 
-def of_types(source, at, kind):
+def of_types(source: Source, at: int, kind: str) -> Report:
     fault = Typing(source).first()
     if fault is None or fault.node.at != at or fault.kind != kind:
         return Report({MISMATCH: "the types differ", NEEDS_CAST: "a type is needed here",
                        LITERAL: "the number is out of range",
-                       NOT_BOOL: "a truth value is wanted here"}[kind], "change the type here.", language("The typing table"),
-                      source.at_span(at))
+                       NOT_BOOL: "a truth value is wanted here"}[kind], "change the type here.",
+                      language("The typing table"), source.at_span(at))
     report = {MISMATCH: mismatch, NEEDS_CAST: needs_cast, LITERAL: literal, NOT_BOOL: not_truth}[kind](source, fault)
     report.span = report.span or source.node_span(fault.node)
     if fault.wanted and fault.wanted.at is not None:
@@ -32,12 +35,12 @@ def of_types(source, at, kind):
     return report
 
 
-def sentence(clause):
+def sentence(clause: str) -> str:
     """A clause as a sentence; a name keeps its letters."""
     return (clause if clause.startswith("`") else clause[0].upper() + clause[1:]) + "."
 
 
-def mismatch(source, fault):
+def mismatch(source: Source, fault: Fault) -> Report:
     shown = source.shown(fault.node)
     rule = language("The typing table")
     if fault.wanted is None:
@@ -64,10 +67,11 @@ def mismatch(source, fault):
                     f"write the cast `{bare}({shown})`.", rule) \
         .by(source.text.edit(fault.node.start, fault.node.end, f"{bare}({shown})"))
     decl = source.decl(source.function_at(fault.node.at), fault.node.name) if fault.node.kind == "read" else None
-    return report.note(f"`{decl.name}` is declared `{decl.type.text}` here.", source.name_span(decl)) if decl else report
+    return report.note(f"`{decl.name}` is declared `{decl.type.text}` here.",
+                       source.name_span(decl)) if decl else report
 
 
-def other_result(source, fault, shown):
+def other_result(source: Source, fault: Fault, shown: str) -> Report:
     """The report on a place of a call's result that has another type."""
     own, wanted = (of.text if of.width is None else bare_type(of) for of in (fault.found, fault.wanted.type))
     decl = source.decl(source.function_at(fault.node.at), fault.node.name)
@@ -75,12 +79,13 @@ def other_result(source, fault, shown):
         "t != 0" if fault.found.width is None else number_for("t", fault.found)
     verb = "is" if fault.wanted.type.width is None else "has"
     return Report(f"`{shown}` is {type_text(fault.found)}, and the result {verb} {type_text(fault.wanted.type)}",
-                  f"declare `{fault.node.name}` as `{wanted}`; or declare a signal of this type, as `t`, write it here, and below "
+                  f"declare `{fault.node.name}` as `{wanted}`; or declare a signal of this type, as `t`, write it "
+                  f"here, and below "
                   f"`{shown} = {below};`.", language("The typing table")) \
         .note(f"`{decl.name}` is declared `{decl.type.text}` here.", source.name_span(decl))
 
 
-def truth_for_number(source, fault, shown):
+def truth_for_number(source: Source, fault: Fault, shown: str) -> Report:
     """The report on a truth value where a number is wanted."""
     of, node, rule = fault.wanted.type, fault.node, language("The typing table")
     short = f"`{shown}` is a truth value, and a number of {type_text(of)} is wanted"
@@ -94,19 +99,19 @@ def truth_for_number(source, fault, shown):
     return Report(short, f"write `{written}`.", rule).by(source.text.edit(node.start, node.end, written))
 
 
-def is_number(source, node):
+def is_number(source: Source, node: Node) -> bool:
     """Whether an expression is a number by itself."""
     own = typing_at(source, node).own(node)
     return own is None or own.width is not None
 
 
-def typing_at(source, node):
+def typing_at(source: Source, node: Node) -> Typing:
     typing = Typing(source)
     typing.func = source.function_at(node.at)
     return typing
 
 
-def choice_for(source, truth, of):
+def choice_for(source: Source, truth: Node, of: Type) -> str:
     """The choice that makes a number of an expression that is a truth value."""
     shown = source.shown(truth)
     if truth.kind == "not" and is_number(source, truth.parts[0]):
@@ -114,14 +119,14 @@ def choice_for(source, truth, of):
     return number_for(shown, of)
 
 
-def is_alone(source, node):
+def is_alone(source: Source, node: Node) -> bool:
     """Whether no operator stands beside an expression, so that any other may take its place."""
     before, after = source.text.chars[:node.start].rstrip(), source.text.chars[node.end:].lstrip()
     return before.endswith(("=", "(", "->", "||", ",")) and not before.endswith(("<=", ">=", "==", "!=")) \
         and after.startswith((";", ")", "->", "||", ","))
 
 
-def truth_operands(source, fault, shown):
+def truth_operands(source: Source, fault: Fault, shown: str) -> Report:
     """The report on a product or a comparison of truth values."""
     node = fault.node
     report = Report(f"`{shown}` has truth values where numbers are wanted", "write numbers on both sides.",
@@ -137,7 +142,7 @@ def truth_operands(source, fault, shown):
     return report.by(source.text.edit(node.start, node.end, written))
 
 
-def truths_of(source, node):
+def truths_of(source: Source, node: Node) -> str | None:
     """What is written for a comparison of truth values, where it asks whether they are equal."""
     if node.name not in ("==", "!=") or any(is_number(source, part) for part in node.parts):
         return None
@@ -149,7 +154,7 @@ def truths_of(source, node):
     return same if node.name == "==" else f"!({same})"
 
 
-def numbers_of(source, node):
+def numbers_of(source: Source, node: Node) -> str | None:
     """What is written for a product of a truth value and a number."""
     for truth, other in (node.parts, node.parts[::-1]):
         if not is_number(source, truth) and is_number(source, other):
@@ -157,32 +162,32 @@ def numbers_of(source, node):
     return None
 
 
-def some_number(of):
+def some_number(of: Type) -> str:
     """A number of a type that is near 1."""
     return "1" if of.width - of.places > 1 else "0.5" if of.places and of.width - of.places == 1 else "0"
 
 
-def number_for(truth, of):
+def number_for(truth: str, of: Type) -> str:
     """The choice that makes a number of a truth value."""
     return f"if {truth} -> {some_number(of)} || 0 fi"
 
 
-def bare_type(of):
+def bare_type(of: Type) -> str:
     return f"fix<{of.width},{of.places}>"
 
 
-def numbers_in(node):
+def numbers_in(node: Node) -> list[str]:
     """The numbers that an expression has, as far as they take one type."""
     return [node.value] if node.kind == "number" else [number for part in node.parts for number in numbers_in(part)]
 
 
-def type_for(numbers):
+def type_for(numbers: Sequence[str]) -> Type | None:
     """A type of 16 bits that has some numbers, or one of 40; nothing where these are too great for any."""
     shapes = [*((16, places) for places in range(15, -1, -1)), (MOST_BITS, 0)]
     return next((of for shape in shapes if all(fits(number, of := Type(*shape, "", 0, 0)) for number in numbers)), None)
 
 
-def product_of(node):
+def product_of(node: Node) -> str | None:
     """The product of two numbers, as a number that may be written; nothing for another expression."""
     if node.kind != "product" or any(part.kind != "number" for part in node.parts):
         return None
@@ -191,7 +196,7 @@ def product_of(node):
     return text if sum(map(str.isdigit, text)) <= MOST_DIGITS else None
 
 
-def without_brackets(text):
+def without_brackets(text: str) -> str:
     """A text without the brackets that are around all of it."""
     depth = 0
     for place, char in enumerate(text):
@@ -201,14 +206,15 @@ def without_brackets(text):
     return text[1:-1].strip() if text.startswith("(") else text
 
 
-def needs_cast(source, fault):
+def needs_cast(source: Source, fault: Fault) -> Report:
     node = fault.node
     typing = typing_at(source, node)
     bare = next((part for part in node.parts if typing.own(part) is None), node.parts[0])
     choice = numbers_of(source, bare) if bare.kind == "product" else None
     if choice:
         return Report(f"`{source.shown(bare)}` has truth values where numbers are wanted", f"write `{choice}`.",
-                      language("The typing table"), source.node_span(bare)).by(source.text.edit(bare.start, bare.end, choice))
+                      language("The typing table"),
+                      source.node_span(bare)).by(source.text.edit(bare.start, bare.end, choice))
     number = product_of(bare) if node.kind == "product" else None
     if number:
         return Report(f"`{source.shown(bare)}` has no type of its own, and a factor needs one",
@@ -219,7 +225,8 @@ def needs_cast(source, fault):
     of = next((found for part in [*node.parts, *bare.parts] if (found := typing.own(part)) and found.width), None)
     name = bare_type(of or type_for(numbers_in(node)) or WIDEST)
     what = "a factor" if node.kind == "product" else "a side of a comparison"
-    both = "" if node.kind == "product" or typing.own(node.parts[0]) or typing.own(node.parts[1]) else ", nor does the other side"
+    both = "" if node.kind == "product" or typing.own(node.parts[0]) or typing.own(
+        node.parts[1]) else ", nor does the other side"
     kind = "a product" if bare.kind == "product" else "a number"
     return Report(f"`{inner}` has no type of its own{both}, and {what} needs one",
                   f"say by a cast which type it is to have, as `{name}({inner})`.", language("Products and casts"),
@@ -227,23 +234,24 @@ def needs_cast(source, fault):
         .note(f"{kind[0].upper() + kind[1:]} takes the type that is wanted, and nothing says here which that is.")
 
 
-def literal(source, fault):
+def literal(source: Source, fault: Fault) -> Report:
     of = fault.wanted.type
     least, most = range_of(of)
     value = float(fault.node.value)
     nearest = most if value > 0 else least
-    wider = type_for([fault.node.value])
+    found = type_for([fault.node.value])
     short = f"{fault.node.value} is out of range: `{of.text}` has {least} to {most}"
-    if wider is None:
+    if found is None:
         return Report(short, f"write a number in this range: no type has {fault.node.value}, since a word has at most "
                       f"{MOST_BITS} bits.", language("Words and types"))
-    wider = bare_type(wider)
-    more = f"as a factor it may be `{wider}({fault.node.value})`." if fault.wanted.why.startswith("the factors of") else \
+    wider = bare_type(found)
+    more = f"as a factor it may be `{wider}({fault.node.value})`." if fault.wanted.why.startswith(
+        "the factors of") else \
         f"declare a type with more bits before the point, as `{wider}`."
     return Report(short, f"write {nearest}; or {more}", language("Words and types"))
 
 
-def not_truth(source, fault):
+def not_truth(source: Source, fault: Fault) -> Report:
     node, shown = fault.node, source.shown(fault.node)
     if node.kind == "target":
         return other_result(source, fault, shown)
@@ -259,4 +267,5 @@ def not_truth(source, fault):
         shown = f"{bare_type(of)}({without_brackets(shown)})"
     # A `!` before it is tighter than a comparison.
     written = f"({shown} != 0)" if source.text.chars[:node.start].rstrip().endswith("!") else f"{shown} != 0"
-    return Report(short, f"write a comparison, as `{written}`.", rule).by(source.text.edit(node.start, node.end, written))
+    return Report(short, f"write a comparison, as `{written}`.",
+                  rule).by(source.text.edit(node.start, node.end, written))

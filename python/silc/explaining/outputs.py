@@ -1,34 +1,38 @@
 """Commands whose OUT is one of their inputs by another name, or a log of their own, as `./silc` refuses them."""
 import os
 import sys
+from collections.abc import Sequence
 from contextlib import suppress
 
 COMMANDS = {"compile": ("SRC", "DP", "OUT"), "schedule": ("SRC", "DP"), "sim": ("MIC", "SAMPLES", "OUT"),
-            "eval": ("SRC", "SAMPLES", "OUT"), "run": ("SRC", "DP", "SAMPLES", "OUT"), "list": ("MIC",), "demo": ("K", "N"),
-            "stages": ("SRC", "DP", "S"), "pipe": ("SRC", "DP", "S", "SAMPLES", "OUT")}
+            "eval": ("SRC", "SAMPLES", "OUT"), "run": ("SRC", "DP", "SAMPLES", "OUT"), "list": ("MIC",),
+            "demo": ("K", "N"), "stages": ("SRC", "DP", "S"), "pipe": ("SRC", "DP", "S", "SAMPLES", "OUT"),
+            "frame": ("SRC", "DP", "M", "DOWN", "UP", "OUT"), "net": ("NET", "SAMPLES", "OUT")}
+# The words that name files which are read.
+INPUTS = ("SRC", "DP", "MIC", "NET", "SAMPLES")
 BAD_WORDS = 2
 
 
-def named(words):
+def named(words: Sequence[str]) -> dict[str, str] | None:
     """The words of a command by what they are, or nothing where the words are no command."""
     wanted = COMMANDS.get(words[0]) if words else None
     return dict(zip(wanted, words[1:])) if wanted and len(wanted) == len(words) - 1 else None
 
 
-def same_input(files):
+def same_input(files: dict[str, str]) -> str | None:
     """The input that OUT is by another name, where OUT is a file: a terminal or a socket may be both."""
     out = files.get("OUT")
     if out is None or not os.path.isfile(out):
         return None
     for what, name in files.items():
-        if what != "OUT" and name != out and os.path.exists(name) and os.path.samefile(name, out):
+        if what in INPUTS and name != out and os.path.exists(name) and os.path.samefile(name, out):
             return name
     return None
 
 
-def own_stream(out):
-    """Whether OUT is a file that a standard stream of this process writes to, but by the name by which the program goes on in
-    it: it would be opened anew, and emptied."""
+def own_stream(out: str | None) -> bool:
+    """Whether OUT is a file that a standard stream of this process writes to, but by the name by which the program goes
+    on in it: it would be opened anew, and emptied."""
     if out is None or out == "/dev/stdout" or not os.path.isfile(out):
         return False
     for number in (1, 2):
@@ -38,8 +42,9 @@ def own_stream(out):
     return False
 
 
-def guarded(words):
-    """The status and the line for a command that would write over an input of its own, or a log; nothing for any other."""
+def guarded(words: Sequence[str]) -> tuple[int, str] | None:
+    """The status and the line for a command that would write over an input of its own, or a log; nothing for any
+    other."""
     files = named(words) or {}
     name, out = same_input(files), files.get("OUT")
     if name is not None:

@@ -1,15 +1,22 @@
 """A source as a program: what stands where in its tree, what names mean, manifest numbers, and the elements."""
 import math
+from collections.abc import Iterator, Sequence
 from dataclasses import dataclass, field
+from typing import Literal, TypeAlias
 
-from silc.explaining.grammar import Func, Node, Table, Unexpected, parsed
-from silc.explaining.text import tokens_of
+from silc.explaining.grammar import Decl, Func, Node, Table, Unexpected, parsed
+from silc.explaining.text import Span, Text, Token, tokens_of
+
+# The values of the indices of the loops around a place.
+Indices: TypeAlias = dict[str, int]
+# The elements of each signal of an instance, by their numbers.
+Signals: TypeAlias = dict[str, list[int]]
 
 LEAST, GREATEST = -(2**31), 2**31 - 1
 LOAD = 8192
 # What a manifest number stands for, by its role.
-WHERE = {"subscript": "a subscript", "delay": "a delay", "amount": "the amount of a shift", "bound": "the bound of a loop",
-         "initial": "the sample of an initial value"}
+WHERE = {"subscript": "a subscript", "delay": "a delay", "amount": "the amount of a shift",
+         "bound": "the bound of a loop", "initial": "the sample of an initial value"}
 OPERATORS = ("sum", "product", "comparison", "logic", "negation", "not", "shift", "cast")
 
 
@@ -19,7 +26,7 @@ class Context:
     node: Node
     role: str
     func: Func | None
-    loops: list
+    loops: list[Node]
     item: Node | None
     parent: Node | None = None
 
@@ -27,7 +34,7 @@ class Context:
 class Source:
     """A source with its tokens and, where they are one, its program."""
 
-    def __init__(self, text):
+    def __init__(self, text: Text) -> None:
         self.text = text
         self.tokens, self.bad_place = tokens_of(text.chars)
         self.tops, self.unexpected = [], None
@@ -39,46 +46,46 @@ class Source:
         self.tables = {top.name: top for top in reversed(self.tops) if isinstance(top, Table)}
         self.funcs = {top.name: top for top in reversed(self.tops) if isinstance(top, Func)}
 
-    def shown(self, node):
+    def shown(self, node: Node) -> str:
         """The text of a part of the source, in one line."""
         return " ".join(self.text.chars[node.start:node.end].split())
 
-    def token_at(self, place):
+    def token_at(self, place: int) -> Token | None:
         return next((token for token in self.tokens if token.start <= place < token.end), None)
 
-    def line(self, place):
+    def line(self, place: int) -> int:
         return self.text.line_of(place)
 
-    def name_span(self, thing):
+    def name_span(self, thing: Decl | Table | Func) -> Span:
         """The place of a declared name."""
         return self.text.span(thing.at, thing.end)
 
-    def node_span(self, node):
+    def node_span(self, node: Node) -> Span:
         return self.text.span(node.start, node.end)
 
-    def at_span(self, place):
+    def at_span(self, place: int) -> Span:
         """The place of the token that begins there."""
         token = self.token_at(place)
         return self.text.span(place, token.end if token else place + 1)
 
-    def decl(self, func, name):
+    def decl(self, func: Func, name: str) -> Decl | None:
         """What the name of a signal or a table means in a function."""
         for decl in func.decls():
             if decl.name == name:
                 return decl
         return self.tables[name].decl if name in self.tables else None
 
-    def function_at(self, place):
+    def function_at(self, place: int) -> Func | None:
         """The function in whose text a place is; nothing before the first one."""
         return max((top for top in self.tops if isinstance(top, Func) and top.at <= place), key=lambda func: func.at,
                    default=None)
 
-    def contexts(self, func):
+    def contexts(self, func: Func | None) -> Iterator[Context]:
         """All nodes of a function, each before its parts."""
         for item in func.items if func else ():
             yield from contexts_of(item, func, [])
 
-    def at(self, place, *roles):
+    def at(self, place: int, *roles: str) -> Context | None:
         """What stands at a place of the source, in one of these roles."""
         for context in self.contexts(self.function_at(place)):
             if context.node.at == place and context.role in roles and context.node.kind != "initial":
@@ -86,13 +93,13 @@ class Source:
         return None
 
 
-def contexts_of(item, func, loops):
-    def manifest(node, role, parent):
+def contexts_of(item: Node, func: Func, loops: list[Node]) -> Iterator[Context]:
+    def manifest(node: Node, role: str, parent: Node) -> Iterator[Context]:
         yield Context(node, role, func, loops, item, parent)
         for part in node.parts:
             yield from manifest(part, role, parent)
 
-    def expression(node, parent):
+    def expression(node: Node, parent: Node | None) -> Iterator[Context]:
         yield Context(node, "expression", func, loops, item, parent)
         for sub in node.subs:
             yield from manifest(sub, "subscript", node)
@@ -101,7 +108,7 @@ def contexts_of(item, func, loops):
         for part in node.parts:
             yield from expression(part, node)
 
-    def target(node):
+    def target(node: Node) -> Iterator[Context]:
         yield Context(node, "target", func, loops, item)
         for sub in node.subs:
             yield from manifest(sub, "subscript", node)
@@ -129,13 +136,14 @@ def contexts_of(item, func, loops):
 class Overflow(Exception):
     """A manifest number that is out of its range."""
 
-    def __init__(self, value):
+    def __init__(self, value: int) -> None:
         super().__init__(value)
         self.value = value
 
 
-def manifest(node, indices):
-    """The value of a manifest number. Raises Overflow where it is out of range on the way, KeyError where a name is none."""
+def manifest(node: Node, indices: Indices) -> int:
+    """The value of a manifest number. Raises Overflow where it is out of range on the way, KeyError where a name is
+    none."""
     if node.kind == "whole":
         value = node.value
     elif node.kind == "index":
@@ -150,7 +158,7 @@ def manifest(node, indices):
     return value
 
 
-def turns_of(items, indices=None):
+def turns_of(items: Sequence[Node], indices: Indices | None = None) -> Iterator[tuple[Node, Indices]]:
     """The items in the order of expansion, each with the values of the indices around it; a loop before its turns."""
     indices = indices or {}
     for item in items:
@@ -161,7 +169,7 @@ def turns_of(items, indices=None):
                 yield from turns_of(item.parts, {**indices, item.name: turn})
 
 
-def offset(dims, subs, indices):
+def offset(dims: Sequence[int], subs: Sequence[Node], indices: Indices) -> int:
     """The row-major place of subscripts."""
     place = 0
     for dim, sub in zip(dims, subs):
@@ -169,24 +177,25 @@ def offset(dims, subs, indices):
     return place
 
 
-def subscripts(dims, place):
-    made = []
+def subscripts(dims: Sequence[int], place: int) -> str:
+    made: list[str] = []
     for dim in reversed(dims):
         made.insert(0, f"[{place % dim}]")
         place //= dim
     return "".join(made)
 
 
-def element_name(decl, place):
+def element_name(decl: Decl, place: int) -> str:
     return decl.name + subscripts(decl.dims, place)
 
 
-def targets_of(item):
+def targets_of(item: Node) -> list[Node]:
     return item.parts[:1] if item.kind in ("equation", "initial") else item.subs if item.kind == "call" else []
 
 
-def definitions(source, func):
-    """What defines the elements of a function, in order: the declaration, the place in it, the target and the indices."""
+def definitions(source: Source, func: Func) -> Iterator[tuple[Decl, int, Node, Indices, Node]]:
+    """What defines the elements of a function, in order: the declaration, the place in it, the target and the
+    indices."""
     for item, indices in turns_of(func.items):
         if item.kind not in ("equation", "call"):
             continue
@@ -200,29 +209,29 @@ def definitions(source, func):
                 yield decl, place, target, indices, item
 
 
-def with_indices(indices):
+def with_indices(indices: Indices) -> str:
     """The values of indices in words."""
     return ", ".join(f"`{name}` = {value}" for name, value in indices.items())
 
 
-def weight_of(node):
+def weight_of(node: Node) -> int:
     """How many operators, casts and conditions an expression has."""
     own = 1 if node.kind in OPERATORS else len(node.parts) // 2 if node.kind == "choice" else 0
     return own + sum(weight_of(part) for part in node.parts)
 
 
-def every_item(items, loops=()):
+def every_item(items: Sequence[Node], loops: tuple[Node, ...] = ()) -> Iterator[tuple[Node, tuple[Node, ...]]]:
     for item in items:
         yield item, loops
         if item.kind == "loop":
             yield from every_item(item.parts, (*loops, item))
 
 
-def calls_of(func):
+def calls_of(func: Func) -> list[Node]:
     return [item for item, _ in every_item(func.items) if item.kind == "call"]
 
 
-def turns(loop, indices=None):
+def turns(loop: Node, indices: Indices | None = None) -> range | Literal[True]:
     """The values that a loop's index takes, or True where they depend on other indices."""
     try:
         low, high = (manifest(bound, indices or {}) for bound in loop.subs)
@@ -238,29 +247,30 @@ def turns(loop, indices=None):
 class Element:
     """A scalar signal of an instance, what defines it, and the elements that it reads without a delay."""
     func: Func
-    decl: object
+    decl: Decl
     place: int
-    calls: tuple
+    calls: tuple[Node, ...]
     at: int = 0
-    reads: list = field(default_factory=list)
+    reads: list[int] = field(default_factory=list)
     # Whether its reads stand in an expression, where they may have a delay.
     can_wait: bool = False
 
-    def name(self):
+    def name(self) -> str:
         return element_name(self.decl, self.place)
 
 
 class Expansion:
     """The elements of a program without a fault of its names, elements and types, in the order of expansion."""
 
-    def __init__(self, source):
-        self.source, self.elements = source, []
+    def __init__(self, source: Source) -> None:
+        self.source = source
+        self.elements: list[Element] = []
         main = source.funcs["main"]
         signals = self.enter(main, ())
         self.expand(main, signals, ())
 
-    def enter(self, func, calls):
-        signals = {}
+    def enter(self, func: Func, calls: tuple[Node, ...]) -> Signals:
+        signals: Signals = {}
         for decl in func.decls():
             signals[decl.name] = []
             for place in range(math.prod(decl.dims)):
@@ -268,7 +278,7 @@ class Expansion:
                 self.elements.append(Element(func, decl, place, calls, decl.at))
         return signals
 
-    def expand(self, func, signals, calls):
+    def expand(self, func: Func, signals: Signals, calls: tuple[Node, ...]) -> None:
         for item, indices in turns_of(func.items):
             if item.kind == "equation":
                 target, value = item.parts
@@ -278,11 +288,11 @@ class Expansion:
             elif item.kind == "call":
                 self.call(func, signals, item, indices, calls)
 
-    def define(self, number, at, reads, can_wait):
+    def define(self, number: int, at: int, reads: list[int], can_wait: bool) -> None:
         element = self.elements[number]
         element.at, element.reads, element.can_wait = at, reads, can_wait
 
-    def call(self, func, signals, item, indices, calls):
+    def call(self, func: Func, signals: Signals, item: Node, indices: Indices, calls: tuple[Node, ...]) -> None:
         callee, within = self.source.funcs[item.name], (*calls, item)
         inner = self.enter(callee, within)
         for decl, argument in zip(callee.params, item.parts):
@@ -298,7 +308,7 @@ class Expansion:
                 self.define(signals[target.name][to], target.at, [number], False)
         self.expand(callee, inner, within)
 
-    def reads(self, func, signals, node, indices):
+    def reads(self, func: Func, signals: Signals, node: Node, indices: Indices) -> Iterator[int]:
         if node.kind == "read":
             if node.name in signals and not (node.amount and manifest(node.amount, indices)):
                 dims = self.source.decl(func, node.name).dims
@@ -306,7 +316,7 @@ class Expansion:
         for part in node.parts:
             yield from self.reads(func, signals, part, indices)
 
-    def loop_through(self, first):
+    def loop_through(self, first: int) -> list[int]:
         """The shortest chain of elements from one to itself, each of which reads the next without a delay."""
         came, waiting = {}, [first]
         for number in waiting:

@@ -1,10 +1,12 @@
 """The typing table of docs/LANGUAGE.md: the first fault of types, with what is wanted and why."""
 import math
+from collections.abc import Iterator
 from dataclasses import dataclass
 from decimal import Context, Decimal
 from fractions import Fraction
 
-from silc.explaining.grammar import Func, Node, Type
+from silc.explaining.grammar import Decl, Func, Node, Type
+from silc.explaining.program import Source
 
 BOOL = Type(None, 0, "bool", 0, 0)
 MOST_BITS = 40
@@ -32,13 +34,14 @@ class Fault:
 class Typing:
     """The faults of types of a source, in their order."""
 
-    def __init__(self, source):
-        self.source, self.func = source, None
+    def __init__(self, source: Source) -> None:
+        self.source = source
+        self.func: Func | None = None
 
-    def first(self):
+    def first(self) -> Fault | None:
         return next(self.all(), None)
 
-    def all(self):
+    def all(self) -> Iterator[Fault]:
         for top in self.source.tops:
             if isinstance(top, Func):
                 self.func = top
@@ -49,14 +52,14 @@ class Typing:
                 for word in top.words:
                     yield from self.check(word, wanted)
 
-    def declared(self, decl):
+    def declared(self, decl: Decl) -> Wanted:
         line = self.source.line(decl.at)
         return Wanted(decl.type, f"`{decl.name}` is declared `{decl.type.text}` in line {line}", decl.at)
 
-    def decl(self, name):
+    def decl(self, name: str) -> Decl:
         return self.source.decl(self.func, name)
 
-    def item(self, item):
+    def item(self, item: Node) -> Iterator[Fault]:
         if item.kind == "loop":
             for inner in item.parts:
                 yield from self.item(inner)
@@ -71,12 +74,12 @@ class Typing:
             for decl, target in zip(callee.results, item.subs):
                 yield from self.name(target, self.declared(decl))
 
-    def name(self, node, wanted):
+    def name(self, node: Node, wanted: Wanted) -> Iterator[Fault]:
         found = self.decl(node.name).type
         if found.shape() != wanted.type.shape():
             yield Fault(NOT_BOOL if wanted.type.width is None else MISMATCH, node, wanted, found)
 
-    def own(self, node):
+    def own(self, node: Node) -> Type | None:
         """The type that an expression has by itself, or None."""
         if node.kind == "read":
             return self.decl(node.name).type
@@ -91,7 +94,7 @@ class Typing:
             return next(filter(None, map(self.own, values)), None)
         return None if node.kind in ("number", "product") else BOOL
 
-    def check(self, node, wanted):
+    def check(self, node: Node, wanted: Wanted) -> Iterator[Fault]:
         is_bool = wanted.type.width is None
         kind = node.kind
         if kind == "read":
@@ -115,22 +118,23 @@ class Typing:
             for part in node.parts:
                 yield from self.check(part, wanted)
 
-    def choice(self, node, wanted):
+    def choice(self, node: Node, wanted: Wanted) -> Iterator[Fault]:
         truth = Wanted(BOOL, "a condition is a truth value")
         for number, part in enumerate(node.parts):
             is_condition = number % 2 == 0 and number < len(node.parts) - 1
             yield from self.check(part, truth if is_condition else wanted)
 
-    def truth(self, node):
+    def truth(self, node: Node) -> Iterator[Fault]:
         """The parts of an expression that is a truth value."""
         if node.kind == "comparison":
             yield from self.sides(node, f"the sides of `{self.source.shown(node)}`", each=False)
         elif node.kind != "truth":
-            wanted = Wanted(BOOL, f"`{node.name}` joins truth values" if node.kind == "logic" else "`!` turns a truth value")
+            wanted = Wanted(BOOL,
+                            f"`{node.name}` joins truth values" if node.kind == "logic" else "`!` turns a truth value")
             for part in node.parts:
                 yield from self.check(part, wanted)
 
-    def sides(self, node, what, each):
+    def sides(self, node: Node, what: str, each: bool) -> Iterator[Fault]:
         """The factors of a product, each with a type of its own, or the sides of a comparison, which share one."""
         left, right = node.parts
         types = [self.own(left), self.own(right)]
@@ -152,7 +156,7 @@ class Typing:
                 why = f"{what} are of one type, and `{self.source.shown(right)}` is `{of.text}`"
             yield from self.check(part, Wanted(of, why))
 
-    def cast(self, node, wanted):
+    def cast(self, node: Node, wanted: Wanted) -> Iterator[Fault]:
         if node.type.shape() != wanted.type.shape():
             yield Fault(MISMATCH, node, wanted, node.type)
         own = self.own(node.parts[0])
@@ -161,19 +165,19 @@ class Typing:
         yield from self.check(node.parts[0], Wanted(own or node.type, f"the cast has the type `{node.type.text}`"))
 
 
-def fits(number, of):
+def fits(number: str, of: Type) -> bool:
     """Whether the nearest raw word of a number is in the range of a type."""
     raw = math.floor(Fraction(number) * 2**of.places + Fraction(1, 2))
     return -(2 ** (of.width - 1)) <= raw <= 2 ** (of.width - 1) - 1
 
 
-def decimal(raw, places):
+def decimal(raw: int, places: int) -> str:
     """The exact number of a raw word."""
     exact = Context(prec=DIGITS).divide(Decimal(raw), Decimal(2**places))
     text = format(exact, "f")
     return text.rstrip("0").rstrip(".") if "." in text else text
 
 
-def range_of(of):
+def range_of(of: Type) -> tuple[str, str]:
     """The least and the greatest number of a type."""
     return decimal(-(2 ** (of.width - 1)), of.places), decimal(2 ** (of.width - 1) - 1, of.places)

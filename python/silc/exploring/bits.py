@@ -1,5 +1,5 @@
-"""How many bits the registers and the memories of a plan's hardware have: for each word of a file or of a memory as many as
-the words that come into it need, as in the cores of `tools/verilog`."""
+"""How many bits the registers and the memories of a plan's hardware have: for each word of a file or of a memory as
+many as the words that come into it need, as in the cores of `tools/verilog`."""
 from collections.abc import Sequence
 
 from silc.designing.sources import words_of_main

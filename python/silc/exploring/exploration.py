@@ -7,7 +7,7 @@ from multiprocessing.pool import ThreadPool
 from typing import TYPE_CHECKING, Any
 
 from silc.exploring.bits import inputs_of
-from silc.exploring.template import Template, text_of
+from silc.exploring.template import Choice, Template, text_of
 from silc.exploring.trades import COSTS, Trade, mark_front, trade_of
 from silc.pictures.tradeoff import draw_tradeoff
 from silc.running import ran
@@ -34,7 +34,8 @@ class Exploration:
 def trade_as_json(trade: Trade) -> dict[str, Any]:
     """A combination: the number of each range, its costs, and what it is answered."""
     measures = ("registers", "taken", "cells", "cycles", "noise", "wraps")
-    return {"choice": trade.choice, **{cost: getattr(trade, cost) for cost in COSTS},
+    choice = {name: number if isinstance(number, int) else float(number) for name, number in trade.choice.items()}
+    return {"choice": choice, **{cost: getattr(trade, cost) for cost in COSTS},
             **{name: getattr(trade, name) for name in measures}, "answer": trade.answer, "front": trade.is_on_front}
 
 
@@ -44,7 +45,7 @@ def explored(source: Source, template: str | os.PathLike[str], jobs: int | None)
         space = Template(file.read(), True)
     inputs = inputs_of(source.text)
 
-    def trade(choice: dict[str, int]) -> Trade:
+    def trade(choice: Choice) -> Trade:
         datapath = space.datapath(choice)
         answer = ran(source.silc, ["schedule", source.content, text_of(datapath).encode()])
         return trade_of(choice, datapath, answer.status, answer.said if answer.status else answer.out.decode(), inputs)

@@ -4,8 +4,13 @@ import json
 import math
 import re
 import tomllib
+from collections.abc import Iterator
+from fractions import Fraction
 from hashlib import sha256
+from typing import Any, TypeAlias
 
+# The number of each range, by its name: whole, or of a source that is linked a fraction too.
+Choice: TypeAlias = dict[str, int | Fraction]
 ITEM = r"\d+(?:\s*\.\.\s*\d+(?:\s+step\s+\d+)?)?"
 ITEMS = rf"{ITEM}(?:\s*,\s*{ITEM})*"
 RANGE = re.compile(rf"\{{\s*(?:([A-Za-z_]\w*)\s*(?::\s*({ITEMS})\s*)?|({ITEMS})\s*)\}}")
@@ -19,11 +24,14 @@ PERIOD, TIMES, TABLES = "period", "times", ("unit", "bus")
 DIGITS = 8
 
 
-def numbers_of(items):
+def numbers_of(items: str) -> list[int]:
     """The numbers of a range, in order and each once."""
-    made = {}
+    made: dict[int, None] = {}
     for item in items.split(","):
-        low, high, step = NUMBERS.fullmatch(item.strip()).groups()
+        found = NUMBERS.fullmatch(item.strip())
+        if not found:
+            raise ValueError(f"{item.strip()} is no range")
+        low, high, step = found.groups()
         if step and int(step) == 0:
             raise ValueError(f"the range {item.strip()} has a step of 0")
         made |= dict.fromkeys(range(int(low), int(high or low) + 1, int(step or 1)))
@@ -32,7 +40,7 @@ def numbers_of(items):
     return list(made)
 
 
-def marks_in(value, place):
+def marks_in(value: Any, place: list[str]) -> Iterator[tuple[str, str]]:
     """The marks in a part of a datapath file, each with its place, such as period, mul.latency or add.files.0."""
     if isinstance(value, str) and (mark := MARK.fullmatch(value)):
         yield mark[1], ".".join(place)
@@ -48,12 +56,12 @@ class Fitting(int):
     """The size of a file that gives a plan all registers that it asks for, until the plan is known."""
 
 
-def fitted(datapath, taken):
+def fitted(datapath: dict[str, Any], taken: dict[str, int]) -> dict[str, Any]:
     """The datapath with as many registers in its fitting files as a plan takes of each, and at least one."""
-    def size_of(unit, port, size):
+    def size_of(unit: dict[str, Any], port: int, size: Any) -> Any:
         return max(1, taken.get(f"{unit['name']}.{port}", 0)) if isinstance(size, Fitting) else size
 
-    def unit_of(unit):
+    def unit_of(unit: dict[str, Any]) -> dict[str, Any]:
         if not isinstance(unit.get("files"), list):
             return unit
         return unit | {"files": [size_of(unit, port, size) for port, size in enumerate(unit["files"])]}
@@ -61,15 +69,15 @@ def fitted(datapath, taken):
     return datapath | {"unit": list(map(unit_of, datapath["unit"]))}
 
 
-def is_number(value):
-    return isinstance(value, int) or isinstance(value, str) and MARK.fullmatch(value)
+def is_number(value: Any) -> bool:
+    return isinstance(value, int) or isinstance(value, str) and MARK.fullmatch(value) is not None
 
 
 class Template:
     """A datapath file with ranges: the numbers of each, and what has them."""
 
-    def __init__(self, text, is_plain_allowed=False):
-        self.found = []
+    def __init__(self, text: str, is_plain_allowed: bool = False) -> None:
+        self.found: list[tuple[str | None, list[int]]] = []
         self.tree = tomllib.loads("".join(map(self.marked, text.splitlines(True))))
         self.check()
         self.names = self.names_of_ranges()
@@ -81,18 +89,18 @@ class Template:
             raise ValueError(f"it has {self.count} combinations, and {MOST} is the most" if self.found else
                              "it has no range, such as {1, 2} or {32..256 step 8}")
 
-    def marked(self, line):
+    def marked(self, line: str) -> str:
         """A line in which a text that names it replaces each range."""
         said, hash_mark, comment = line.partition("#")
         return RANGE.sub(self.mark, said) + hash_mark + comment
 
-    def mark(self, found):
+    def mark(self, found: re.Match[str]) -> str:
         name, named_items, items = found.groups()
         if items or named_items:
             self.found.append((name, numbers_of(items or named_items)))
         return json.dumps(f"{{{name or len(self.found) - 1}}}")
 
-    def check(self):
+    def check(self) -> None:
         """What the script itself reads of a datapath; all else is judged by silc."""
         for table in TABLES:
             parts = self.tree.get(table)
@@ -105,7 +113,7 @@ class Template:
         if not is_number(self.tree.get(PERIOD)):
             raise ValueError("it has no period")
 
-    def names_of_ranges(self):
+    def names_of_ranges(self) -> list[str]:
         """The name of each range, or its place."""
         parts = [(part, [part["name"]]) for table in TABLES for part in self.tree[table]]
         parts += [(value, [key]) for key, value in self.tree.items() if key not in TABLES]
@@ -117,22 +125,23 @@ class Template:
             raise ValueError(f"{{{FIT}}} is the size of a file alone")
         unknown = [mark for mark in places if not mark.isdigit() and mark not in (*named, FIT)]
         if unknown or PERIOD in named:
-            raise ValueError(f"no range is called {unknown[0]}" if unknown else f"no range is to have the name {PERIOD}")
+            raise ValueError(f"no range is called {unknown[0]}" if unknown
+                             else f"no range is to have the name {PERIOD}")
         return [name or places[str(number)] for number, (name, _) in enumerate(self.found)]
 
-    def made_from(self, source):
+    def made_from(self, source: bytes) -> str:
         """Some digits that are others where the source or the template is another, but for the numbers of ranges."""
         own = json.dumps(self.tree, sort_keys=True, default=str).encode()
         return sha256(source + own).hexdigest()[:DIGITS]
 
-    def choices(self):
+    def choices(self) -> Iterator[Choice]:
         """All combinations, each as a number for each range."""
         for numbers in itertools.product(*self.ranges.values()):
             yield dict(zip(self.ranges, numbers))
 
-    def datapath(self, choice):
+    def datapath(self, choice: Choice) -> dict[str, Any]:
         """The datapath of a combination."""
-        def filled(value):
+        def filled(value: Any) -> Any:
             if isinstance(value, dict):
                 return {key: filled(part) for key, part in value.items()}
             if isinstance(value, list):
@@ -145,25 +154,25 @@ class Template:
         return repeated(filled(self.tree))
 
 
-def copies_of(part):
+def copies_of(part: dict[str, Any]) -> list[dict[str, Any]]:
     """The copies of a part that is there several times: the first keeps its name, the others have a number after it."""
     rest = {key: value for key, value in part.items() if key != TIMES}
     names = (part["name"] + (f"_{number}" if number > 1 else "") for number in range(1, part.get(TIMES, 1) + 1))
     return [rest | {"name": name} for name in names]
 
 
-def tied(units, names):
+def tied(units: list[dict[str, Any]], names: dict[str, list[str]]) -> Iterator[dict[str, Any]]:
     """Copies of an acu address the copies of its ram, one each; where these are fewer, the last one."""
     for number, unit in enumerate(units):
-        rams = names.get(unit.get("ram"))
+        rams = names.get(unit.get("ram", ""))
         yield unit | {"ram": rams[min(number, len(rams) - 1)]} if rams else unit
 
 
-def repeated(datapath):
+def repeated(datapath: dict[str, Any]) -> dict[str, Any]:
     """The datapath with each unit and bus as often as it is to be there. A bus whose last end goes is left out."""
     names = {unit["name"]: [copied["name"] for copied in copies_of(unit)] for unit in datapath["unit"]}
 
-    def ends(listed):
+    def ends(listed: list[Any]) -> Iterator[str]:
         """Each end of a bus, with the same one of each copy of its unit."""
         for end in listed:
             unit, dot, port = str(end).partition(".")
@@ -178,9 +187,9 @@ def repeated(datapath):
     return datapath | {"unit": units, "bus": buses}
 
 
-def text_of(datapath):
+def text_of(datapath: dict[str, Any]) -> str:
     """The datapath as the text of a datapath file."""
-    def line(key, value):
+    def line(key: str, value: Any) -> str:
         return f"{key} = {json.dumps(value, default=str)}"
 
     lines = [line(key, value) for key, value in datapath.items() if key not in TABLES]

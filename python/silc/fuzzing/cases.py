@@ -6,9 +6,10 @@ import random
 import re
 import tomllib
 from dataclasses import dataclass
+from random import Random
 
 from silc.fuzzing import damage, datapaths, images, plans, samples, sources
-from silc.fuzzing.running import CONFLICT, DONE, SAMPLES
+from silc.fuzzing.running import CONFLICT, DONE, SAMPLES, Ended, Room
 from silc.micro_file import NEWEST, VERSIONS, BadImage, bytes_of, image_of
 
 KINDS = ("sources", "datapaths", "microcode", "samples", "damaged")
@@ -30,10 +31,10 @@ class Case:
     seed: str
     number: int
 
-    def again(self):
+    def again(self) -> str:
         return f"tools/fuzz {self.kind} {self.seed} 1 --case {self.number}"
 
-    def run(self, room):
+    def run(self, room: Room) -> None:
         """Makes the files of the case in the room, and raises Broken where something does not hold."""
         kind = KINDS[self.number % len(KINDS)] if self.kind == ALL else self.kind
         rng = random.Random(f"{self.kind} {self.seed} {self.number}")
@@ -44,7 +45,7 @@ class Case:
 # Kinds
 
 
-def of_source(room, rng):
+def of_source(room: Room, rng: Random) -> None:
     """A program, or one that is damaged, on an ample datapath."""
     source = sources.Program(rng, rng.choice([8, 16, 16, 32, 40])).source()
     text = source.text.encode()
@@ -55,7 +56,7 @@ def of_source(room, rng):
     check_program(room, rng, text, path, rows)
 
 
-def of_datapath(room, rng):
+def of_datapath(room: Room, rng: Random) -> None:
     """A datapath of any size, or one that is damaged, and a program that often has a place there."""
     source = sources.Program(rng, 16).source() if rng.random() < 0.6 else sources.Source(INCREMENT.decode(), [], [])
     path = datapaths.text_of(datapaths.Maker(rng, rng.random() < 0.3).datapath(), rng).encode()
@@ -65,7 +66,7 @@ def of_datapath(room, rng):
     check_program(room, rng, source.text.encode(), path, rows)
 
 
-def of_samples(room, rng):
+def of_samples(room: Room, rng: Random) -> None:
     """Rows in any way of writing them, often with a damage; a program that puts each word as it is."""
     if rng.random() < 0.5:
         source, is_identity = sources.Program(rng, 16).source(), False
@@ -79,12 +80,12 @@ def of_samples(room, rng):
     path = datapaths.text_of(datapaths.Maker(rng, True).datapath(), rng).encode()
     solved = check_program(room, rng, source.text.encode(), path, text)
     if is_whole:
-        room.expect(solved.code == DONE, f"whole samples are refused: {solved.line}")
+        room.expect(solved.code == DONE, f"whole samples are refused: {solved.line!r}")
         if is_identity:
             room.expect(solved.out == samples.plain(rows), "the words of whole samples do not come back")
 
 
-def identity(rng):
+def identity(rng: Random) -> sources.Source:
     types = [sources.BOOL if rng.random() < 0.2 else sources.Type(rng.randint(1, 40)) for _ in range(rng.randint(1, 5))]
     inputs = ", ".join(f"x{number} : {type_.text(rng)}" for number, type_ in enumerate(types))
     outputs = ", ".join(f"y{number} : {type_.text(rng)}" for number, type_ in enumerate(types))
@@ -92,7 +93,7 @@ def identity(rng):
     return sources.Source(f"func main({inputs}) ({outputs}) = begin {lines} end;\n", types, types)
 
 
-def of_microcode(room, rng):
+def of_microcode(room: Room, rng: Random) -> None:
     """Microcode without a conflict, with one, or with other bytes."""
     image = images.Image(rng)
     is_sound = rng.random() < 0.5
@@ -113,12 +114,12 @@ def of_microcode(room, rng):
     ran = check_rows(room, rng, "SAMPLES", text, "sim", "MIC")
     check_microcode(room, data, listed, ran)
     if not is_damaged:
-        room.expect(listed.code == DONE, f"an image is refused: {listed.line}")
+        room.expect(listed.code == DONE, f"an image is refused: {listed.line!r}")
         room.expect(listed.printed.decode() == finished.listing(), "the listing is another than that of the image")
-        room.expect(not is_sound or ran.code == DONE, f"an image without a conflict ends with {ran.line}")
+        room.expect(not is_sound or ran.code == DONE, f"an image without a conflict ends with {ran.line!r}")
 
 
-def of_damaged(room, rng):
+def of_damaged(room: Room, rng: Random) -> None:
     """Microcode with other bytes or bits, in each version as often as in the other, and a few rows."""
     image = images.Image(rng)
     data = damage.of_microcode(rng, bytes_of(image.finished(), rng.choice(VERSIONS)))
@@ -130,7 +131,7 @@ def of_damaged(room, rng):
 # What has to hold
 
 
-def check_microcode(room, data, listed, ran):
+def check_microcode(room: Room, data: bytes, listed: Ended, ran: Ended) -> None:
     """`list` and `sim` take or refuse bytes alike: what the table of their fields has is taken and listed. The place of
     a fault is in the file, or at its end where that comes too early. In the other version `list` says and `sim` does
     the same."""
@@ -139,22 +140,22 @@ def check_microcode(room, data, listed, ran):
     place = PLACE_IN_FILE.fullmatch(listed.line)
     if place:
         is_short, at = place[1] == b"short", int(place[2])
-        room.expect(at == len(data) if is_short else at < len(data), f"no place of {len(data)} bytes: {listed.line}")
+        room.expect(at == len(data) if is_short else at < len(data), f"no place of {len(data)} bytes: {listed.line!r}")
     try:
         image = image_of(data)
     except BadImage as fault:
         expected = f"silc: {fault.refusal()}\n".encode()
-        room.expect(expected == listed.line, f"it is refused otherwise than by the table of its fields: {expected}")
+        room.expect(expected == listed.line, f"it is refused otherwise than by the table of its fields: {expected!r}")
         return
-    room.expect(listed.code == DONE, f"what the table of the fields has is refused: {listed.line}")
+    room.expect(listed.code == DONE, f"what the table of the fields has is refused: {listed.line!r}")
     room.expect(listed.printed.decode() == image.listing(), "the listing is another than that of the fields")
     room.put("OTHER", bytes_of(image, sum(VERSIONS) - data[PLACE_OF_VERSION]))
     room.expect(room.silc("list", "OTHER") == listed, "in the other version the listing is another")
     other = room.silc("sim", "OTHER", "SAMPLES", "ROWS", out="ROWS")
-    room.expect((other.said(), other.out) == (ran.said(), ran.out), f"in the other version it ends with {other.line}")
+    room.expect((other.said(), other.out) == (ran.said(), ran.out), f"in the other version it ends with {other.line!r}")
 
 
-def check_program(room, rng, source, path, rows):
+def check_program(room: Room, rng: Random, source: bytes, path: bytes, rows: bytes) -> Ended:
     """The ways to plan and to run a program agree. Gives how `eval` ended."""
     room.put("SRC", source)
     room.put("DP", path)
@@ -176,7 +177,7 @@ def check_program(room, rng, source, path, rows):
     return solved
 
 
-def check_rows(room, rng, name, rows, command, *inputs):
+def check_rows(room: Room, rng: Random, name: str, rows: bytes, command: str, *inputs: str) -> Ended:
     """How a command on samples ends. What it leaves after a bad row or a conflict are the rows before."""
     room.put(name, rows)
     ended = room.silc(command, *inputs, name, "ROWS", out="ROWS", before=rng.choice(OLDER))
@@ -189,9 +190,9 @@ def check_rows(room, rng, name, rows, command, *inputs):
     if not room.programs.keeps_rows:
         # All rows are read before the first is run, so an earlier conflict may show where the bad row is away.
         room.expect(first.code == DONE or ended.code == SAMPLES and first.code == CONFLICT,
-                    f"the {count} rows before the fault end with {first.line}")
+                    f"the {count} rows before the fault end with {first.line!r}")
         return ended
-    room.expect(first.code == DONE, f"the {count} rows before the fault end with {first.line}")
+    room.expect(first.code == DONE, f"the {count} rows before the fault end with {first.line!r}")
     room.expect(first.out == ended.out, f"OUT does not have the {count} rows before the fault")
     if count + 1 < len(lines):
         room.put("FIRST", b"".join(line + b"\n" for line in lines[:count + 1]))
@@ -200,7 +201,7 @@ def check_rows(room, rng, name, rows, command, *inputs):
     return ended
 
 
-def rows_before(room, ended, inputs):
+def rows_before(room: Room, ended: Ended, inputs: tuple[str, ...]) -> int:
     """How many rows come before the one of the fault."""
     if ended.code == SAMPLES:
         return int(BAD_ROW.fullmatch(ended.line)[1]) - 1
@@ -208,7 +209,7 @@ def rows_before(room, ended, inputs):
     return int(AT_CYCLE.match(ended.line)[1]) // period
 
 
-def check_plan(room, plan, path):
+def check_plan(room: Room, plan: str, path: bytes) -> None:
     """The listing of the microcode is that of the plan."""
     listed = room.silc("list", "MIC")
     inputs, outputs = HEAD.match(listed.printed).groups()[1:]
@@ -221,14 +222,15 @@ def check_plan(room, plan, path):
     room.expect(bytes_of(image_of(data), NEWEST) == data, f"compile does not write version {NEWEST}")
 
 
-def check_text(room, made):
+def check_text(room: Room, made: Ended) -> None:
     """The canonical text of a source is its own, and means the same."""
     text = room.show("text", "SRC")
     if text.startswith(b"fault "):
-        room.expect(made.code == 4, f"the program takes a source without a text: {text[:100]}")
+        room.expect(made.code == 4, f"the program takes a source without a text: {text[:100]!r}")
         return
     room.put("TEXT", text)
     room.expect(room.show("text", "TEXT") == text, "the canonical text is not its own")
     again = room.silc("compile", "TEXT", "DP", "AGAIN", out="AGAIN")
     room.expect(again.code == made.code and again.out == made.out, "a source and its text compile to other bytes")
-    room.expect(PLACE.sub(b"", again.line) == PLACE.sub(b"", made.line), "a source and its text are refused in two ways")
+    room.expect(PLACE.sub(b"", again.line) == PLACE.sub(b"", made.line),
+                "a source and its text are refused in two ways")

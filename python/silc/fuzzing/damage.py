@@ -1,5 +1,6 @@
 """Damage of files: of bytes, of bits, of tokens, of numbers."""
 import re
+from random import Random
 
 # The magic and the version of microcode.
 HEAD = 5
@@ -11,14 +12,16 @@ ENDS = [b"0", b"1", b"2", b"3", b"7", b"8", b"15", b"16", b"17", b"31", b"32", b
         b"8193", b"65535", b"65536", b"65537", b"2147483647", b"2147483648", b"4294967296", b"549755813887",
         b"549755813888", b"9223372036854775807", b"9223372036854775808", b"999999999999999999",
         b"1000000000000000000", b"00", b"0.5", b"1.5"]
-WORDS = [b"func", b"const", b"var", b"begin", b"end", b"fix", b"bool", b"trunc", b"round", b"if", b"fi", b"true", b"false",
-         b"sat", b"main", b"x", b"y", b"::", b"..", b"==", b"!=", b"<=", b">=", b"<<", b">>", b"->", b"||", b"@@", b"(", b")",
+WORDS = [b"func", b"const", b"var", b"begin", b"end", b"fix", b"bool", b"trunc", b"round", b"if", b"fi", b"true",
+         b"false",
+         b"sat", b"main", b"x", b"y", b"::", b"..", b"==", b"!=", b"<=", b">=", b"<<", b">>", b"->", b"||", b"@@", b"(",
+         b")",
          b"[", b"]", b",", b";", b":", b"=", b"<", b">", b"+", b"-", b"*", b"&", b"|", b"!", b"@", b"1.5", b"/*", b"*/",
          b"name", b"kind", b"period", b"word", b"hold", b"unit", b"bus", b"from", b"to", b"cells", b"ram", b"files",
          b"latency", b"gap", b'"', b"'", b"#", b"[[", b"]]", b"{", b"}", b".", b"\n", b"\\"]
 
 
-def of_bytes(rng, data):
+def of_bytes(rng: Random, data: bytes) -> bytes:
     data = bytearray(data)
     for _ in range(rng.choice([1, 1, 1, 2, 5])):
         at = rng.randrange(len(data) + 1)
@@ -38,7 +41,7 @@ def of_bytes(rng, data):
     return bytes(data)
 
 
-def of_bits(rng, data):
+def of_bits(rng: Random, data: bytes) -> bytes:
     """Bits that are changed, left out, or put in behind the first five bytes, with what follows pushed to and fro."""
     head, size = data[:HEAD], 8 * max(0, len(data) - HEAD)
     bits = list(format(int.from_bytes(data[HEAD:], "big"), f"0{size}b")) if size else []
@@ -53,16 +56,16 @@ def of_bits(rng, data):
             bits[at:at] = [rng.choice("01") for _ in range(count)]
         else:
             bits[at:at + count] = rng.choice("01") * count
-    bits = "".join(bits)
-    bits += "0" * (-len(bits) % 8)
-    return head + int(bits or "0", 2).to_bytes(len(bits) // 8, "big")
+    text = "".join(bits)
+    text += "0" * (-len(text) % 8)
+    return head + int(text or "0", 2).to_bytes(len(text) // 8, "big")
 
 
-def of_microcode(rng, data):
+def of_microcode(rng: Random, data: bytes) -> bytes:
     return rng.choice([of_bytes, of_bits])(rng, data)
 
 
-def of_tokens(rng, data):
+def of_tokens(rng: Random, data: bytes) -> bytes:
     tokens = TOKENS.findall(data) or [b""]
     for _ in range(rng.choice([1, 1, 2, 3])):
         at, other = rng.randrange(len(tokens)), rng.randrange(len(tokens))
@@ -80,7 +83,7 @@ def of_tokens(rng, data):
     return b"".join(tokens)
 
 
-def of_numbers(rng, data):
+def of_numbers(rng: Random, data: bytes) -> bytes:
     places = list(NUMBERS.finditer(data))
     for found in sorted(rng.sample(places, min(len(places), rng.choice([1, 1, 2]))), key=lambda found: -found.start()):
         near = str(max(0, int(found[0]) + rng.choice([-1, 1]))).encode()
@@ -88,7 +91,7 @@ def of_numbers(rng, data):
     return data
 
 
-def of_lines(rng, data):
+def of_lines(rng: Random, data: bytes) -> bytes:
     lines = data.splitlines(keepends=True) or [b""]
     at, other = rng.randrange(len(lines)), rng.randrange(len(lines))
     way = rng.randrange(3)
@@ -101,5 +104,5 @@ def of_lines(rng, data):
     return b"".join(lines)
 
 
-def of_text(rng, data):
+def of_text(rng: Random, data: bytes) -> bytes:
     return rng.choice([of_bytes, of_tokens, of_tokens, of_numbers, of_numbers, of_lines])(rng, data)

@@ -1,5 +1,8 @@
 """Random datapath files: few or many units, wide or sparse routes, in several ways to write them."""
+from collections.abc import Iterable, Iterator
 from dataclasses import dataclass, field
+from random import Random
+from typing import Any
 
 from silc.micro_file.operations import PORTS
 
@@ -10,7 +13,7 @@ MOST_ENTRIES, MOST_BUSES, MOST_UNITS = 256, 32, 32
 class Unit:
     name: str
     kind: str
-    files: list
+    files: list[int]
     latency: int = 1
     gap: int = 1
     cells: int = 0
@@ -20,8 +23,8 @@ class Unit:
 @dataclass
 class Bus:
     name: str
-    drivers: list
-    ports: list
+    drivers: list[str]
+    ports: list[str]
 
 
 @dataclass
@@ -29,31 +32,32 @@ class Datapath:
     period: int
     word: int
     hold: int
-    units: list = field(default_factory=list)
-    buses: list = field(default_factory=list)
+    units: list[Unit] = field(default_factory=list)
+    buses: list[Bus] = field(default_factory=list)
 
 
 class Maker:
     """Makes datapaths. An ample one has a unit of each kind, large files and a route for every word."""
 
-    def __init__(self, rng, is_ample):
+    def __init__(self, rng: Random, is_ample: bool) -> None:
         self.rng, self.is_ample = rng, is_ample
 
-    def count(self):
+    def count(self) -> int:
         return self.rng.choice([1, 1, 1, 2, 3] if self.is_ample else [0, 1, 1, 1, 2, 4])
 
-    def file_size(self):
+    def file_size(self) -> int:
         return 256 if self.is_ample else self.rng.choice([1, 2, 4, 16, 64, 256, 256])
 
-    def unit(self, name, kind, **more):
+    def unit(self, name: str, kind: str, **more: Any) -> Unit:
         rng = self.rng
         latency = rng.choice([1, 1, 1, 2, 3] if self.is_ample else [1, 1, 2, 3, 8])
-        unit = Unit(name, kind, [self.file_size() for _ in range(PORTS[kind])], latency, rng.randint(1, latency), **more)
+        unit = Unit(name, kind, [self.file_size() for _ in range(PORTS[kind])], latency, rng.randint(1, latency),
+                    **more)
         if kind in ("in", "out", "rom", "acu") and rng.random() < 0.7:
             unit.latency = unit.gap = 1
         return unit
 
-    def units(self):
+    def units(self) -> list[Unit]:
         rng = self.rng
         units = [self.unit("inp", "in"), self.unit("outp", "out")]
         units += [self.unit("rom", "rom")] if self.is_ample or rng.random() < 0.9 else []
@@ -63,17 +67,19 @@ class Maker:
             name = f"mem{number}"
             cells = rng.choice([256, 4096] if self.is_ample else [1, 2, 7, 64, 4096])
             units.append(self.unit(name, "ram", cells=cells))
-            units += [self.unit(f"adr{number}_{more}", "acu", ram=name) for more in range(rng.choice([1, 1, 1, 2, 0]))] \
+            units += [self.unit(f"adr{number}_{more}", "acu", ram=name)
+                      for more in range(rng.choice([1, 1, 1, 2, 0]))] \
                 if not self.is_ample else [self.unit(f"adr{number}", "acu", ram=name)]
         if rng.random() < 0.3:
             rng.shuffle(units)
         return units[:MOST_UNITS]
 
-    def buses(self, units):
+    def buses(self, units: list[Unit]) -> list[Bus]:
         rng = self.rng
         drivers = [unit.name for unit in units if unit.kind != "out"]
         ports = [f"{unit.name}.{port}" for unit in units for port in range(PORTS[unit.kind])]
-        style = rng.choice(["each", "each", "one", "few"] if self.is_ample else ["each", "one", "few", "sparse", "sparse"])
+        style = rng.choice(["each", "each", "one", "few"] if self.is_ample
+                           else ["each", "one", "few", "sparse", "sparse"])
         if style == "each":
             return [Bus(f"of_{name}", [name], list(ports)) for name in drivers]
         count = 1 if style == "one" else rng.randint(2, 6)
@@ -81,7 +87,7 @@ class Maker:
             return [Bus(f"b{number}", list(drivers), list(ports)) for number in range(count)]
         return [Bus(f"b{number}", some_of(rng, drivers), some_of(rng, ports)) for number in range(count)]
 
-    def datapath(self):
+    def datapath(self) -> Datapath:
         rng = self.rng
         units = self.units()
         buses = self.buses(units)
@@ -90,11 +96,11 @@ class Maker:
         return Datapath(period, word, rng.choice([0, 0, 1, 2, 3]), units, fitting(buses))
 
 
-def some_of(rng, names):
+def some_of(rng: Random, names: list[str]) -> list[str]:
     return [name for name in names if rng.random() < 0.7]
 
 
-def fitting(buses):
+def fitting(buses: list[Bus]) -> list[Bus]:
     """As many buses as there may be, with as many ports."""
     kept, left = [], MOST_ENTRIES
     for bus in buses[:MOST_BUSES]:
@@ -106,7 +112,7 @@ def fitting(buses):
 # Text
 
 
-def pairs_of(unit):
+def pairs_of(unit: Unit) -> Iterator[tuple[str, str]]:
     yield "name", quoted(unit.name)
     yield "kind", quoted(unit.kind)
     if unit.latency > 1:
@@ -121,19 +127,20 @@ def pairs_of(unit):
         yield "ram", quoted(unit.ram)
 
 
-def quoted(name):
+def quoted(name: str) -> str:
     return f'"{name}"'
 
 
-def listed(names):
+def listed(names: list[str]) -> str:
     return f"[{', '.join(map(quoted, names))}]"
 
 
-def text_of(datapath, rng):
-    """The datapath as TOML: plain, or with keys in another order, comments, and values that are written in other ways."""
+def text_of(datapath: Datapath, rng: Random) -> str:
+    """The datapath as TOML: plain, or with keys in another order, comments, and values that are written in other
+    ways."""
     is_plain = rng.random() < 0.6
 
-    def table(pairs):
+    def table(pairs: Iterable[tuple[str, str]]) -> list[str]:
         pairs = list(pairs)
         if not is_plain:
             rng.shuffle(pairs)
@@ -144,13 +151,14 @@ def text_of(datapath, rng):
     for unit in datapath.units:
         lines += ["[[unit]]", *table(pairs_of(unit))]
     for bus in datapath.buses:
-        lines += ["[[bus]]", *table([("name", quoted(bus.name)), ("from", listed(bus.drivers)), ("to", listed(bus.ports))])]
+        lines += ["[[bus]]",
+                  *table([("name", quoted(bus.name)), ("from", listed(bus.drivers)), ("to", listed(bus.ports))])]
     if not is_plain:
         lines = [rng.choice([line] * 6 + [f"{line}  # a comment", f"\n{line}", f"  {line}"]) for line in lines]
     return "\n".join(lines) + "\n"
 
 
-def otherwise(rng, value):
+def otherwise(rng: Random, value: str) -> str:
     """The same value of TOML, in one of its other forms."""
     if value.isdigit():
         return rng.choice([value, f"+{value}", f"{int(value):#x}", f"{int(value):#o}", f"{int(value):#b}"])

@@ -1,14 +1,22 @@
 """Microcode files for measurements and tests, of units and words. python/silc/micro_file writes their bytes."""
+from collections.abc import Iterable, Sequence
+from typing import TypeAlias
+
 from silc import micro_file
 from silc.micro_file.image import MODES, MOST_PERIOD
 from silc.micro_file.operations import FORMATTED, PORTS
+
+# (unit, bus) pairs, and (unit, port, bus, register) quadruples.
+Enable: TypeAlias = tuple[int, int]
+Transfer: TypeAlias = tuple[int, int, int, int]
 
 OLDEST, NEWEST = 1, micro_file.NEWEST
 # What an image takes at most beside its words in version 1.
 HEAD, LARGE_HEAD = 20000, 200000
 
 
-def unit(kind, latency=1, gap=1, files=None, cells=(), ram=0):
+def unit(kind: str, latency: int = 1, gap: int = 1, files: Sequence[Sequence[int]] | None = None,
+         cells: Sequence[int] = (), ram: int = 0) -> micro_file.Unit:
     """A unit by what the registers of each port and the cells start with. Without files it has 16 registers a port, all
     0."""
     files = files or [[0] * 16] * PORTS[kind]
@@ -16,36 +24,39 @@ def unit(kind, latency=1, gap=1, files=None, cells=(), ram=0):
                            ram if kind == "acu" else None)
 
 
-def issue(number, operation, registers=(), argument=0, width=24, shift=0, mode=0):
+def issue(number: int, operation: str, registers: Sequence[int] = (), argument: int = 0, width: int = 24,
+          shift: int = 0, mode: int = 0) -> micro_file.Issue:
     """An issue; the format is that of a formatted operation, and none for the others."""
     fmt = micro_file.Format(shift, MODES[mode], width) if operation in FORMATTED else None
     return micro_file.Issue(number, operation, fmt, argument, tuple(registers))
 
 
-def word(issues=(), enables=(), takes=()):
+def word(issues: Iterable[micro_file.Issue] = (), enables: Iterable[Enable] = (),
+         takes: Iterable[Transfer] = ()) -> micro_file.Word:
     """A microword of issues, (unit, bus) pairs and (unit, port, bus, register) quadruples, each in rising order."""
     return micro_file.Word({one.unit: one for one in issues}, list(enables), [micro_file.Take(*take) for take in takes])
 
 
-def image(period, unroll, inputs, outs, units, buses, words, version=OLDEST):
+def image(period: int, unroll: int, inputs: Iterable[int], outs: int, units: Iterable[micro_file.Unit], buses: int,
+          words: Iterable[micro_file.Word], version: int = OLDEST) -> bytes:
     """The bytes of an image in a version."""
     made = micro_file.Image(period, unroll, list(inputs), outs, list(units), buses, list(words))
     return micro_file.bytes_of(made, version)
 
 
-def size_of(one):
+def size_of(one: micro_file.Word) -> int:
     """How many bytes a word has in version 1."""
     issues = sum(13 + len(issue.registers) for issue in one.issues.values())
     return 5 + issues + 2 * len(one.enables) + 4 * len(one.takes)
 
 
-def filled(room, units, full, buses, version):
+def filled(room: int, units: list[micro_file.Unit], full: micro_file.Word, buses: int, version: int) -> bytes:
     """An image whose words are all the same, as many as there is room for in version 1, and at least four."""
     count = max(4, min(room // size_of(full) // 4 * 4, 4 * MOST_PERIOD))
     return image(count // 4, 4, [16], 1, units, buses, [full] * count, version)
 
 
-def wide(size, version=OLDEST):
+def wide(size: int, version: int = OLDEST) -> bytes:
     """A valid image of about so many bytes in version 1: words full of enables and takes. It is for reading, not for
     running."""
     units = [unit("alu", files=[[0] * 8] * 2) for _ in range(32)]
@@ -54,7 +65,7 @@ def wide(size, version=OLDEST):
     return filled(size - HEAD, units, word(enables=enables, takes=takes), 32, version)
 
 
-def crowded(size, version=OLDEST):
+def crowded(size: int, version: int = OLDEST) -> bytes:
     """A valid image of at most so many bytes in version 1: words full of issues, with no enables or takes. It is for
     reading, not for running."""
     operations = [("in", "input"), ("rom", "const"), ("alu", "add"), ("mul", "mul"), ("sel", "sel"), ("alu", "lt"),
@@ -65,7 +76,7 @@ def crowded(size, version=OLDEST):
     return filled(size - HEAD, units, full, 1, version)
 
 
-def verbose(size, version=OLDEST):
+def verbose(size: int, version: int = OLDEST) -> bytes:
     """A valid image of at most so many bytes in version 1 whose listing is as long as one can be: takes with three
     digits in each number that may have them."""
     units = [unit("alu", files=[[0] * 256] * 2) for _ in range(32)]
@@ -74,13 +85,13 @@ def verbose(size, version=OLDEST):
     return filled(size - LARGE_HEAD, units, word(takes=takes), 32, version)
 
 
-def roomy(version=OLDEST):
+def roomy(version: int = OLDEST) -> bytes:
     """A valid image of 16 MiB in version 1 that is nearly all cells of memories, of which the last ones are not 0."""
     units = [unit("ram", files=[[0], [0]], cells=[0] * 65535 + [1]) for _ in range(32)]
     return image(1, 1, [16], 1, units, 1, [word()], version)
 
 
-def busy(period=256, version=OLDEST):
+def busy(period: int = 256, version: int = OLDEST) -> bytes:
     """An image that runs without a conflict: eight units, of which seven drive a bus each cycle."""
     units = [unit("in"), unit("rom"), unit("alu"), unit("alu"), unit("alu"), unit("mul", latency=2),
              unit("sel"), unit("out")]

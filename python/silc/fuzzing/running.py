@@ -4,6 +4,7 @@ import re
 import resource
 import signal
 import subprocess
+from collections.abc import Sequence
 from dataclasses import dataclass
 from pathlib import Path
 
@@ -25,7 +26,7 @@ CODES = {
 PRINTING = {"schedule", "list"}
 
 
-def limited():
+def limited() -> None:
     for kind, most in ((resource.RLIMIT_CPU, SECONDS), (resource.RLIMIT_AS, MEMORY), (resource.RLIMIT_STACK, STACK)):
         resource.setrlimit(kind, (most, most))
 
@@ -45,7 +46,7 @@ class Ended:
     line: bytes
     out: bytes | None = None
 
-    def said(self):
+    def said(self) -> tuple[int, bytes]:
         """The code and the line, without the place of a line of the source."""
         return self.code, self.line
 
@@ -55,28 +56,32 @@ class Broken(Exception):
 
 
 class Room:
-    """A folder in which the commands of a case run. `ran` has the words of each, `ends` how many ended with which code."""
+    """A folder in which the commands of a case run. `ran` has the words of each, `ends` how many ended with which
+    code."""
 
-    def __init__(self, folder, programs):
-        self.folder, self.programs, self.ran, self.ends = Path(folder), programs, [], {}
+    def __init__(self, folder: str | Path, programs: Programs) -> None:
+        self.folder, self.programs = Path(folder), programs
+        self.ran: list[str] = []
+        self.ends: dict[tuple[str, int], int] = {}
 
-    def put(self, name, data):
+    def put(self, name: str, data: bytes) -> str:
         (self.folder / name).write_bytes(data)
         return name
 
-    def bytes_of(self, name):
+    def bytes_of(self, name: str) -> bytes | None:
         path = self.folder / name
         return path.read_bytes() if path.is_file() else None
 
-    def expect(self, holds, what):
+    def expect(self, holds: object, what: str) -> None:
         if not holds:
             raise Broken(what)
 
-    def started(self, program, words):
+    def started(self, program: Path, words: Sequence[str]) -> subprocess.CompletedProcess[bytes]:
         self.ran.append(f"{program.name} {' '.join(words)}")
         try:
             done = subprocess.run([program, *words], cwd=self.folder, stdin=subprocess.DEVNULL, capture_output=True,
-                                  preexec_fn=limited, timeout=CLOCK_SECONDS, env={"PATH": os.defpath, "LANG": "C.UTF-8"})
+                                  preexec_fn=limited, timeout=CLOCK_SECONDS,
+                                  env={"PATH": os.defpath, "LANG": "C.UTF-8"})
         except subprocess.TimeoutExpired as late:
             raise Broken(f"it has not ended after {CLOCK_SECONDS} seconds: {self.ran[-1]}") from late
         if done.returncode < 0:
@@ -84,7 +89,7 @@ class Room:
             raise Broken(f"it was ended by {name} (of {SECONDS} s of processor, {MEMORY >> 20} MiB): {self.ran[-1]}")
         return done
 
-    def silc(self, *words, out=None, before=None):
+    def silc(self, *words: str, out: str | None = None, before: bytes | None = None) -> Ended:
         """How a command ended. With `out` it writes a file of this name, in whose place `before` stands."""
         command = words[0]
         inputs = [(name, self.bytes_of(name)) for name in words[1:] if name != out]
@@ -97,18 +102,19 @@ class Room:
         code = done.returncode
         self.ends[command, code] = self.ends.get((command, code), 0) + 1
         self.expect(0 <= code <= MOST_CODE, f"the code is {code}: {self.ran[-1]}")
-        self.expect(code in CODES[command], f"no code of this command: {code}, {done.stderr}: {self.ran[-1]}")
+        self.expect(code in CODES[command], f"no code of this command: {code}, {done.stderr!r}: {self.ran[-1]}")
         self.expect(done.stderr == b"" if code == DONE else LINE.fullmatch(done.stderr),
-                    f"standard error of code {code} is {done.stderr[:300]}: {self.ran[-1]}")
+                    f"standard error of code {code} is {done.stderr[:300]!r}: {self.ran[-1]}")
         self.expect(bool(done.stdout) == (command in PRINTING and code == DONE),
-                    f"standard output of code {code} is {done.stdout[:300]}: {self.ran[-1]}")
+                    f"standard output of code {code} is {done.stdout[:300]!r}: {self.ran[-1]}")
         self.expect(all(self.bytes_of(name) == data for name, data in inputs), f"an input was changed: {self.ran[-1]}")
         self.expect(set(os.listdir(self.folder)) - names <= {out}, f"a file was made beside OUT: {self.ran[-1]}")
         left = self.bytes_of(out) if out else None
         return Ended(code, done.stdout, done.stderr, self.rows_left(out, before, code, left))
 
-    def rows_left(self, out, before, code, left):
-        """What OUT holds: all where it is done, the rows before the fault after 11 and 12, what it held before elsewhere."""
+    def rows_left(self, out: str | None, before: bytes | None, code: int, left: bytes | None) -> bytes | None:
+        """What OUT holds: all where it is done, the rows before the fault after 11 and 12, what it held before
+        elsewhere."""
         if not out:
             return None
         if code == DONE or code in (SAMPLES, CONFLICT) and self.programs.keeps_rows:
@@ -117,8 +123,9 @@ class Room:
         self.expect(left == before, f"OUT was touched by a refusal of code {code}: {self.ran[-1]}")
         return None
 
-    def show(self, *words):
+    def show(self, *words: str) -> bytes | None:
         """What `silc_show` prints. It ends with 0 for a refusal, too, which it prints."""
         done = self.started(self.programs.show, words)
-        self.expect(done.returncode in (0, 1), f"silc_show ended with {done.returncode}, {done.stderr[:300]}: {self.ran[-1]}")
+        self.expect(done.returncode in (0, 1),
+                    f"silc_show ended with {done.returncode}, {done.stderr[:300]!r}: {self.ran[-1]}")
         return done.stdout if done.returncode == 0 else None

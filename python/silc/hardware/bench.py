@@ -1,11 +1,17 @@
-"""The bench of a core: it puts rows of a file in, prints each row that comes out, and compares it with those of another."""
+"""The bench of a core: it puts rows of a file in, prints each row that comes out, and compares it with those of
+another."""
+from .netlist import Core
+from .words import Range
 
 TEXT = """\
-// A bench for {name}, made by tools/verilog. It puts the rows of samples.txt into the core and compares what comes out with
+// A bench for {name}, made by tools/verilog. It puts the rows of samples.txt into the core and compares what comes \
+out with
 // expected.txt, or with files named by +samples= and +expected=; with +rows_alone it compares nothing. It waits up to
-// +in_wait= clocks before it offers a row and up to +out_wait= before it takes one, drawn anew each time from +seed=, and
-// resets the core once after +reset_after= rows, when all rows are to come again. +vcd= makes a file of waveforms. It prints
-// each row, a fault with its cycle, and last `passed N rows` or `failed`.
+// +in_wait= clocks before it offers a row and up to +out_wait= before it takes one, drawn anew each time from +seed=, \
+and
+// resets the core once after +reset_after= rows, when all rows are to come again. +vcd= makes a file of waveforms. It \
+prints
+// each row, a fault with its cycle, and last `passed N rows` or `failed`.{queues_say}
 module {name}_tb;
     localparam PERIOD = {period}, PATIENCE = 40 * PERIOD + {patience}, STEPS_A_DRAW = 8;
     reg clk, rst, in_valid, out_ready;
@@ -17,7 +23,7 @@ module {name}_tb;
 
     reg [8*512-1:0] samples_name, expected_name, vcd_name;
     integer samples, expected, in_wait, out_wait, reset_after;
-    integer in_left, out_left, taken, put, quiet, cycles, found, resets, failures;
+    integer in_left, out_left, taken, put, quiet, patience, cycles, found, resets, failures;
     reg is_over, was_fault, is_comparing;
     reg [31:0] random;
 
@@ -94,7 +100,8 @@ module {name}_tb;
         if (!$value$plusargs("out_wait=%d", out_wait)) out_wait = 0;
         if (!$value$plusargs("reset_after=%d", reset_after)) reset_after = 0;
         if (!$value$plusargs("seed=%d", random)) random = 32'd1;
-        is_comparing = !$test$plusargs("rows_alone");
+        patience = PATIENCE + in_wait + out_wait;
+{queue_waits}        is_comparing = !$test$plusargs("rows_alone");
         if ($value$plusargs("vcd=%s", vcd_name)) begin
             $dumpfile(vcd_name);
             $dumpvars(0, {name}_tb);
@@ -113,7 +120,8 @@ module {name}_tb;
         out_ready = 1'b0;
     end
 
-    // All happens at the falling edge, between two edges of the core. What it offered since the last one was taken or put at
+    // All happens at the falling edge, between two edges of the core. What it offered since the last one was taken or \
+put at
     // the rising edge between, where `moved` saw it.
     reg took, gave, was_active;
     always @(posedge clk) begin
@@ -165,9 +173,9 @@ module {name}_tb;
                 rst = 1'b1;
                 in_valid = 1'b0;
                 out_ready = 1'b0;
-            end else if (is_over && put == taken || quiet > PATIENCE + in_wait + out_wait) begin
+            end else if (is_over && put == taken || quiet > patience) begin
                 if (put != taken && !fault) begin
-                    $display("no row came in %0d clocks", PATIENCE + in_wait + out_wait);
+                    $display("no row came in %0d clocks", patience);
                     failures = failures + 1;
                 end
                 stop;
@@ -178,23 +186,34 @@ endmodule
 """
 
 
-def bench_of(core, fill_last):
-    """The text of the bench of a core, whose longest fill has so many clocks."""
+# What a bench of a net has more: its queues wait too, all of those on the longest way for one row.
+QUEUES_SAY = """
+// With SILC_WAITS defined each row waits up to +queue_wait= clocks in each queue."""
+QUEUE_WAITS = """\
+        if (!$value$plusargs("queue_wait=%d", found)) found = 0;
+        patience = patience + {queues} * found;
+"""
+
+
+def bench_of(core: Core, fill_last: int, queues: int = 0) -> str:
+    """The text of the bench of a core, whose longest fill has so many clocks; or of a net, with so many queues on a
+    way."""
     ins, outs = range(len(core.inputs)), range(len(core.outputs))
 
-    def signal(kind, words, name):
+    def signal(kind: str, words: Range, name: str) -> str:
         return f"    {kind}{' signed' if words.is_signed() else ''} [{words.bits() - 1}:0] {name};\n"
 
     return TEXT.format(
-        name=core.name, period=core.period, patience=fill_last + 100,
+        name=core.name, period=core.period, patience=fill_last + 100, queues_say=QUEUES_SAY if queues else "",
+        queue_waits=QUEUE_WAITS.format(queues=queues) if queues else "",
         declarations="".join([*(signal("reg", core.inputs[j], f"in_{j}") for j in ins),
                               *(signal("wire", core.outputs[j], f"out_{j}") for j in outs),
                               *(f"    reg signed [63:0] in_word_{j};\n" for j in ins),
                               *(f"    reg signed [63:0] out_word_{j}, row_word_{j};\n" for j in outs)]),
         ports="".join([*(f", .in_{j}(in_{j})" for j in ins), *(f", .out_{j}(out_{j})" for j in outs)]),
         in_format=",".join(["%d"] * len(ins)), in_words=", ".join(f"in_word_{j}" for j in ins), in_count=len(ins),
-        out_format=",".join(["%d"] * len(outs)), out_words=", ".join(f"out_word_{j}" for j in outs), out_count=len(outs),
-        differs=" || ".join(f"out_word_{j} != row_word_{j}" for j in outs),
+        out_format=",".join(["%d"] * len(outs)), out_words=", ".join(f"out_word_{j}" for j in outs),
+        out_count=len(outs), differs=" || ".join(f"out_word_{j} != row_word_{j}" for j in outs),
         shown=",".join(["%0d"] * len(outs)), shown_words="".join(f", row_word_{j}" for j in outs),
         row_copies="".join(f"        row_word_{j} <= out_{j};\n" for j in outs),
         offers="".join(f"                    in_{j} = in_word_{j}[{core.inputs[j].bits() - 1}:0];\n" for j in ins))

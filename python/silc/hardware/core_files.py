@@ -1,12 +1,14 @@
 """The files of a core: parts, module, microprogram, first words, map, bench."""
 from pathlib import Path
 
+from silc.micro_file.image import Image
 from silc.programs import PACKAGE, in_checkout
 
 from .bench import bench_of
 from .columns import Program
 from .core_text import CoreText
-
+from .netlist import Core, File
+from .words import Range
 
 
 def parts_file() -> Path:
@@ -21,22 +23,23 @@ PARTS = parts_file()
 class Files:
     """The names of the files that the module reads: the microprogram, and what is there first where it is not all 0."""
 
-    def __init__(self, core):
+    def __init__(self, core: Core) -> None:
         self.program = f"{core.name}_code.hex"
-        self.first = {name: f"{core.name}_{name}.hex" for name, file in core.memories() if core.is_full or any(file.first)}
+        self.first = {name: f"{core.name}_{name}.hex" for name, file in core.memories() if core.is_full
+                      or any(file.first)}
 
 
-def first_lines(file):
+def first_lines(file: File) -> str:
     bits = file.words.bits()
     digits = (bits + 3) // 4
     return "".join(f"{word & ((1 << bits) - 1):0{digits}x}\n" for word in file.first)
 
 
-def shown_range(words):
+def shown_range(words: Range) -> str:
     return f"{words.low} to {words.high} in {words.bits()} bits, {'signed' if words.is_signed() else 'unsigned'}"
 
 
-def map_of(core, program):
+def map_of(core: Core, program: Program) -> str:
     """What each port holds, and what the bits of a row of the microprogram mean, as text."""
     lines = [f"core {core.name}: {core.period} cycles a sample, {core.rows} rows of {program.width} bits"]
     for kind, ports in (("in", core.inputs), ("out", core.outputs)):
@@ -50,7 +53,7 @@ def map_of(core, program):
     return "".join(line + "\n" for line in lines)
 
 
-def files_of(image, core):
+def files_of(image: Image, core: Core) -> dict[str, str]:
     """The text of each file by its name. Equal images give equal files."""
     files, program = Files(core), Program(image, core)
     made = CoreText(core, program, files)

@@ -1,29 +1,42 @@
 """The generated module of a core: its ports, its microprogram's fields, units, buses, register files and latches.
 
-Names: i_J the held input word J, l_J the output latch J, u_UNIT a unit's result, f_UNIT_PORT the register that a port reads,
-n_UNIT_PORT the address that it reads in the next cycle, b_BUS a bus, cu_, cf_ and cb_ the columns of a unit, a file and a bus.
-A core has no signal and no bit of one that nothing reads.
+Names: i_J the held input word J, l_J the output latch J, u_UNIT a unit's result, f_UNIT_PORT the register that a port
+reads, n_UNIT_PORT the address that it reads in the next cycle, b_BUS a bus, cu_, cf_ and cb_ the columns of a unit, a
+file and a bus. A core has no signal and no bit of one that nothing reads.
 """
+from __future__ import annotations
+
+from collections.abc import Iterable, Iterator, Mapping, Sequence
+from typing import TYPE_CHECKING, TypeAlias
+
 from silc.micro_file.image import ROUNDING, SATURATING
 from silc.micro_file.operations import FORMATTED, OF_KIND, TRUTHS, number_bits, number_of
 
-from .columns import stages
+from .columns import Program, stages
+from .netlist import Core, File, Part, Quantisation
 from .words import Range, index_bits, of_width
+
+if TYPE_CHECKING:
+    from .core_files import Files
+
+# What a parameter of a part in Verilog is given, and the signal at each of its ports.
+Parameters: TypeAlias = dict[str, int | str]
+Ports: TypeAlias = dict[str, str]
 
 CODE, OP_BITS, FORMAT_BITS = "code", number_bits("alu"), 8
 LINE = 108
 UNREAD, READ = "/* verilator lint_off UNUSEDSIGNAL */", "/* verilator lint_on UNUSEDSIGNAL */"
 
 
-def vector(bits):
+def vector(bits: int) -> str:
     return f"[{bits - 1}:0]"
 
 
-def number(bits, value):
+def number(bits: int, value: int) -> str:
     return f"{bits}'d{value}"
 
 
-def fitted(name, words, bits):
+def fitted(name: str, words: Range, bits: int) -> str:
     """A signal that holds these words, in so many bits."""
     own = words.bits()
     if own >= bits:
@@ -32,24 +45,24 @@ def fitted(name, words, bits):
     return f"{{{fill}, {name}}}"
 
 
-def operand(name, words):
+def operand(name: str, words: Range) -> str:
     """The signal in two's complement."""
     return fitted(name, words, words.signed_bits())
 
 
-def chosen(selector, bits, options):
+def chosen(selector: str, bits: int, options: list[str]) -> str:
     """One of the options, by their numbers; the last one where the selector has no such number."""
     tests = [f"{selector} == {number(bits, place)} ? {option} : " for place, option in enumerate(options[:-1])]
     return "".join(tests) + options[-1]
 
 
-def packed(values, bits):
+def packed(values: Sequence[int], bits: int) -> str:
     """Numbers as a literal with so many bits each, number 0 in the lowest."""
     whole = sum((value & ((1 << bits) - 1)) << (bits * place) for place, value in enumerate(values))
     return f"{bits * len(values)}'h{whole:x}"
 
 
-def filled(items):
+def filled(items: Iterable[str]) -> str:
     """Items with commas, in lines that are not too long."""
     lines = [""]
     for item in items:
@@ -59,58 +72,65 @@ def filled(items):
     return ",\n        ".join(lines)
 
 
-def instance(part, name, parameters, ports):
+def instance(part: str, name: str, parameters: Mapping[str, int | str], ports: Mapping[str, str]) -> str:
     given = filled(f".{key}({value})" for key, value in parameters.items())
     joined = filled(f".{key}({value})" for key, value in ports.items())
     return f"    {part} #({given}) {name} (\n        {joined});\n"
 
 
-def declared(kind, bits, name, value=None):
+def declared(kind: str, bits: int, name: str, value: str | None = None) -> str:
     return f"    {kind} {vector(bits)} {name}{'' if value is None else f' = {value}'};\n"
 
 
-def unread(text, why):
+def unread(text: str, why: str) -> str:
     """Lines that declare what nothing reads, with the reason why it is there."""
     return f"    // {why}\n    {UNREAD}\n{text.rstrip()}\n    {READ}\n"
 
 
-def low(name, bits, own):
+def low(name: str, bits: int, own: int) -> str:
     """The lowest bits of a signal that has so many of its own."""
     return name if bits == own else f"{name}[{bits - 1}:0]"
+
+
+def fill_last_of(core: Core) -> int:
+    """The last address in the largest file or memory of a core."""
+    return max([1, *(file.size - 1 for _, file in core.memories())])
 
 
 class CoreText:
     """The text of a core whose microprogram is given."""
 
-    def __init__(self, core, program, files):
+    def __init__(self, core: Core, program: Program, files: Files) -> None:
         self.core, self.program, self.files = core, program, files
         self.fill_bits = max([1, *(file.address_bits() for _, file in core.memories())])
-        self.fill_last = max([1, *(file.size - 1 for _, file in core.memories())])
+        self.fill_last = fill_last_of(core)
         self.first_bits = max([0, *(file.address_bits() for name, file in core.memories() if name in files.first)])
         self.held = sorted({word for part in core.parts.values() for word in part.inputs})
 
-    def text(self):
-        return "".join([self.head(), self.control(), self.fields(), self.signals(), *self.parts(), *self.buses(),
-                        self.inputs(), self.outputs(), "endmodule\n`default_nettype wire\n"])
+    def text(self) -> str:
+        return "".join([self.head(), self.control(), self.fields(), self.begun(), self.signals(), *self.parts(),
+                        *self.buses(), self.inputs(), self.outputs(), "endmodule\n`default_nettype wire\n"])
 
-    def filled(self, name, file):
+    def filled(self, name: str, file: File) -> tuple[str, Parameters, Ports]:
         """What words of a file or a memory have in common: what reads their first ones, parameters, and ports."""
         bits, address = file.words.bits(), file.address_bits()
-        parameters = {"WIDTH": bits, "SIZE": file.size, "BITS": address, "FILE": f'"{self.files.first.get(name, "")}"'}
+        parameters: Parameters = {"WIDTH": bits, "SIZE": file.size, "BITS": address,
+                                  "FILE": f'"{self.files.first.get(name, "")}"'}
         ports = {"clk": "clk", "fill": "fill", "fill_at": low("fill_at", address, self.fill_bits),
                  "first": f"first_{name}" if name in self.files.first else number(bits, 0)}
         if name not in self.files.first:
             return "", parameters, ports
         return declared("wire", bits, f"first_{name}") + instance("silc_first", f"firsts_{name}", parameters, {
-            "clk": "clk", "next": low("first_at", address, self.first_bits), "word": f"first_{name}"}), parameters, ports
+            "clk": "clk", "next": low("first_at", address, self.first_bits),
+            "word": f"first_{name}"}), parameters, ports
 
     # Ports, control, microprogram
 
-    def ports(self):
-        def port(direction, words, name):
+    def ports(self) -> str:
+        def port(direction: str, words: Range, name: str) -> str:
             return f"    {direction} {vector(words.bits())} {name},\n"
 
-        def in_port(place, words):
+        def in_port(place: int, words: Range) -> str:
             text = port("input wire", words, f"in_{place}")
             return text if place in self.held else unread(text, "A word of the row that no operation reads.")
 
@@ -121,13 +141,13 @@ class CoreText:
             *(port("output reg", words, f"out_{place}") for place, words in enumerate(self.core.outputs)),
             "    output wire active,\n    output wire fault"])
 
-    def head(self):
+    def head(self) -> str:
         core = self.core
         build = f"any program over a datapath of words of {core.word} bits" if core.is_full else "one program alone"
         return (f"// A core for {build}, made by tools/verilog. It needs silc_parts.v.\n`default_nettype none\n"
                 f"module {core.name} #(\n    parameter RESTART = 1\n) (\n{self.ports()}\n);\n")
 
-    def control(self):
+    def control(self) -> str:
         core, bits, width = self.core, index_bits(self.core.rows), self.program.width
         wires = "".join(f"    wire {name};\n" for name in ("step", "run", "put_row", "stray"))
         taking, filling = "    wire take_row;\n", "    wire fill;\n" + declared("wire", self.fill_bits, "fill_at")
@@ -136,18 +156,19 @@ class CoreText:
         if self.first_bits:
             after = f"{low('fill_at', self.first_bits, self.fill_bits)} + {number(self.first_bits, 1)}"
             wires += declared("wire", self.first_bits, "first_at", f"rst ? {number(self.first_bits, 0)} : {after}")
-        parameters = {"BITS": bits, "START": core.start, "FILL_BITS": self.fill_bits, "FILL_LAST": self.fill_last,
-                      "RESTART": "RESTART"}
-        names = "clk rst in_valid in_ready out_valid out_ready stray at step run take_row put_row fault fill fill_at".split()
-        ports = {name: name for name in names} | {"last": "c_last", "again": "c_again"}
-        memory = {"WIDTH": width, "WORDS": core.rows, "BITS": bits, "FILE": f'"{self.files.program}"'}
+        parameters: Parameters = {"BITS": bits, "START": core.start, "FILL_BITS": self.fill_bits,
+                                  "FILL_LAST": self.fill_last, "RESTART": "RESTART"}
+        names = "clk rst in_valid in_ready out_valid out_ready stray at step run take_row put_row fault fill fill_at"
+        ports = {name: name for name in names.split()} | {"last": "c_last", "again": "c_again"}
+        memory: Parameters = {"WIDTH": width, "WORDS": core.rows, "BITS": bits, "FILE": f'"{self.files.program}"'}
         return "".join([
             wires, declared("wire", bits, "at"), declared("wire", width, "row"),
             "    wire [0:0] c_last, c_again;\n    assign active = run;\n",
             instance("silc_sequencer", "sequencer", parameters, ports),
-            instance("silc_program", "program_rows", memory, {"clk": "clk", "step": "step", "at": "at", "word": "row"})])
+            instance("silc_program", "program_rows", memory,
+                     {"clk": "clk", "step": "step", "at": "at", "word": "row"})])
 
-    def fields(self):
+    def fields(self) -> str:
         lines = ["\n"]
         for column in self.program.columns:
             place = self.program.places.get(column.name)
@@ -159,7 +180,23 @@ class CoreText:
                 lines.append(declared("wire", column.bits, column.name, value))
         return "".join(lines)
 
-    def signals(self):
+    def begun(self) -> str:
+        """The number of the sample, up to that from which on all is due."""
+        if not any(self.program.has(f"cu_{part.name}_due") for part in self.core.parts.values()):
+            return ""
+        last = self.core.last_stage()
+        bits = index_bits(last + 1)
+        return (f"\n{declared('reg', bits, 'begun')}    always @(posedge clk)\n"
+                f"        if (rst) begun <= {number(bits, 0)};\n"
+                f"        else if (run && c_last && begun != {number(bits, last)}) "
+                f"begun <= begun + {number(bits, 1)};\n")
+
+    def does(self, part: Part, flag: str) -> str:
+        """Whether a unit begins what leaves something behind, of a sample that there is."""
+        does, due = f"cu_{part.name}_{flag}", f"cu_{part.name}_due"
+        return f"{does} && begun >= {due}" if self.program.has(due) else does
+
+    def signals(self) -> str:
         """What parts have in common, declared before any part."""
         lines = ["\n"]
         for place in self.held:
@@ -177,19 +214,21 @@ class CoreText:
 
     # Units
 
-    def parts(self):
+    def parts(self) -> Iterator[str]:
         for unit, part in self.core.parts.items():
             yield f"\n    // {part.name}, {part.kind}\n"
             for port, file in part.files.items():
                 yield self.file(part, port, file)
             yield getattr(self, f"{part.kind}_part")(unit, part)
 
-    def file(self, part, port, file):
-        """The register file at a port. One register is words alone, and an address that is read ahead comes a clock early."""
+    def file(self, part: Part, port: int, file: File) -> str:
+        """The register file at a port. One register is words alone, and an address that is read ahead comes a clock
+        early."""
         name, column = f"{part.name}_{port}", f"cf_{part.name}_{port}"
         first, parameters, ports = self.filled(name, file)
         bits, address = file.words.bits(), file.address_bits()
-        ports |= {"write": f"run && {column}_take", "into": f"{column}_into", "data": self.taken(part, port, file, bits)} \
+        ports |= {"write": f"run && {column}_take", "into": f"{column}_into",
+                  "data": self.taken(part, port, file, bits)} \
             if file.sources else {"write": "1'b0", "into": number(address, 0), "data": number(bits, 0)}
         if file.size == 1:
             ports |= {"into": "1'd0", "at": "1'd0", "word": f"f_{name}"}
@@ -201,43 +240,43 @@ class CoreText:
                                     ports | {"word_next": f"n_{name}"})
         return first + instance("silc_file", f"file_{name}", parameters, ports)
 
-    def taken(self, part, port, file, bits):
+    def taken(self, part: Part, port: int, file: File, bits: int) -> str:
         """What a file takes, in so many bits."""
         options = [fitted(f"b_{self.core.buses[bus].name}", self.core.buses[bus].words, bits) for bus in file.sources]
         return chosen(f"cf_{part.name}_{port}_from", index_bits(len(options)), options)
 
-    def coming(self, part, port, file):
+    def coming(self, part: Part, port: int, file: File) -> str:
         """What a file of one register holds in the next cycle, as far as it is an address of a memory."""
         name, bits = f"{part.name}_{port}", next_bits(part)
         now = low(f"f_{name}", bits, file.words.bits())
         return f"run && cf_{name}_take ? {self.taken(part, port, file, bits)} : {now}" if file.sources else now
 
-    def delayed(self, part, cycles, value):
+    def delayed(self, part: Part, cycles: int, value: str) -> str:
         """The unit's result, which is `value` so many cycles before."""
         return self.delay(f"result_{part.name}", part.result.bits(), cycles, value, f"u_{part.name}")
 
     @staticmethod
-    def delay(name, bits, cycles, value, to, clear="1'b0"):
+    def delay(name: str, bits: int, cycles: int, value: str, to: str, clear: str = "1'b0") -> str:
         if not cycles:
             return f"    assign {to} = {value};\n"
         return instance("silc_delay", name, {"WIDTH": bits, "CYCLES": cycles},
                         {"clk": "clk", "clear": clear, "run": "run", "in": value, "out": to})
 
-    def in_part(self, _, part):
+    def in_part(self, _: int, part: Part) -> str:
         bits = part.result.bits()
         options = [fitted(f"i_{word}", self.core.inputs[word], bits) for word in part.inputs]
         return self.delayed(part, part.latency - 1, chosen(f"cu_{part.name}_word", index_bits(len(options)), options))
 
-    def rom_part(self, _, part):
+    def rom_part(self, _: int, part: Part) -> str:
         return f"    assign u_{part.name} = cu_{part.name}_value;\n"
 
-    def sel_part(self, _, part):
+    def sel_part(self, _: int, part: Part) -> str:
         bits, name = part.result.bits(), part.name
         options = [fitted(f"f_{name}_{port}", part.files[port].words, bits) for port in (1, 2)]
         test = f"f_{name}_0 != {number(part.files[0].words.bits(), 0)}"
         return self.delayed(part, part.latency - 1, f"{test} ? {options[0]} : {options[1]}")
 
-    def alu_part(self, _, part):
+    def alu_part(self, _: int, part: Part) -> str:
         name, bits = part.name, part.result.bits()
         words = [part.files[port].words if port in part.files else Range(0, 0) for port in (0, 1)]
         sizes = [one.signed_bits() for one in words]
@@ -259,23 +298,24 @@ class CoreText:
         truth = fitted(f"truth_{name}", Range(0, 1), bits)
         if len(truths) == len(names):
             return "".join(lines) + self.delayed(part, part.latency - 1, truth)
-        words = quantised_words(part)
-        lines += [declared("wire", words.bits(), f"sum_{name}"), self.quantised(part, exact, f"exact_{name}", f"sum_{name}")]
-        value = fitted(f"sum_{name}", words, bits)
+        summed = quantised_words(part)
+        lines += [declared("wire", summed.bits(), f"sum_{name}"),
+                  self.quantised(part, exact, f"exact_{name}", f"sum_{name}")]
+        value = fitted(f"sum_{name}", summed, bits)
         if truths:
             is_truth = " || ".join(f"op_{name} == {number(OP_BITS, number_of(operation))}" for operation in truths)
             value = f"{is_truth} ? {truth} : {value}"
         return "".join(lines) + self.delayed(part, part.latency - 1, value)
 
     @staticmethod
-    def alu_op(part):
+    def alu_op(part: Part) -> str:
         """The number of the operation, by the code that the program has for it."""
         if not part.operations:
             return f"cu_{part.name}_op"
         options = [number(OP_BITS, number_of(operation)) for operation, _ in part.operations]
         return chosen(f"cu_{part.name}_{CODE}", index_bits(len(options)), options)
 
-    def quantised(self, part, exact_bits, exact, to):
+    def quantised(self, part: Part, exact_bits: int, exact: str, to: str) -> str:
         """A part that brings the exact number to the issue's format."""
         name = part.name
         size, ports = {"IN": exact_bits, "OUT": quantised_words(part).bits()}, {"exact": exact, "word": to}
@@ -294,7 +334,7 @@ class CoreText:
             instance("silc_quantise", f"quantise_{name}", size | format_parameters(part.formats),
                      {"format": f"format_{name}"} | ports)
 
-    def mul_part(self, _, part):
+    def mul_part(self, _: int, part: Part) -> str:
         name, words = part.name, [part.files[port].words for port in (0, 1)]
         sizes = [one.signed_bits() for one in words]
         before, after, behind = stages(part.latency)
@@ -312,7 +352,7 @@ class CoreText:
             self.quantised(part, sum(sizes), f"exact_{name}", f"word_{name}"),
             self.delayed(part, behind, fitted(f"word_{name}", product, part.result.bits()))])
 
-    def ram_part(self, _, part):
+    def ram_part(self, _: int, part: Part) -> str:
         """The memory. One of latency 1 is read ahead, as a register file is."""
         if not part.has_memory():
             return ""
@@ -324,15 +364,16 @@ class CoreText:
         lines = [first, declared("wire", words.bits(), f"read_{name}")]
         if part.is_ahead(0):
             ports |= {"step": "step", "next": fitted(f"n_{name}_0", address.cut(bits), bits),
-                      "write": f"run && cu_{name}_stores", "into": at, "data": value}
+                      "write": f"run && {self.does(part, 'stores')}", "into": at, "data": value}
             lines.append(instance("silc_file", f"memory_{name}", parameters | {"SMALL": 0}, ports))
         else:
-            ports |= {"rst": "rst", "run": "run", "address": at, "store": f"cu_{name}_stores", "value": value}
+            ports |= {"rst": "rst", "run": "run", "address": at, "store": self.does(part, "stores"),
+                      "value": value}
             lines.append(instance("silc_memory", f"memory_{name}", parameters | {"LATENCY": part.latency}, ports))
         lines.append(f"    assign u_{name} = {fitted(f'read_{name}', words, part.result.bits())};\n")
         return "".join(lines)
 
-    def acu_part(self, _, part):
+    def acu_part(self, _: int, part: Part) -> str:
         name, bits = part.name, part.result.bits()
         last = part.result.high
         return "".join([
@@ -343,31 +384,32 @@ class CoreText:
                      {"offset": f"cu_{name}_offset", "origin": f"origin_{name}", "address": f"address_{name}"}),
             self.delayed(part, part.latency - 1, f"address_{name}")])
 
-    def out_part(self, _, part):
+    def out_part(self, _: int, part: Part) -> str:
         name, cycles = part.name, part.latency - 1
         bits = part.files[0].words.bits()
         return "".join([
             f"    wire ends_{name};\n", declared("wire", bits, f"word_{name}"),
-            self.delay(f"flag_{name}", 1, cycles, f"cu_{name}_does", f"ends_{name}", "rst"),
+            self.delay(f"flag_{name}", 1, cycles, self.does(part, "does"), f"ends_{name}", "rst"),
             self.delay(f"delay_{name}", bits, cycles, f"f_{name}_0", f"word_{name}")])
 
     # Buses, rows, faults
 
-    def buses(self):
+    def buses(self) -> Iterator[str]:
         yield "\n"
         for bus in self.core.buses.values():
             bits = bus.words.bits()
-            options = [fitted(f"u_{self.core.parts[unit].name}", self.core.parts[unit].result, bits) for unit in bus.drivers]
+            options = [fitted(f"u_{self.core.parts[unit].name}", self.core.parts[unit].result, bits)
+                       for unit in bus.drivers]
             value = chosen(f"cb_{bus.name}_from", index_bits(len(options)), options) if options else number(bits, 0)
             yield f"    assign b_{bus.name} = {value};\n"
         tests = [stray_test(part) for part in self.core.parts.values() if part.can_stray()]
         yield f"    assign stray = {' || '.join(tests) or number(1, 0)};\n"
 
-    def inputs(self):
+    def inputs(self) -> str:
         lines = "".join(f"            i_{place} <= in_{place};\n" for place in self.held)
         return lines and f"\n    always @(posedge clk)\n        if (take_row) begin\n{lines}        end\n"
 
-    def outputs(self):
+    def outputs(self) -> str:
         """The latches, into which the unit with the greatest number writes last, and the row that is put."""
         places = range(len(self.core.outputs))
         bits = [words.bits() for words in self.core.outputs]
@@ -375,13 +417,14 @@ class CoreText:
         zeros = "".join(f"            l_{place} <= {number(bits[place], 0)};\n" for place in places)
         writes = "".join(self.latch_writes(part) for part in self.core.parts.values() if part.kind == "out")
         puts = "".join(f"            out_{place} <= l_{place};\n" for place in places)
-        return (f"\n{regs}    always @(posedge clk)\n        if (rst) begin\n{zeros}        end else if (run) begin\n{writes}"
+        return (f"\n{regs}    always @(posedge clk)\n        if (rst) begin\n{zeros}        end else if (run) begin\n"
+                f"{writes}"
                 f"        end\n    always @(posedge clk)\n        if (put_row) begin\n{puts}        end\n")
 
-    def latch_writes(self, part):
+    def latch_writes(self, part: Part) -> str:
         return "".join(self.writes_of(part))
 
-    def writes_of(self, part):
+    def writes_of(self, part: Part) -> Iterator[str]:
         column = f"cu_{part.name}_word"
         bits = index_bits(len(self.core.outputs))
         constant = self.program.constants.get(column)
@@ -392,28 +435,30 @@ class CoreText:
                 yield f"            if (ends_{part.name}{test}) l_{place} <= {value};\n"
 
 
-def next_bits(part):
+def next_bits(part: Part) -> int:
     """How many bits of the next address a memory reads."""
     return part.files[0].words.cut(part.cells.address_bits()).bits()
 
 
-def quantised_words(part):
+def quantised_words(part: Part) -> Range:
     """The words of the widest format of a unit, where formats are listed, or else all that it may give."""
     return of_width(part.formats[0][2]) if part.formats else part.result
 
 
-def format_parameters(formats):
-    """Shifts, modes and widths of formats as parameters. Where no format rounds, the lowest bit adds what is always 0."""
+def format_parameters(formats: list[Quantisation]) -> Parameters:
+    """Shifts, modes and widths of formats as parameters. Where no format rounds, the lowest bit adds what is always
+    0."""
     shifts, modes, widths = zip(*formats)
     return {"COUNT": len(formats), "BITS": index_bits(len(formats)), "SHIFTS": packed(shifts, FORMAT_BITS),
             "ROUNDS": packed([int(mode in ROUNDING) for mode in modes], FORMAT_BITS),
-            "SATS": packed([int(mode in SATURATING) for mode in modes], FORMAT_BITS), "WIDTHS": packed(widths, FORMAT_BITS),
+            "SATS": packed([int(mode in SATURATING) for mode in modes], FORMAT_BITS),
+            "WIDTHS": packed(widths, FORMAT_BITS),
             "ROUNDED": max([1, *(width for mode, width in zip(modes, widths) if mode in ROUNDING)])}
 
 
-def stray_test(part):
-    """The condition under which a load or a store is outside of its memory. As an unsigned number the address is then at
-    least that of the first cell that is not there, or of the least negative number."""
+def stray_test(part: Part) -> str:
+    """The condition under which a load or a store is outside of its memory. As an unsigned number the address is then
+    at least that of the first cell that is not there, or of the least negative number."""
     address, cells = part.files[0].words, part.cells.size
     least = min(cells, 1 << (address.bits() - 1)) if address.is_signed() else cells
     test = f"f_{part.name}_0 >= {number(address.bits(), least)}"

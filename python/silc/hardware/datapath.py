@@ -1,11 +1,17 @@
 """Datapath files, as far as a core needs them: names, who drives each bus and where it goes, and the widest word."""
 import re
 import tomllib
+from collections.abc import Iterator
 from dataclasses import dataclass
+from typing import Any, TypeAlias
 
+from silc.micro_file.image import Image
 from silc.micro_file.operations import PORTS
 
 from .netlist import NoCore
+
+# A table of a datapath file.
+Table: TypeAlias = dict[str, Any]
 
 NAME = re.compile(r"[A-Za-z0-9_]{1,32}")
 
@@ -14,25 +20,25 @@ NAME = re.compile(r"[A-Za-z0-9_]{1,32}")
 class Ends:
     """A bus with the numbers of the units that may drive it, and the (unit, port) pairs that it may be taken into."""
     name: str
-    from_: list
-    to: list
+    from_: list[int]
+    to: list[tuple[int, int]]
 
 
 @dataclass
 class Names:
     """What the units and the buses are called, and from a datapath file the widest word and the ends of the buses."""
-    units: list
-    buses: list
+    units: list[str]
+    buses: list[str]
     word: int | None = None
-    ends: list | None = None
+    ends: list[Ends] | None = None
 
 
-def numbered(image):
+def numbered(image: Image) -> Names:
     """Names for an image without a datapath file."""
     return Names([str(number) for number in range(len(image.units))], [str(number) for number in range(image.buses)])
 
 
-def called(tables):
+def called(tables: list[Table]) -> list[str]:
     """The names of units or of buses, which stand in the text of a core."""
     names = [table["name"] for table in tables]
     for name in names:
@@ -43,12 +49,13 @@ def called(tables):
     return names
 
 
-def unit_faults(image, tables, names):
+def unit_faults(image: Image, tables: list[Table], names: list[str]) -> Iterator[str]:
     """How the units of a datapath differ from those of an image."""
     if len(tables) != len(image.units):
         yield f"it has {len(tables)} units, and the microcode {len(image.units)}"
     for table, unit in zip(tables, image.units):
-        asked = {"kind": unit.kind, "latency": unit.latency, "gap": unit.gap, "files": [len(file) for file in unit.files]}
+        asked = {"kind": unit.kind, "latency": unit.latency, "gap": unit.gap,
+                 "files": [len(file) for file in unit.files]}
         given = {"kind": table["kind"], "latency": table.get("latency", 1), "gap": table.get("gap", 1),
                  "files": table.get("files", [])}
         if unit.kind == "ram":
@@ -60,7 +67,7 @@ def unit_faults(image, tables, names):
                 yield f"unit {table['name']} has {key} {given[key]}, and that of the microcode {value}"
 
 
-def bus_faults(image, ends, names):
+def bus_faults(image: Image, ends: list[Ends], names: list[str]) -> Iterator[str]:
     """Where an image drives a bus or takes from one as the datapath does not allow."""
     if len(ends) != image.buses:
         yield f"it has {len(ends)} buses, and the microcode {image.buses}"
@@ -75,15 +82,15 @@ def bus_faults(image, ends, names):
                 yield f"the microcode takes from bus {ends[take.bus].name} into {port}, which is not in its to"
 
 
-def ends_of(table, names):
+def ends_of(table: Table, names: list[str]) -> Ends:
     """The ends of a bus, by the numbers of the units."""
-    def end(text):
+    def end(text: str) -> tuple[int, int]:
         unit, _, port = text.rpartition(".")
         return names.index(unit), int(port)
     return Ends(table["name"], sorted(map(names.index, table["from"])), sorted(map(end, table["to"])))
 
 
-def faults_of(image, tree, made):
+def faults_of(image: Image, tree: Table, made: Names) -> Iterator[str]:
     if tree["period"] != image.period:
         yield f"it has period {tree['period']}, and the microcode {image.period}"
     yield from unit_faults(image, tree["unit"], made.units)
@@ -93,7 +100,7 @@ def faults_of(image, tree, made):
             yield f"bus {name} goes to a port that is not there"
 
 
-def names_of(text, image):
+def names_of(text: str, image: Image) -> Names:
     """The names of a datapath file for the image, or NoCore where the file is not that of its hardware."""
     try:
         tree = tomllib.loads(text)

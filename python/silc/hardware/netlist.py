@@ -2,10 +2,24 @@
 
 There are two ways to it: what one image needs, or what any image over a datapath may need.
 """
+from __future__ import annotations
+
+from collections.abc import Iterator
 from dataclasses import dataclass, field
+from typing import TYPE_CHECKING, TypeAlias
+
+from silc.micro_file.image import Image, Issue, Take, Unit
 
 from .idle import keep_needed, without_idle, without_units
 from .words import TRUTH, Range, index_bits, of_width, of_words
+
+if TYPE_CHECKING:
+    from .datapath import Ends, Names
+
+# What a format does to a result, which sorts: shift, mode and width.
+Quantisation: TypeAlias = tuple[int, str, int]
+# An operation with its format, where it has one.
+Code: TypeAlias = tuple[str, Quantisation | None]
 
 
 class NoCore(Exception):
@@ -16,14 +30,14 @@ class NoCore(Exception):
 class File:
     """A register file, or the cells of a memory, with what it holds first."""
     words: Range
-    first: list
-    sources: list = field(default_factory=list)
+    first: list[int]
+    sources: list[int] = field(default_factory=list)
 
     @property
-    def size(self):
+    def size(self) -> int:
         return len(self.first)
 
-    def address_bits(self):
+    def address_bits(self) -> int:
         return index_bits(self.size)
 
 
@@ -33,24 +47,24 @@ class Part:
     kind: str
     latency: int
     name: str
-    files: dict = field(default_factory=dict)
+    files: dict[int, File] = field(default_factory=dict)
     result: Range | None = None
-    inputs: list = field(default_factory=list)
-    operations: list = field(default_factory=list)
-    formats: list = field(default_factory=list)
+    inputs: list[int] = field(default_factory=list)
+    operations: list[Code] = field(default_factory=list)
+    formats: list[Quantisation] = field(default_factory=list)
     cells: File | None = None
     ram: int | None = None
     stores: bool = True
 
-    def can_stray(self):
+    def can_stray(self) -> bool:
         """Whether an address may be outside of the memory."""
         return self.cells is not None and not Range(0, self.cells.size - 1).covers(self.files[0].words)
 
-    def has_memory(self):
+    def has_memory(self) -> bool:
         """Whether what is loaded is used. Of a memory that nothing loads from, addresses alone matter."""
         return self.cells is not None and self.result is not None
 
-    def is_ahead(self, port):
+    def is_ahead(self, port: int) -> bool:
         """Whether a memory reads the address in the file at this port a clock ahead."""
         return self.has_memory() and self.latency == 1 and port == 0
 
@@ -58,7 +72,7 @@ class Part:
 @dataclass
 class Bus:
     name: str
-    drivers: list
+    drivers: list[int]
     words: Range
 
 
@@ -71,12 +85,17 @@ class Core:
     period: int
     rows: int
     start: int
-    inputs: list
-    outputs: list
-    parts: dict = field(default_factory=dict)
-    buses: dict = field(default_factory=dict)
+    inputs: list[Range]
+    outputs: list[Range]
+    parts: dict[int, Part] = field(default_factory=dict)
+    buses: dict[int, Bus] = field(default_factory=dict)
+    # Of issues by their cycles and units: from which sample on each is obeyed, where that is not the first.
+    stages: dict[tuple[int, int], int] = field(default_factory=dict)
 
-    def memories(self):
+    def last_stage(self) -> int:
+        return max(self.stages.values(), default=0)
+
+    def memories(self) -> Iterator[tuple[str, File]]:
         """Each file with its name."""
         for part in self.parts.values():
             for port, file in part.files.items():
@@ -85,7 +104,7 @@ class Core:
                 yield f"{part.name}_cells", part.cells
 
 
-def transfers_of(image):
+def transfers_of(image: Image) -> Iterator[tuple[Issue, Take]]:
     """Each issue whose result is taken, with the take."""
     for cycle, word in enumerate(image.words):
         driver = {bus: unit for unit, bus in word.enables}
@@ -93,17 +112,17 @@ def transfers_of(image):
             yield image.issue_for_result(cycle, driver[take.bus]), take
 
 
-def issues_of(image, unit):
+def issues_of(image: Image, unit: int) -> list[Issue]:
     return [word.issues[unit] for word in image.words if unit in word.issues]
 
 
 # For one image
 
 
-def files_needed(image, issues):
+def files_needed(image: Image, issues: list[Issue]) -> dict[int, File]:
     """The files of a unit at the ports that are read, cut behind the last register that is read or taken."""
     unit = image.units[issues[0].unit]
-    last = {}
+    last: dict[int, int] = {}
     for issue in issues:
         for port, register in issue.operands():
             last[port] = max(last.get(port, 0), register)
@@ -115,7 +134,7 @@ def files_needed(image, issues):
     return {port: File(of_words(first), first) for port, first in firsts.items()}
 
 
-def part_needed(image, issues, name):
+def part_needed(image: Image, issues: list[Issue], name: str) -> Part:
     """The part for a unit that has these issues, with the ranges of what it holds first."""
     unit = image.units[issues[0].unit]
     part = Part(unit.kind, unit.latency, name, files_needed(image, issues), ram=unit.ram)
@@ -129,13 +148,13 @@ def part_needed(image, issues, name):
     return part
 
 
-def format_of(issue):
+def format_of(issue: Issue) -> Quantisation | None:
     """The format of an issue as a tuple, which sorts."""
     form = issue.format
     return (form.shift, form.mode, form.width) if form else None
 
 
-def result_of(image, core, issue):
+def result_of(image: Image, core: Core, issue: Issue) -> Range:
     """The words that an issue may give, by what the files hold so far."""
     part = core.parts[issue.unit]
     if issue.format:
@@ -153,7 +172,7 @@ def result_of(image, core, issue):
     return TRUTH
 
 
-def widen(image, core, transfers):
+def widen(image: Image, core: Core, transfers: list[tuple[Issue, Take]]) -> bool:
     """Widens each file by what is taken into it once, and answers whether something changed."""
     files = [file for part in core.parts.values() for file in (*part.files.values(), part.cells) if file]
     before = [file.words for file in files]
@@ -166,7 +185,7 @@ def widen(image, core, transfers):
     return before != [file.words for file in files]
 
 
-def needed_buses(image, core, transfers, names):
+def needed_buses(image: Image, core: Core, transfers: list[tuple[Issue, Take]], names: Names) -> None:
     """The buses that something is taken from, with those that drive them, and where each file takes from."""
     for issue, take in transfers:
         words = result_of(image, core, issue)
@@ -183,13 +202,14 @@ def needed_buses(image, core, transfers, names):
         made.sort()
 
 
-def fit(core):
+def fit(core: Core) -> None:
     """Cuts each bus to the bits that files take from it, and each result to those that buses carry."""
-    taken, carried = {}, {}
+    taken: dict[int, int] = {}
+    carried: dict[int, int] = {}
     for part in core.parts.values():
         for file in part.files.values():
-            for bus in file.sources:
-                taken[bus] = max(taken.get(bus, 0), file.words.bits())
+            for source in file.sources:
+                taken[source] = max(taken.get(source, 0), file.words.bits())
     for number, bus in core.buses.items():
         bus.words = bus.words.cut(taken[number])
         for unit in bus.drivers:
@@ -198,8 +218,10 @@ def fit(core):
         core.parts[unit].result = core.parts[unit].result.cut(bits)
 
 
-def core_for_image(image, name, names):
-    """The core that runs this image alone, behind the image without what has no effect: what never occurs is not there."""
+def core_for_image(image: Image, name: str, names: Names,
+                   stages: dict[tuple[int, int], int] | None = None) -> tuple[Image, Core]:
+    """The core that runs this image alone, behind the image without what has no effect: what never occurs is not there.
+    Of a guarded image it knows the stages."""
     while True:
         image = without_idle(image)
         core = whole_core(image, name, names)
@@ -207,11 +229,12 @@ def core_for_image(image, name, names):
                 if part.kind == "ram" and not part.result and not part.can_stray()]
         if not idle:
             fit(core)
+            core.stages = stages or {}
             return image, core
         image = without_units(image, idle)
 
 
-def whole_core(image, name, names):
+def whole_core(image: Image, name: str, names: Names) -> Core:
     """The core that has what occurs in an image."""
     circle = image.circle()
     core = Core(name, False, None, image.period, circle, circle - 1, [of_width(width) for width in image.inputs], [])
@@ -237,7 +260,7 @@ def whole_core(image, name, names):
 # For any image over a datapath
 
 
-def any_part(unit, name, word):
+def any_part(unit: Unit, name: str, word: Range) -> Part:
     part = Part(unit.kind, unit.latency, name, ram=unit.ram)
     part.files = {port: File(word, first) for port, first in enumerate(unit.files)}
     part.result = None if unit.kind == "out" else word
@@ -246,7 +269,7 @@ def any_part(unit, name, word):
     return part
 
 
-def widen_any(core, buses):
+def widen_any(core: Core, buses: list[Ends]) -> bool:
     """Widens buses, files, cells and results by each other once, and answers whether something changed."""
     before = str(core)
     for number, bus in core.buses.items():
@@ -263,7 +286,7 @@ def widen_any(core, buses):
     return before != str(core)
 
 
-def core_for_datapath(image, name, datapath, inputs, outputs):
+def core_for_datapath(image: Image, name: str, datapath: Names, inputs: int, outputs: int) -> Core:
     """The core that runs any image over this datapath with so many input and output words."""
     word = of_width(datapath.word)
     most = 4 * image.period
@@ -275,18 +298,19 @@ def core_for_datapath(image, name, datapath, inputs, outputs):
             part.result = Range(0, len(image.units[unit.ram].cells) - 1)
     for number, bus in enumerate(datapath.ends):
         core.buses[number] = Bus(bus.name, [unit for unit in bus.from_ if core.parts[unit].result], word)
-        for unit, port in bus.to:
-            core.parts[unit].files[port].sources.append(number)
+        for to, port in bus.to:
+            core.parts[to].files[port].sources.append(number)
     while widen_any(core, datapath.ends):
         pass
     made = [part.files[0].words for part in core.parts.values() if part.kind == "out"]
-    core.outputs = [Range(min([word.low, *(one.low for one in made)]), max([word.high, *(one.high for one in made)]))] * outputs
+    core.outputs = [Range(min([word.low, *(one.low for one in made)]),
+                          max([word.high, *(one.high for one in made)]))] * outputs
     check_fits(image, core)
     keep_needed(core)
     return core
 
 
-def check_fits(image, core):
+def check_fits(image: Image, core: Core) -> None:
     """Refuses an image with words that the datapath's are too narrow for."""
     for part in core.parts.values():
         for file in (*part.files.values(), *([part.cells] if part.cells else [])):
@@ -298,6 +322,7 @@ def check_fits(image, core):
     for number, part in core.parts.items():
         for issue in issues_of(image, number):
             if issue.format and issue.format.width > core.word:
-                raise NoCore(f"{part.name} gives a word of {issue.format.width} bits, and the datapath's word has {core.word}")
+                raise NoCore(
+                    f"{part.name} gives a word of {issue.format.width} bits, and the datapath's word has {core.word}")
             if issue.operation == "const" and not wide.has(issue.argument):
                 raise NoCore(f"{part.name} gives {issue.argument}, which is out of the range of the datapath's words")

@@ -8,12 +8,12 @@ from fractions import Fraction
 from pathlib import Path
 
 from silc.linking.numbers import NoNumber, Numbers, Range, number_of, parts_of, shown, written
-from silc.linking.places import KEYWORDS, NAME, File, Unlinked, file_at
+from silc.linking.places import KEYWORDS, NAME, STATEMENT, File, Unlinked, file_at
+from silc.linking.traced import Piece, Traced
 from silc.programs import in_checkout
 
-STATEMENT = re.compile(r"\s*(?P<word>let|use)\b(?P<rest>[^;]*)(?P<end>;?)", re.A)
 LET = re.compile(r"\s*(?P<name>\w+)\s*=\s*(?P<number>.*?)(?:\s+in\s(?P<range>.*))?", re.S | re.A)
-USE = re.compile(r"\s*(?P<block>\w+)\s*(?:<(?P<given>.*)>)?\s*(?:\bas\s+(?P<name>\w+))?\s*", re.S | re.A)
+USE = re.compile(r"\s*(?P<block>\w+)\s*(?:<(?P<given>[^<>]*)>)?\s*(?:\bas\s+(?P<name>\w+))?\s*", re.S | re.A)
 GIVEN = re.compile(r"\s*(?P<name>\w+)\s*=(?P<number>.*)", re.S | re.A)
 DECLARATION = re.compile(r"\b(?P<word>func|const)\s+(?P<name>\w+)", re.A)
 BRACES = re.compile(r"\{([^{}]*)\}")
@@ -33,11 +33,12 @@ class Let:
 
 @dataclass(frozen=True)
 class Use:
-    """A block under a name, the text of each of its numbers, and where it stands."""
+    """A block under a name, the text of each of its numbers, and where it stands and ends."""
     block: str
     given: Mapping[str, str]
     name: str
     at: int
+    end: int
 
 
 @dataclass(frozen=True)
@@ -79,7 +80,7 @@ class Source:
         if found["word"] == "let":
             self.lets.append(self.let(found["rest"], start, found.end()))
         else:
-            self.uses.append(self.use(found["rest"], start))
+            self.uses.append(self.use(found["rest"], start, found.end()))
         return found.end()
 
     def let(self, text: str, at: int, end: int) -> Let:
@@ -92,7 +93,7 @@ class Source:
         return Let(found["name"], found["number"].strip(), found["range"] and found["range"].strip(),
                    " ".join(doc[1].split()) if doc else "", at)
 
-    def use(self, text: str, at: int) -> Use:
+    def use(self, text: str, at: int, end: int) -> Use:
         found = USE.fullmatch(text)
         if not found:
             raise self.file.fault(at, "this is no `use BLOCK;` or `use BLOCK<NAME=NUMBER, ..> as NAME;`")
@@ -101,7 +102,7 @@ class Source:
             raise self.file.fault(at, f"{name} is no name for a function")
         if any(use.name == name for use in self.uses):
             raise self.file.fault(at, f"two blocks have the name {name}")
-        return Use(found["block"], self.given(found["given"], at), name, at)
+        return Use(found["block"], self.given(found["given"], at), name, at, end)
 
     def given(self, text: str | None, at: int) -> dict[str, str]:
         made: dict[str, str] = {}
@@ -143,17 +144,18 @@ class Source:
         except NoNumber as fault:
             raise self.file.fault(at, f"`{text}`: {fault}") from fault
 
-    def filled(self, start: int, end: int, numbers: Numbers) -> str:
+    def filled(self, start: int, end: int, numbers: Numbers) -> Traced:
         """A part of the text with numbers in the place of braces, but for comments, and each line where it was."""
-        parts, at = [], start
+        pieces, at = [], start
         for found in BRACES.finditer(self.file.code, start, end):
             try:
                 number = written(found[1], numbers)
             except NoNumber as fault:
-                raise self.file.fault(found.start(), f"`{found[0]}`: {fault}") from fault
-            parts += [self.file.text[at:found.start()], number + "\n" * found[0].count("\n")]
+                raise self.file.fault(found.start(), f"`{found[0]}`: {fault}", found.end()) from fault
+            pieces += [Piece(self.file.text[at:found.start()], self.file, at, found.start()),
+                       Piece(number + "\n" * found[0].count("\n"), self.file, found.start(), found.end())]
             at = found.end()
-        return "".join([*parts, self.file.text[at:end]])
+        return Traced([*pieces, Piece(self.file.text[at:end], self.file, at, end)])
 
 
 def declared_in(file: File, at: int) -> Iterator[Declared]:
@@ -199,10 +201,13 @@ def told(numbers: Numbers) -> str:
 
 
 class Library:
-    """The folders in which blocks are looked for, one after another."""
+    """The folders in which blocks are looked for, one after another. What an editor has of a file, by its whole name,
+    counts before what is there."""
 
-    def __init__(self, folders: Sequence[str | Path] = (), has_own: bool = True) -> None:
+    def __init__(self, folders: Sequence[str | Path] = (), has_own: bool = True,
+                 edited: Mapping[Path, bytes] | None = None) -> None:
         self.folders = [Path(folder) for folder in folders] + ([Path(in_checkout("library"))] if has_own else [])
+        self.edited = edited or {}
         self.blocks: dict[str, Block] = {}
 
     def names(self) -> list[str]:
@@ -214,8 +219,12 @@ class Library:
             path = next((path for path in self.paths(name) if path.is_file()), None)
             if path is None:
                 return None
-            self.blocks[name] = Block(name, file_at(path))
+            self.blocks[name] = Block(name, self.file(path))
         return self.blocks[name]
+
+    def file(self, path: Path) -> File:
+        content = self.edited.get(path.resolve()) if self.edited else None
+        return file_at(path) if content is None else File(str(path), content)
 
     def paths(self, name: str) -> list[Path]:
         return [folder / f"{name}{ENDING}" for folder in self.folders]

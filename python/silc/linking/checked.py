@@ -7,9 +7,9 @@ from collections.abc import Mapping
 
 from silc.checking.first import Unchecked, first_fault
 from silc.explaining.command import DEPTH
-from silc.explaining.text import Text
-from silc.linking.linker import HEAD, Linked, head_of, place_of
+from silc.linking.linker import HEAD, Linked
 from silc.linking.places import Unlinked
+from silc.linking.told import Told
 
 
 class Unable(Exception):
@@ -19,15 +19,14 @@ class Unable(Exception):
 def check(linked: Linked) -> None:
     """Raises `Unlinked` at the place of the first fault that the front end finds, in the file that has it."""
     sys.setrecursionlimit(max(DEPTH, sys.getrecursionlimit()))
+    told = Told(linked)
     try:
-        fault = first_fault(Text(linked.main.name, linked.text.encode("latin-1")))
+        fault = first_fault(told.text)
+        found = told.found(fault.finding()) if fault else None
     except (Unchecked, OSError, subprocess.SubprocessError) as why:
         raise Unable(str(why)) from why
-    if fault:
-        found = fault.finding()
-        names = {block.file.name.rpartition("/")[2]: block.file.name for block in linked.blocks}
-        file, line = place_of(linked.text, found.line, linked.main.name)
-        raise Unlinked(names.get(file, file), line, None, found.text)
+    if found:
+        raise Unlinked(found.file, found.finding.line, found.finding.column, found.finding.text)
 
 
 def files_in(text: str) -> dict[str, str]:
@@ -52,4 +51,4 @@ def differences(was: Mapping[str, str], now: Mapping[str, str]) -> list[str]:
             for name in sorted({*was, *now}) if was.get(name) != now.get(name)]
 
 
-__all__ = ["Unable", "check", "files_in", "head_of", "stale"]
+__all__ = ["Unable", "check", "files_in", "stale"]

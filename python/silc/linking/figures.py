@@ -1,8 +1,8 @@
 """The picture of a block's page: words in and out over samples, or the response of a filter.
 
-The last paragraph of a block's first comment may be `Picture: words SEGMENTS` or `Picture: response COUNT of ROW; ROW`. Segments have
-; between them and are COUNT x CELL,CELL ..: a cell is a word, sin(SIZE/PERIOD) or ramp(FROM/TO). A response is that to the first row
-with the second one after it, and its unit the first word of the first.
+The last paragraph of a block's first comment may be `Picture: words SEGMENTS` or `Picture: response COUNT of ROW; ROW`.
+Segments have ; between them and are COUNT x CELL,CELL ..: a cell is a word, sin(SIZE/PERIOD) or ramp(FROM/TO). A
+response is that to the first row with the second one after it, and its unit the first word of the first.
 """
 from __future__ import annotations
 
@@ -78,7 +78,7 @@ def figure_of(library: Library, block: Block, asked: str) -> str:
     if found["words"] is None:
         first, rest = row_of(found["first"]), row_of(found["rest"])
         rows = [first, *[rest] * (int(found["count"]) - 1)]
-        return draw_response(text_of(evaluated(source, rows)), first[0]) + "\n"
+        return draw_response(text_of(evaluated(source, rows)), str(first[0])) + "\n"
     rows = [row for segment in found["words"].split(";") for row in segment_rows(segment)]
     inputs, outputs = names_of(source)
     shown = [*columns_of(inputs, rows)[:1], *columns_of(outputs, evaluated(source, rows))[:MOST_SHOWN]]

@@ -1,25 +1,30 @@
 """One plain source of a source that uses blocks.
 
-A block is put in once for each set of its numbers. Where the source itself gives it a name it has that; else it is called by
-the rule BLOCK_NAMEnumber_.., as onepole_W16_F15. What else is in a block's file has the name FUNCTION_NAME. Where such a name
-is taken, _2, _3 .. stands behind it, and so it is with a signal of a block that has the name of a function or a table.
+A block is put in once for each set of its numbers. Where the source itself gives it a name it has that; else it is
+called by the rule BLOCK_NAMEnumber_.., as onepole_W16_F15. What else is in a block's file has the name FUNCTION_NAME.
+Where such a name is taken, _2, _3 .. stands behind it, and so it is with a signal of a block that has the name of a
+function or a table.
 """
 from __future__ import annotations
 
 import re
-from collections.abc import Callable, Iterator, Mapping, Sequence
+from collections.abc import Iterable, Iterator, Mapping, Sequence
+from contextlib import contextmanager
 from dataclasses import dataclass, field
 from difflib import get_close_matches
 from fractions import Fraction
 from hashlib import sha256
 from pathlib import PurePath
 
-from silc.linking.blocks import ENDING, Block, Declared, Library, Source, Use, told
+from silc.linking.blocks import ENDING, Block, Library, Source, Use, told
 from silc.linking.numbers import Numbers, shown
-from silc.linking.places import COMMENT, KEYWORDS, NAME, File, Unlinked
+from silc.linking.places import COMMENT, KEYWORDS, NAME, File, Unlinked, blanked
+from silc.linking.traced import Piece, Traced, joined, of_file
 
 DIGITS = 16
 MAIN = "main"
+# What stands between the parts of a linked source.
+BETWEEN = "\n"
 MARK = re.compile(r"/\* from (?P<file>\S+):(?P<line>\d+): .* \*/")
 HEAD = re.compile(r"/\* linked from (?P<files>.*?); do not edit \*/ ?")
 SAFE = re.compile(r"[^\w.+-]", re.A)
@@ -45,30 +50,63 @@ class Setting:
 
 @dataclass
 class Placed:
-    """A setting in a linked source: the names of its file that have others there, and what it uses under which name."""
+    """A setting in a linked source: the names of its file that have others there, what it uses under which name, and
+    the `use` of the source that brought it in."""
     setting: Setting
     name: str
     uses: Mapping[str, Setting]
+    by: Use
     renamed: dict[str, str] = field(default_factory=dict)
 
 
 @dataclass(frozen=True)
+class Part:
+    """A function or a table of a block in a linked source: where the comment before it begins, and where it does
+    itself."""
+    marked_at: int
+    at: int
+    placed: Placed
+
+
+@dataclass(frozen=True)
 class Linked:
-    """A linked source: its text, the file that it is of, and the blocks in it."""
-    text: str
-    main: File
-    blocks: Sequence[Block]
+    """A linked source: its text, the source that it is of, the numbers of that, and the parts of blocks in it."""
+    traced: Traced
+    source: Source
+    numbers: Numbers
+    parts: Sequence[Part]
+    # What else is called in it: the second name of a block with the same numbers, and a block that is taken by itself.
+    same: Mapping[str, str]
+
+    @property
+    def text(self) -> str:
+        return self.traced.text
+
+    @property
+    def main(self) -> File:
+        return self.source.file
+
+    @property
+    def blocks(self) -> list[Block]:
+        """The blocks in it, each once."""
+        return blocks_of(part.placed for part in self.parts)
+
+    def part_at(self, place: int) -> Part | None:
+        """The part of a block that a place of the text is in; nothing where it is in the source itself."""
+        return next((part for part in reversed(self.parts) if part.at <= place), None)
 
 
 class Linker:
     """Links one source."""
 
-    def __init__(self, library: Library, main: Source, numbers: Numbers | None = None,
-                 body: Callable[[Linker], str] | None = None) -> None:
-        self.library, self.main, self.body = library, main, body or Linker.filled_body
+    def __init__(self, library: Library, main: Source, numbers: Numbers | None = None) -> None:
+        self.library, self.main = library, main
         self.numbers = main.numbers(numbers)
         self.placed: dict[Setting, Placed] = {}
-        self.uses = self.settings_of(main, self.numbers, ())
+        self.uses: dict[str, Setting] = {}
+        for use in main.uses:
+            with led_by(use):
+                self.uses[use.name] = self.setting_of(main, use, self.numbers, (), use)
         for use in main.uses:
             if use.name in KEYWORDS or main.declares(use.name):
                 raise main.file.fault(use.at, f"{use.name} is the name of a function or a table of this file")
@@ -78,11 +116,8 @@ class Linker:
 
     # Which blocks with which numbers
 
-    def settings_of(self, source: Source, numbers: Numbers, chain: tuple[str, ...]) -> dict[str, Setting]:
-        """The setting of each name that a file uses. All that they use themselves is placed before them."""
-        return {use.name: self.setting_of(source, use, numbers, chain) for use in source.uses}
-
-    def setting_of(self, source: Source, use: Use, numbers: Numbers, chain: tuple[str, ...]) -> Setting:
+    def setting_of(self, source: Source, use: Use, numbers: Numbers, chain: tuple[str, ...], by: Use) -> Setting:
+        """The setting of a `use`, which one of the source led to. What it uses itself is placed before it."""
         block = self.block_of(source, use, chain)
         given = {name: source.number(text, numbers, use.at) for name, text in use.given.items()}
         for name in given:
@@ -91,8 +126,9 @@ class Linker:
                 raise source.file.fault(use.at, f"the block {use.block} has no number {name}; its own are {has}")
         setting = Setting(block, tuple(values_in(source, use, block, given).items()))
         if setting not in self.placed:
-            uses = self.settings_of(block, setting.numbers(), (*chain, use.block))
-            self.placed[setting] = Placed(setting, "", uses)
+            uses = {inner.name: self.setting_of(block, inner, setting.numbers(), (*chain, use.block), by)
+                    for inner in block.uses}
+            self.placed[setting] = Placed(setting, "", uses, by)
         return setting
 
     def block_of(self, source: Source, use: Use, chain: tuple[str, ...]) -> Block:
@@ -102,7 +138,8 @@ class Linker:
         block = self.library.block(use.block)
         if block is None:
             near = get_close_matches(use.block, self.library.names(), n=3)
-            raise source.file.fault(use.at, f"there is no block {use.block}" + (f"; near it: {', '.join(near)}" if near else ""))
+            raise source.file.fault(use.at, f"there is no block {use.block}"
+                                    + (f"; near it: {', '.join(near)}" if near else ""))
         return block
 
     # Names
@@ -153,35 +190,53 @@ class Linker:
     # Text
 
     def linked(self) -> Linked:
-        blocks = sorted({place.setting.block.name: place.setting.block for place in self.placed.values()}.items())
-        files = [self.main.file, *(block.file for _, block in blocks)]
-        parts = [head_of(files) + self.main_text(), *(text for place in self.placed.values() for text in self.texts(place))]
-        return Linked("\n".join(parts), self.main.file, [block for _, block in blocks])
+        files = [self.main.file, *(block.file for block in blocks_of(self.placed.values()))]
+        texts = [joined([head_of(files), self.main_text()])]
+        parts, length = [], len(texts[0])
+        for place in self.placed.values():
+            for mark, text in self.texts(place):
+                length += len(BETWEEN)
+                parts.append(Part(length, length + len(mark), place))
+                texts.append(joined([mark, text]))
+                length += len(texts[-1])
+        return Linked(joined(texts, BETWEEN), self.main, self.numbers, parts, self.same)
 
-    def main_text(self) -> str:
-        """The source itself, each line where it was, with its head as comments."""
+    def main_text(self) -> Traced:
+        """The source itself, each line where it was, with its head as comments and numbers in the place of braces."""
         file, parts, at = self.main.file, [], 0
         for statement in self.main.head:
-            parts += [file.text[at:statement.at], commented(file.text[statement.at:statement.end])]
+            comment = commented(file.text[statement.at:statement.end])
+            parts += [of_file(file, at, statement.at), Traced([Piece(comment, file, statement.at, statement.end)])]
             at = statement.end
-        text = "".join([*parts, with_names(self.body(self), self.same)])
-        return text if text.endswith("\n") else text + "\n"
+        body = self.main.filled(self.main.body, len(file.text), self.numbers)
+        text = joined([*parts, with_names(body, self.same)])
+        return text if text.text.endswith("\n") else joined([text, "\n"])
 
-    def filled_body(self) -> str:
-        """What stands behind the head, with numbers in the place of braces."""
-        return self.main.filled(self.main.body, len(self.main.file.text), self.numbers)
-
-    def texts(self, place: Placed) -> Iterator[str]:
-        """The functions and tables of a block, each behind a comment of where it is from."""
+    def texts(self, place: Placed) -> Iterator[tuple[str, Traced]]:
+        """The functions and tables of a block, each with a comment of where it is from."""
         block = place.setting.block
         for declared in block.declared:
             if declared.name != MAIN:
-                line = block.file.line_of(declared.at)
-                yield (f"/* from {base_of(block.file)}:{line}: {place.setting} */\n"
-                       + with_names(self.text_of(block, declared, place), place.renamed) + "\n")
+                mark = f"/* from {base_of(block.file)}:{block.file.line_of(declared.at)}: {place.setting} */\n"
+                with led_by(place.by):
+                    text = block.filled(declared.at, declared.end, place.setting.numbers())
+                yield mark, joined([with_names(text, place.renamed), "\n"])
 
-    def text_of(self, block: Block, declared: Declared, place: Placed) -> str:
-        return block.filled(declared.at, declared.end, place.setting.numbers())
+
+@contextmanager
+def led_by(use: Use) -> Iterator[None]:
+    """A fault in this keeps where the `use` of the source stands that led to it."""
+    try:
+        yield
+    except Unlinked as fault:
+        fault.by = use.at
+        raise
+
+
+def blocks_of(placed: Iterable[Placed]) -> list[Block]:
+    """The blocks of settings, each once, by their names."""
+    blocks = {place.setting.block.name: place.setting.block for place in placed}
+    return [blocks[name] for name in sorted(blocks)]
 
 
 def values_in(source: Source, use: Use, block: Block, given: Numbers) -> dict[str, Fraction]:
@@ -205,16 +260,14 @@ def commented(text: str) -> str:
     return f"/* {COMMENT.sub('', text)} */" if "\n" not in text else "\n" * text.count("\n")
 
 
-def with_names(text: str, names: Mapping[str, str]) -> str:
+def with_names(text: Traced, names: Mapping[str, str]) -> Traced:
     """The text with other names outside its comments."""
-    def renamed(part: str) -> str:
-        return NAME.sub(lambda found: names.get(found[0], found[0]), part)
-
-    parts, at = [], 0
-    for found in COMMENT.finditer(text):
-        parts += [renamed(text[at:found.start()]), found[0]]
-        at = found.end()
-    return "".join([*parts, renamed(text[at:])])
+    pieces, at = [], 0
+    for found in NAME.finditer(blanked(text.text)):
+        if found[0] in names:
+            pieces += [*text.within(at, found.start()), text.written(*found.span(), names[found[0]])]
+            at = found.end()
+    return Traced([*pieces, *text.within(at, len(text))])
 
 
 def base_of(file: File) -> str:

@@ -1,6 +1,8 @@
-"""Numbers that are written in a source before it is linked: `{W - 1}`, `{2 ** -K}`, `{P // 2 ** k % 2 for k in 0 .. 15}`.
+"""Numbers that are written in a source before it is linked: `{W - 1}`, `{2 ** -K}`, `{P // 2 ** k % 2 for k in 0 ..
+15}`.
 
-They are exact. A number with a fraction is written with as many digits as a number of the language has at most, to the nearest.
+They are exact. A number with a fraction is written with as many digits as a number of the language has at most, to the
+nearest.
 """
 from __future__ import annotations
 
@@ -11,8 +13,8 @@ from fractions import Fraction
 
 TOKEN = re.compile(r"\s*(?:(?P<number>\d+(?:\.\d+)?)|(?P<name>[A-Za-z_]\w*)|(?P<sign>\*\*|//|[-+*/%(),]))", re.A)
 LISTED = re.compile(r"(?P<number>.*)\bfor\s+(?P<index>[A-Za-z_]\w*)\s+in\b(?P<low>.*)\.\.(?P<high>.*)", re.S | re.A)
-# The digits of a number of the language; how large an exponent and a list may be, how many bits a number may have on the way,
-# and how deep parentheses may be.
+# The digits of a number of the language; how large an exponent and a list may be, how many bits a number may have on
+# the way, and how deep parentheses may be.
 MOST_DIGITS, MOST_POWER, MOST_LISTED, MOST_BITS, DEEPEST = 18, 256, 8192, 4096, 32
 Numbers = Mapping[str, Fraction]
 
@@ -120,7 +122,8 @@ def bits(*given: Fraction) -> Fraction:
     return Fraction(int(given[0]).bit_length())
 
 
-CALLS: dict[str, Callable[..., Fraction]] = {"min": lambda *given: min(given), "max": lambda *given: max(given), "bits": bits}
+CALLS: dict[str, Callable[..., Fraction]] = {"min": lambda *given: min(given), "max": lambda *given: max(given),
+                                             "bits": bits}
 
 
 def number_of(text: str, numbers: Numbers) -> Fraction:
@@ -176,6 +179,15 @@ class Range:
     def __str__(self) -> str:
         return ", ".join(shown(low) if low == high else f"{shown(low)}..{shown(high)}" +
                          ("" if step == 1 else f" step {shown(step)}") for low, high, step in self.items)
+
+    def count(self) -> int:
+        """How many numbers it has, one that is in two of its parts for each."""
+        return sum(max(0, (high - low) // step + 1) for low, high, step in self.items)
+
+    def numbers(self) -> list[Fraction]:
+        """The numbers in their order, each once."""
+        return list(dict.fromkeys(low + n * step for low, high, step in self.items
+                                  for n in range((high - low) // step + 1)))
 
     def ends(self) -> list[Fraction]:
         """The least number and the greatest."""

@@ -2,19 +2,27 @@
 from __future__ import annotations
 
 import re
-from pathlib import Path
+from typing import TYPE_CHECKING
+
+from silc.explaining.text import Span, Text
+
+if TYPE_CHECKING:
+    from pathlib import Path
 
 COMMENT = re.compile(r"/\*.*?(?:\*/|\Z)", re.S)
 NAME = re.compile(r"[A-Za-z_]\w*", re.A)
 KEYWORDS = frozenset("func const var begin end fix bool trunc round sat if fi true false down up".split())
-LINE_END = "\n"
+# A line of the head of a source that is to be linked.
+STATEMENT = re.compile(r"\s*(?P<word>let|use)\b(?P<rest>[^;]*)(?P<end>;?)", re.A)
 
 
 class Unlinked(Exception):
     """Why no source is made: what is wrong, and the file, the line and the column, from 1 on, where it is."""
 
-    def __init__(self, file: str, line: int, column: int | None, text: str) -> None:
-        self.file, self.line, self.column, self.text = file, line, column, text
+    def __init__(self, file: str, line: int, column: int | None, text: str, span: Span | None = None) -> None:
+        self.file, self.line, self.column, self.text, self.span = file, line, column, text, span
+        # Where the `use` of the source stands that led there, where one did.
+        self.by: int | None = None
         super().__init__(f"{file}:{line}:{f'{column}:' if column else ''} {text}")
 
 
@@ -28,19 +36,28 @@ class File:
 
     def __init__(self, name: str, content: bytes) -> None:
         self.name, self.content = name, content
-        self.text = content.decode("latin-1")
+        self.lines = Text(name, content)
+        self.text = self.lines.chars
         self.code = blanked(self.text)
 
     def line_of(self, at: int) -> int:
-        return self.text.count(LINE_END, 0, at) + 1
+        return self.lines.line_of(at)
 
-    def fault(self, at: int, text: str) -> Unlinked:
-        """A fault at an offset of the text."""
-        return Unlinked(self.name, self.line_of(at), at - (self.text.rfind(LINE_END, 0, at) + 1) + 1, text)
+    def fault(self, at: int, text: str, end: int | None = None) -> Unlinked:
+        """A fault from an offset of the text to another in its line: of a statement that begins there, to its end."""
+        statement = STATEMENT.match(self.code, at)
+        last = end or (statement.end() if statement and statement.start("word") == at else None)
+        span = self.lines.span(at, last)
+        return Unlinked(self.name, span.line, span.column, text, span)
 
     def names(self) -> set[str]:
         """All names outside the comments."""
         return set(NAME.findall(self.code))
+
+
+def has_head(text: str) -> bool:
+    """Whether a source is one to be linked: a plain one begins with a function or a table."""
+    return STATEMENT.match(blanked(text)) is not None
 
 
 def file_at(path: Path, name: str | None = None) -> File:

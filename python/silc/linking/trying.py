@@ -4,7 +4,8 @@
     100 | 25
     100 | 44
 
-They are in `rows/NAME.txt` of the block's folder. Their words come from models that are no part of `silc` (tests/library).
+They are in `rows/NAME.txt` of the block's folder. Their words come from models that are no part of `silc`
+(tests/library).
 """
 from __future__ import annotations
 

@@ -29,8 +29,8 @@ def fields_of(data: bytes) -> tuple[list[Field], BadImage | None]:
 
 
 def read_image(reader: Reader) -> Image:
-    """The image that the bytes of a reader are. All versions begin alike, and then the reader goes on in the one that they
-    name."""
+    """The image that the bytes of a reader are. All versions begin alike, and then the reader goes on in the one that
+    they name."""
     reader.version = read_version(reader)
     image = read_hardware(reader)
     for number in range(image.circle()):

@@ -1,5 +1,5 @@
-"""Microwords in version 2: a flag for each unit that may have an issue and each bus that a unit may drive, and the takes file
-by file, each behind a 1."""
+"""Microwords in version 2: a flag for each unit that may have an issue and each bus that a unit may drive, and the
+takes file by file, each behind a 1."""
 from collections.abc import Iterator
 
 from .bits import Field, Reader, Spelling

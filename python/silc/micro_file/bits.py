@@ -1,6 +1,6 @@
 """Fields of microcode files one after the other: of whole bytes in version 1, of bits in version 2. The most
 significant bit of a byte comes first, and that of a field too."""
-from typing import NamedTuple, NoReturn
+from typing import Any, NamedTuple, NoReturn
 
 from .fields import Bits, Choice, Row, Value, called
 
@@ -26,7 +26,7 @@ class BadImage(Exception):
     """The first fault of bytes that are no microcode file: of which kind it is, and the byte by which it is told; the
     first bit and the name of the field, what it may be, and what stands there."""
 
-    def __init__(self, kind: str, at: int, field: Field | None = None, allowed: str = "", found: object = None):
+    def __init__(self, kind: str, at: int, field: Field | None = None, allowed: str = "", found: Any = None) -> None:
         super().__init__(kind, at)
         self.kind, self.at, self.allowed, self.found = kind, at, allowed, found
         self.bit, self.name = (field.bit, field.name) if field else (8 * at, "")
@@ -47,7 +47,7 @@ def between(low: int, high: int) -> str:
 class Reader:
     """Bytes of a version, and the bit up to which they are read. It keeps its fields where that is asked for."""
 
-    def __init__(self, data: bytes, version: int, keeps: bool = False):
+    def __init__(self, data: bytes, version: int, keeps: bool = False) -> None:
         self.data, self.bit, self.size, self.version = data, 0, 8 * len(data), version
         self.fields: list[Field] = []
         self.keeps = keeps
@@ -112,7 +112,7 @@ class Reader:
 class Spelling:
     """How a version writes fields: each as a text of 0 and 1."""
 
-    def __init__(self, version: int):
+    def __init__(self, version: int) -> None:
         self.version = version
 
     def number(self, row: Row, number: int) -> str:

@@ -3,8 +3,8 @@ from collections.abc import Callable, Iterator
 from typing import TypeVar
 
 from .bits import Field, Reader, Spelling
-from .fields import (ENABLE_BUS, ENABLE_UNIT, ENABLES, ISSUE_UNIT, ISSUES, TAKE_BUS, TAKE_PORT, TAKE_REGISTER, TAKE_UNIT, TAKES,
-                     Row, called)
+from .fields import (ENABLE_BUS, ENABLE_UNIT, ENABLES, ISSUE_UNIT, ISSUES, TAKE_BUS, TAKE_PORT, TAKE_REGISTER,
+                     TAKE_UNIT, TAKES, Row, called)
 from .image import Image, Issue, Take, Word
 from .issues import read_issue, spelled_issue
 

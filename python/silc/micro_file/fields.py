@@ -1,5 +1,6 @@
-"""The fields of microcode files: one table of both versions, a row a field, in the order of docs/MICROCODE.md. Which fields
-follow one another is said once for both by `hardware` and `issues`, and of microwords by `byte_words` and `bit_words`."""
+"""The fields of microcode files: one table of both versions, a row a field, in the order of docs/MICROCODE.md. Which
+fields follow one another is said once for both by `hardware` and `issues`, and of microwords by `byte_words` and
+`bit_words`."""
 from dataclasses import dataclass
 from typing import Generic, NamedTuple, TypeVar
 
@@ -18,16 +19,17 @@ class Bits(NamedTuple):
 
 
 class Codes(NamedTuple):
-    """How a version has one of some values: in so many bits, by these numbers or by the place of the value among them, and
-    what is told of others in the place of the least and the greatest."""
+    """How a version has one of some values: in so many bits, by these numbers or by the place of the value among them,
+    and what is told of others in the place of the least and the greatest."""
     size: int
     numbers: tuple[int, ...] = ()
     allowed: str = ""
 
 
 class Row(NamedTuple):
-    """A number: its name, in which `{0}` and on stand for the place and `{less}` for what a version takes from it, the least
-    and the greatest, how each version has it, or None, and what it may be, where that says more than the range."""
+    """A number: its name, in which `{0}` and on stand for the place and `{less}` for what a version takes from it, the
+    least and the greatest, how each version has it, or None, and what it may be, where that says more than the
+    range."""
     name: str
     low: int
     high: int
@@ -89,7 +91,8 @@ BUSES = Row("the number of buses{less}", 1, MOST_BUSES, BYTE, Bits(5, less=1))
 
 # An issue. What an operation does not have is 0 in version 1.
 OPERATION = {kind: Choice("the operation {0}", names,
-                          Codes(8, tuple(OPCODE[name] for name in names), "an operation of unit {1}, whose kind is " + kind),
+                          Codes(8, tuple(OPCODE[name] for name in names),
+                                "an operation of unit {1}, whose kind is " + kind),
                           Codes(number_bits(kind))) for kind, names in OF_KIND.items()}
 SHIFT = Row("the shift{less} {0}", LEAST, MOST, SIGNED_BYTE, Bits(7, less=LEAST))
 MODE = Choice("the mode {0}", MODES, Codes(8), Codes(2))

@@ -1,5 +1,5 @@
-"""The fields of a microcode file before its words: the hardware, and what it starts with, in the order that both versions
-have."""
+"""The fields of a microcode file before its words: the hardware, and what it starts with, in the order that both
+versions have."""
 from collections.abc import Iterator
 
 from .bits import Field, Reader, Spelling

@@ -34,7 +34,7 @@ class Issue:
     operation: str
     format: Format | None
     argument: int
-    registers: tuple
+    registers: tuple[int, ...]
 
     def operands(self) -> list[tuple[int, int]]:
         """The port and the register of each operand that is read."""
@@ -51,9 +51,9 @@ class Issue:
 @dataclass
 class Word:
     """A microword: issues by their units, (unit, bus) pairs that are enabled, takes. Each list rises."""
-    issues: dict = field(default_factory=dict)
-    enables: list = field(default_factory=list)
-    takes: list = field(default_factory=list)
+    issues: dict[int, Issue] = field(default_factory=dict)
+    enables: list[tuple[int, int]] = field(default_factory=list)
+    takes: list[Take] = field(default_factory=list)
 
     def drivers(self, bus: int) -> list[int]:
         return [unit for unit, driven in self.enables if driven == bus]
@@ -78,8 +78,8 @@ class Unit:
     kind: str
     latency: int
     gap: int
-    files: list
-    cells: list = field(default_factory=list)
+    files: list[list[int]]
+    cells: list[int] = field(default_factory=list)
     ram: int | None = None
 
 
@@ -87,20 +87,20 @@ class Unit:
 class Image:
     period: int
     unroll: int
-    inputs: list
+    inputs: list[int]
     outputs: int
-    units: list
+    units: list[Unit]
     buses: int
-    words: list
+    words: list[Word]
 
     def circle(self) -> int:
         return self.period * self.unroll
 
-    def issue_for_result(self, cycle: int, unit: int) -> Issue:
+    def issue_for_result(self, cycle: int, unit: int) -> Issue | None:
         """The issue whose result the unit has in this cycle of a circle that has gone on for ever, or nothing."""
         return self.words[(cycle - self.units[unit].latency + 1) % self.circle()].issues.get(unit)
 
-    def listing(self):
+    def listing(self) -> str:
         """The text that `silc list` prints of it."""
         lines = [f"period {self.period} unroll {self.unroll} inputs {len(self.inputs)} outputs {self.outputs} "
                  f"units {len(self.units)} buses {self.buses}"]

@@ -1,28 +1,32 @@
-"""The completed listing of microcode, as docs/MICROCODE.md, "Written by hand", has it: a heading of the hardware and of what
-it starts with, and behind it what `silc list` prints. `listing_of` and `image_of_listing` are the two directions. BadListing
-tells the first fault of a text with its place."""
+"""The completed listing of microcode, as docs/MICROCODE.md, "Written by hand", has it: a heading of the hardware and of
+what it starts with, and behind it what `silc list` prints. `listing_of` and `image_of_listing` are the two directions.
+BadListing tells the first fault of a text with its place."""
 import re
 from collections.abc import Callable, Iterator
 from dataclasses import dataclass, field
 from typing import Any, NoReturn
 
 from .image import (MODES, MOST_BUSES, MOST_CELLS, MOST_LATENCY, MOST_MOVES, MOST_PERIOD, MOST_REGISTERS, MOST_UNITS,
-                    MOST_WIDTH, MOST_WORDS, RAW, SHIFTS, UNROLLS, Format, Image, Issue, Take, Unit, Word, argument_range)
+                    MOST_WIDTH, MOST_WORDS, RAW, SHIFTS, UNROLLS, Format, Image, Issue, Take, Unit, Word,
+                    argument_range)
 from .operations import FORMATTED, KINDS, OF_KIND, PORTS, WITH_ARGUMENT, reads
 
 # How many first words stand in a line.
 A_ROW = 8
-TOKEN, NUMBER, PLACE = re.compile(r"[^ \t]+"), re.compile(r"0|-?[1-9][0-9]*"), re.compile(r"(0|[1-9]\d?)\.(0|[1-9]\d?)", re.A)
-# No number of a listing has so many digits, and none of so many is read. So much of a word is shown where it is refused.
+TOKEN, NUMBER = re.compile(r"[^ \t]+"), re.compile(r"0|-?[1-9][0-9]*")
+PLACE = re.compile(r"(0|[1-9]\d?)\.(0|[1-9]\d?)", re.A)
+# No number of a listing has so many digits, and none of so many is read. So much of a word is shown where it is
+# refused.
 MANY, SHOWN, LINES_BETWEEN = 20, 40, 20_000
 HEADING, WORDS = ("input", "unit", "first", "period"), ("word", "issue", "drive", "take")
-NO_HEADING = "the heading is missing: a line for each input word and each unit, as `tools/assemble --listing` prints them"
+NO_HEADING = ("the heading is missing: a line for each input word and each unit, as `tools/assemble --listing` prints "
+              "them")
 
 
 class BadListing(Exception):
     """The first fault of a text that is no listing, with its line and its column, both from 1 on."""
 
-    def __init__(self, line: int, column: int, what: str):
+    def __init__(self, line: int, column: int, what: str) -> None:
         super().__init__(f"{line}:{column}: {what}")
 
 
@@ -81,7 +85,7 @@ class Token:
 class Line:
     """The words of a line, which are taken one after the other."""
 
-    def __init__(self, number: int, text: str):
+    def __init__(self, number: int, text: str) -> None:
         content = text.removesuffix("\r").partition("#")[0]
         self.tokens = [Token(number, found.start() + 1, found[0]) for found in TOKEN.finditer(content)]
         self.end = Token(number, len(content.rstrip(" \t")) + 1, "")
@@ -148,13 +152,13 @@ def member(token: Token, value: int, what: str, count: int) -> int:
 class Reading:
     """What is read of a text so far. `rams` has where each acu names its memory, `given` which first words are there,
     `number` and `seen` the microword that the lines are of and which of them it has."""
-    inputs: list = field(default_factory=list)
-    units: list = field(default_factory=list)
+    inputs: list[int] = field(default_factory=list)
+    units: list[Unit] = field(default_factory=list)
     rams: list = field(default_factory=list)
-    given: set = field(default_factory=set)
+    given: set[tuple[int, ...]] = field(default_factory=set)
     image: Image | None = None
     number: int | None = None
-    seen: set = field(default_factory=set)
+    seen: set[tuple[object, ...]] = field(default_factory=set)
 
     def line(self, line: Line) -> None:
         """Reads a line. Its first word says what it is."""
@@ -208,7 +212,9 @@ class Reading:
         if port is None and self.units[unit].kind != "ram":
             where.refuse(f"unit {unit} is no ram and has no cells; its registers are at {unit}.0 .."
                          if self.units[unit].files else f"unit {unit} has no registers and no cells")
-        what, words = ("register", self.units[unit].files[port]) if port is not None else ("cell", self.units[unit].cells)
+        what, words = "cell", self.units[unit].cells
+        if port is not None:
+            what, words = "register", self.units[unit].files[port]
         line.key("reg" if port is not None else "cell")
         at = line.number(f"the first {what}", 0, len(words) - 1)
         for place in range(at, at + max(1, len(line.tokens) - line.at)):
@@ -282,7 +288,7 @@ class Reading:
             place.refuse(f"word {number} comes behind word {self.number}; words rise")
         self.number, self.seen = number, set()
 
-    def add(self, token: Token, line: Line, *what):
+    def add(self, token: Token, line: Line, *what: object) -> None:
         """Notes what a line of a microword says, which it says once."""
         if what in self.seen:
             token.refuse(f"word {self.number} has `{' '.join(one.text for one in line.tokens[:line.at])}` already")
@@ -359,12 +365,13 @@ def text_of(data: bytes) -> str:
         return data.decode()
     except UnicodeDecodeError as fault:
         before = data[:fault.start].decode()
-        raise BadListing(before.count("\n") + 1, len(before) - before.rfind("\n"), "this byte is no text in UTF-8") from fault
+        raise BadListing(before.count("\n") + 1, len(before) - before.rfind("\n"),
+                         "this byte is no text in UTF-8") from fault
 
 
 def image_of_listing(text: str, told: Callable[..., Any] = lambda number: None) -> Image:
-    """The image that a completed listing says, or BadListing. Comments, from `#` on, and blank lines say nothing, and the
-    lines of a microword may come in any order. `told` is told now and then up to which line the text is read."""
+    """The image that a completed listing says, or BadListing. Comments, from `#` on, and blank lines say nothing, and
+    the lines of a microword may come in any order. `told` is told now and then up to which line the text is read."""
     reading, number = Reading(), 0
     for number, content in enumerate(text.split("\n"), 1):
         line = Line(number, content)

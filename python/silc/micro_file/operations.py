@@ -1,7 +1,7 @@
 """The operations of the machine: one table of them, by the kind of the unit that does them.
 
-The order of the kinds, and that of a kind's operations, is that of docs/MICROCODE.md. Version 1 of the microcode file numbers
-an operation among all of them, version 2 and the processor in Verilog among those of its unit's kind.
+The order of the kinds, and that of a kind's operations, is that of docs/MICROCODE.md. Version 1 of the microcode file
+numbers an operation among all of them, version 2 and the processor in Verilog among those of its unit's kind.
 """
 from typing import NamedTuple
 
@@ -20,7 +20,7 @@ class Operation(NamedTuple):
 class Kind(NamedTuple):
     """A kind of unit: how many ports it has, and its operations in the order of their numbers."""
     ports: int
-    operations: tuple
+    operations: tuple[Operation, ...]
 
     def names(self) -> tuple[str, ...]:
         return tuple(operation.name for operation in self.operations)
@@ -61,7 +61,7 @@ def reads(operation: str) -> int:
     return CALLED[operation].reads
 
 
-def number_of(operation):
+def number_of(operation: str) -> int:
     """The number of an operation among those of its unit's kind."""
     return OF_KIND[KIND_OF[operation]].index(operation)
 

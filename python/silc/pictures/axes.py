@@ -17,8 +17,8 @@ def step_for(span: float, most: int, least: float = 0) -> tuple[int, int]:
 
 
 def numbers_over(low: float, high: float, most: int, least: float = 0, beyond: float = NOTHING) -> list:
-    """Round numbers from one at or below `low` to one at or above `high`, about so many steps of at least `least`. What is
-    beyond an end by such a share of a step is not counted."""
+    """Round numbers from one at or below `low` to one at or above `high`, about so many steps of at least `least`. What
+    is beyond an end by such a share of a step is not counted."""
     digit, power = step_for(high - low, most, least)
     scale = 10.0**-power / digit
     first, last = math.floor(low * scale + beyond), math.ceil(high * scale - beyond)
@@ -30,7 +30,7 @@ def numbers_within(low: float, high: float, most: int) -> list:
     return [number for number in numbers_over(low, high, most) if low <= number <= high]
 
 
-def number_of(digits: int, power: int):
+def number_of(digits: int, power: int) -> int | float:
     """Some digits with a power of ten, exactly where they are a whole number."""
     return digits * 10**power if power >= 0 else digits / 10**-power
 
@@ -53,9 +53,10 @@ def range_of(words: str, what: str) -> tuple[float, float]:
     return low, high
 
 
-def runs_within(points: Sequence[tuple[float, float]], top: float, bottom: float) -> Iterator[list[tuple[float, float]]]:
+def runs_within(points: Sequence[tuple[float, float]], top: float,
+                bottom: float) -> Iterator[list[tuple[float, float]]]:
     """The parts of a curve that are between the heights `top` and `bottom`, each with where it crosses them."""
-    run = []
+    run: list[tuple[float, float]] = []
     for (x1, y1), (x2, y2) in zip(points, points[1:]):
         ends = crossed(y1, y2, top, bottom)
         if ends is None:

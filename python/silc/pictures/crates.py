@@ -1,5 +1,13 @@
 """The crates of crates.txt from the lowest on the left to the programs on the right, and what stands on what."""
+from collections.abc import Iterator
+from typing import TypeAlias
+
 from silc.pictures.picture import AMBER, BLACK, BLUE, GREEN, MARGIN, SKY, YELLOW, Picture
+
+# Crates by their names, each with others.
+Edges: TypeAlias = dict[str, list[str]]
+# What stands in a column: a crate, or where an edge goes by between the columns of its two crates.
+Point: TypeAlias = str | tuple[tuple[str, str], int]
 
 BOX, ROW, STEP, TEXT, CHARACTER = 22, 34, 160, 11, 6.9
 SWEEPS, POINTS = 24, 12
@@ -11,42 +19,42 @@ GROUPS = [({"silc_main", "silc_tests", "silc_show", "silc"}, SKY, "the commands"
 PLAIN = "#ffffff"
 
 
-def dependencies(text):
+def dependencies(text: str) -> Edges:
     """The crates of the file that each one names."""
     lines = [line.partition("#")[0].partition(":") for line in text.splitlines()]
     named = {head.split()[0]: rest.split() for head, colon, rest in lines if colon and head.split()}
     return {name: [other for other in others if other in named] for name, others in named.items()}
 
 
-def reached(crates):
+def reached(crates: Edges) -> dict[str, set[str]]:
     """All crates below each one."""
-    below = {}
+    below: dict[str, set[str]] = {}
     for name in crates:
         below[name] = set(crates[name]).union(*(below[other] for other in crates[name]))
     return below
 
 
-def direct(crates):
+def direct(crates: Edges) -> Edges:
     """What each crate stands on, without what follows from the rest."""
     below = reached(crates)
     return {name: [other for other in others if not any(other in below[more] for more in others)]
             for name, others in crates.items()}
 
 
-def columns_of(edges):
+def columns_of(edges: Edges) -> dict[str, int]:
     """The column of each crate: as far to the right as what stands on it allows."""
-    first = {}
+    first: dict[str, int] = {}
     for name, others in edges.items():
         first[name] = 1 + max((first[other] for other in others), default=-1)
     last = max(first.values())
-    column = {}
+    column: dict[str, int] = {}
     for name in reversed(edges):
         above = [column[other] for other in edges if name in edges[other]]
         column[name] = min(above) - 1 if above else last
     return column
 
 
-def chains_of(edges, column):
+def chains_of(edges: Edges, column: dict[str, int]) -> Iterator[list[Point]]:
     """Each edge as the points that it goes through, one a column. Points between crates are pairs with the column."""
     for name, others in edges.items():
         for other in others:
@@ -54,14 +62,19 @@ def chains_of(edges, column):
             yield [other, *between, name]
 
 
-def ordered(chains, column):
+def first_column(chain: list[Point], column: dict[str, int]) -> int:
+    """The column of the crate that a chain begins with."""
+    return column[str(chain[0])]
+
+
+def ordered(chains: list[list[Point]], column: dict[str, int]) -> dict[int, list[Point]]:
     """The points of each column from top to bottom, with few crossings: each near the middle of its neighbours."""
-    rows = {}
+    found: dict[int, dict[Point, None]] = {}
     for chain in chains:
-        for at, point in enumerate(chain, column[chain[0]]):
-            rows.setdefault(at, {}).setdefault(point)
-    rows = {at: list(points) for at, points in sorted(rows.items())}
-    beside = {}
+        for at, point in enumerate(chain, first_column(chain, column)):
+            found.setdefault(at, {}).setdefault(point)
+    rows = {at: list(points) for at, points in sorted(found.items())}
+    beside: dict[tuple[Point, int], list[Point]] = {}
     for chain in chains:
         for one, other in zip(chain, chain[1:]):
             beside.setdefault((other, -1), []).append(one)
@@ -71,20 +84,20 @@ def ordered(chains, column):
         for at in sorted(rows, reverse=way == 1):
             place = {point: (row + 0.5) / len(rows[at + way]) for row, point in enumerate(rows.get(at + way, []))}
             own = {point: (row + 0.5) / len(rows[at]) for row, point in enumerate(rows[at])}
-            middle = {point: sum(place[other] for other in beside.get((point, way), [])) for point in rows[at]}
+            middle = {point: sum((place[other] for other in beside.get((point, way), [])), 0.0) for point in rows[at]}
             count = {point: len(beside.get((point, way), [])) for point in rows[at]}
             rows[at].sort(key=lambda point: middle[point] / count[point] if count[point] else own[point])
     return rows
 
 
-def colour_of(name, below):
+def colour_of(name: str, below: dict[str, set[str]]) -> str:
     for members, colour, _ in GROUPS:
         if members & (below[name] | {name}) and (colour != SKY or name in members):
             return colour
     return PLAIN
 
 
-def smooth(points):
+def smooth(points: list[tuple[float, float]]) -> list[tuple[float, float]]:
     """A curve through points that leaves and reaches each of them level."""
     made = []
     for (x1, y1), (x2, y2) in zip(points, points[1:]):
@@ -94,7 +107,7 @@ def smooth(points):
     return made
 
 
-def draw_crates(text):
+def draw_crates(text: str) -> str:
     crates = dependencies(text)
     edges, below = direct(crates), reached(crates)
     column = columns_of(edges)
@@ -106,7 +119,7 @@ def draw_crates(text):
              for at, points in rows.items() for row, point in enumerate(points)}
     picture = Picture(width + MARGIN, height + 2 * MARGIN + ROW, "the crates, and what stands on what")
     for chain in chains:
-        points = [place[at, point] for at, point in enumerate(chain, column[chain[0]])]
+        points = [place[at, point] for at, point in enumerate(chain, first_column(chain, column))]
         ends = [(points[0][0] + BOX + CHARACTER * len(chain[0]), points[0][1]), *points[1:]]
         picture.curve(smooth(ends), BLUE, 1, title=f"{chain[-1]} stands on {chain[0]}")
     for name, at in column.items():

@@ -1,14 +1,20 @@
 """The units, register files and buses of a datapath file."""
+from typing import Any, TypeAlias
+
 from silc.micro_file.operations import PORTS
 from silc.pictures.picture import BLACK, BLUE, COLUMN, FILLS, GAP, LABELS, MARGIN, ORANGE, PAPER, Picture
+
+# Of a unit: its left side, its width, the x of its ports, and that of its output where it has one.
+Placed: TypeAlias = tuple[float, float, list[float], float | None]
 
 DRIVES = {kind: kind != "out" for kind in PORTS}
 UNIT_TOP, UNIT_HEIGHT, FILE_HEIGHT, BUS_STEP = 56, 70, 24, 30
 
 
-def columns_of(units):
+def columns_of(units: list[dict[str, Any]]) -> tuple[list[Placed], float]:
     """For each unit the x of its left side, its width, the x of its ports and of its output; and the width of all."""
-    x, placed = MARGIN + LABELS, []
+    placed: list[Placed] = []
+    x: float = MARGIN + LABELS
     for unit in units:
         count = PORTS[unit["kind"]] + DRIVES[unit["kind"]]
         width = max(count, 2) * COLUMN
@@ -19,7 +25,7 @@ def columns_of(units):
     return placed, x - GAP + MARGIN
 
 
-def notes_of(unit):
+def notes_of(unit: dict[str, Any]) -> str:
     """What the file says of a unit beyond its kind."""
     words = []
     if unit.get("latency", 1) > 1:
@@ -33,7 +39,7 @@ def notes_of(unit):
     return ", ".join(words)
 
 
-def draw_units(picture, units, placed, bottom):
+def draw_units(picture: Picture, units: list[dict[str, Any]], placed: list[Placed], bottom: float) -> None:
     for unit, (x, width, ports, output) in zip(units, placed):
         picture.box(x, UNIT_TOP, width, UNIT_HEIGHT, FILLS[unit["kind"]])
         picture.text(x + width / 2, UNIT_TOP + 20, unit["name"], 14)
@@ -52,20 +58,22 @@ def draw_units(picture, units, placed, bottom):
             picture.arrow(output, foot + 26, True, ORANGE)
 
 
-def draw_buses(picture, datapath, placed, top, right):
+def draw_buses(picture: Picture, datapath: dict[str, Any], placed: list[Placed], top: float, right: float) -> None:
     names = [unit["name"] for unit in datapath["unit"]]
     for row, bus in enumerate(datapath["bus"]):
         y = top + row * BUS_STEP
         picture.line(MARGIN + LABELS - 16, y, right, y, BLACK, 2.5)
         picture.text(MARGIN + LABELS - 24, y + 4, bus["name"], 12, BLACK, "end")
         for name in bus["from"]:
-            picture.dot(placed[names.index(name)][3], y, ORANGE)
+            output = placed[names.index(name)][3]
+            if output is not None:
+                picture.dot(output, y, ORANGE)
         for end in bus["to"]:
             name, _, port = end.rpartition(".")
             picture.dot(placed[names.index(name)][2][int(port)], y, BLUE)
 
 
-def draw_datapath(datapath):
+def draw_datapath(datapath: dict[str, Any]) -> str:
     placed, width = columns_of(datapath["unit"])
     top = UNIT_TOP + UNIT_HEIGHT + FILE_HEIGHT + 56
     bottom = top + (len(datapath["bus"]) - 1) * BUS_STEP

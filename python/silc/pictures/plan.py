@@ -1,7 +1,11 @@
-"""The text of `silc schedule`, as a plan of nodes."""
+"""The text of `silc schedule` or `silc stages`, as a plan of nodes."""
 from dataclasses import dataclass, field
+from typing import Any
 
 from silc.micro_file.operations import CALLED
+
+# How many samples may be in flight at once.
+STAGES = range(1, 5)
 
 
 @dataclass
@@ -9,7 +13,7 @@ class Transfer:
     """One destination of a result: a register file, the bus to it, and the registers that the copies have in turn."""
     file: str
     bus: str
-    registers: list
+    registers: list[int]
 
 
 @dataclass
@@ -19,12 +23,12 @@ class Node:
     unit: str
     op: str
     argument: int | None = None
-    operands: list = field(default_factory=list)
-    transfers: list = field(default_factory=list)
+    operands: list[tuple[int, int]] = field(default_factory=list)
+    transfers: list[Transfer] = field(default_factory=list)
     # The bits of its word, where it has a format.
     width: int | None = None
 
-    def words(self):
+    def words(self) -> str:
         """What the node does, as the text has it: the operation, its argument and its operands."""
         reads = [f"{node}@{delay}" if delay else f"{node}" for node, delay in self.operands]
         return " ".join([self.op, *([] if self.argument is None else [f"{self.argument}"]), *reads])
@@ -32,27 +36,36 @@ class Node:
 
 @dataclass
 class Plan:
-    """A plan, with the latency of each unit that it uses."""
+    """A plan, with the latency of each unit that it uses. Cycles count from the start of the sample, over all its
+    stages."""
     period: int
     unroll: int
-    nodes: list
-    latency: dict
+    nodes: list[Node]
+    latency: dict[str, int]
+    stages: int = 1
 
-    def written(self, node):
+    def written(self, node: Node) -> int:
         """The cycle in which a node's result is there."""
         return node.cycle + self.latency[node.unit] - 1
+
+    def stage(self, cycle: int) -> int:
+        """The stage in which a cycle of a sample is."""
+        return cycle // self.period
 
 
 class Line:
     """The words of a line, and where the reading stands."""
 
-    def __init__(self, text):
+    def __init__(self, text: str) -> None:
         self.words, self.at = text.split(), 0
 
-    def more(self):
+    def more(self) -> bool:
         return self.at < len(self.words)
 
-    def word(self, *wanted):
+    def next_is(self, word: str) -> bool:
+        return self.words[self.at : self.at + 1] == [word]
+
+    def word(self, *wanted: str) -> str:
         """The next word, which has to be one of those that are wanted, where there are some."""
         found = self.words[self.at] if self.more() else "the end of the line"
         if wanted and found not in wanted or not self.more():
@@ -60,12 +73,12 @@ class Line:
         self.at += 1
         return found
 
-    def number(self, name):
+    def number(self, name: str) -> int:
         self.word(name)
         return int(self.word())
 
 
-def node_of(text):
+def node_of(text: str) -> Node:
     line = Line(text)
     node = Node(line.number("node"), line.number("cycle"), "", "")
     line.word("unit")
@@ -92,13 +105,14 @@ def node_of(text):
     return node
 
 
-def check(plan):
+def check(plan: Plan) -> None:
     """Each node has its place in the period, reads nodes that are there, and goes where it is read."""
     for number, node in enumerate(plan.nodes):
         if node.number != number:
             raise ValueError(f"line {number + 2}: node {node.number} in the place of node {number}")
-        if not 0 <= node.cycle <= plan.written(node) < plan.period:
-            raise ValueError(f"line {number + 2}: node {number} is not done in the period")
+        if not 0 <= node.cycle <= plan.written(node) < plan.stages * plan.period:
+            within = "the period" if plan.stages == 1 else f"{plan.stages} periods"
+            raise ValueError(f"line {number + 2}: node {number} is not done in {within}")
         if any(not 0 <= operand < len(plan.nodes) for operand, _ in node.operands):
             raise ValueError(f"line {number + 2}: node {number} reads a node that is not there")
     read = readings(plan)
@@ -108,7 +122,7 @@ def check(plan):
                 raise ValueError(f"node {node.number} goes to {transfer.file}, where nothing reads it")
 
 
-def latencies(nodes, datapath):
+def latencies(nodes: list[Node], datapath: dict[str, Any] | None) -> dict[str, int]:
     """The latency of each unit, by the datapath file, which has all that the nodes name; without one, 1."""
     if datapath is None:
         return {node.unit: 1 for node in nodes}
@@ -123,8 +137,20 @@ def latencies(nodes, datapath):
     return known
 
 
-def plan_of(text, datapath=None):
-    """The plan that a text of `silc schedule` prints, on the units of a datapath file that has been read."""
+def head_of(text: str) -> tuple[int, int, int, int]:
+    """The period, the stages, the unroll factor and the number of nodes of a head line; `silc schedule` names no
+    stages."""
+    head = Line(text)
+    period = head.number("period")
+    stages = head.number("stages") if head.next_is("stages") else 1
+    if stages not in STAGES:
+        raise ValueError(f"{stages} stages, and there are {STAGES[0]} to {STAGES[-1]}")
+    return period, stages, head.number("unroll"), head.number("nodes")
+
+
+def plan_of(text: str, datapath: dict[str, Any] | None = None) -> Plan:
+    """The plan that a text of `silc schedule` or `silc stages` has, on the units of a datapath file that has been
+    read."""
     lines = text.splitlines()
     if not lines:
         raise ValueError("the text is empty")
@@ -134,20 +160,19 @@ def plan_of(text, datapath=None):
             if number:
                 nodes.append(node_of(line))
             else:
-                head = Line(line)
-                period, unroll, count = head.number("period"), head.number("unroll"), head.number("nodes")
+                period, stages, unroll, count = head_of(line)
         except ValueError as fault:
             raise ValueError(f"line {number + 1}: {fault}") from fault
     if count != len(nodes):
         raise ValueError(f"line 1: {count} nodes, and {len(nodes)} lines of nodes")
-    plan = Plan(period, unroll, nodes, latencies(nodes, datapath))
+    plan = Plan(period, unroll, nodes, latencies(nodes, datapath), stages)
     check(plan)
     return plan
 
 
-def readings(plan):
+def readings(plan: Plan) -> dict[tuple[int, str], list[int]]:
     """Of each node and port the cycles of its reads, counted from the start of the sample in which it is written."""
-    made = {}
+    made: dict[tuple[int, str], list[int]] = {}
     for reader in plan.nodes:
         for port, (node, delay) in enumerate(reader.operands):
             made.setdefault((node, f"{reader.unit}.{port}"), []).append(reader.cycle + delay * plan.period)

@@ -1,4 +1,6 @@
 """The bits of each element as a bar: those that its words needed, and those that it has."""
+from collections.abc import Sequence
+
 from silc.pictures.picture import AMBER, BLACK, BLUE, FAINT, MARGIN, ORANGE, Picture
 
 NAMES, BIT, TALL, HEAD, WORDS = 190, 16, 20, 70, 170
@@ -6,13 +8,14 @@ NAMES, BIT, TALL, HEAD, WORDS = 190, 16, 20, 70, 170
 MOST_BITS = 64
 
 
-def draw_ranges(elements):
+def draw_ranges(elements: Sequence[tuple[str, int, int, str]]) -> str:
     """A picture of elements, each a name, the bits that it has and needed, and words beside it."""
     most = min(MOST_BITS, max(max(bits, needed) for _, bits, needed, _ in elements))
     width, height = MARGIN + NAMES + BIT * most + WORDS + MARGIN, HEAD + TALL * len(elements) + MARGIN
     picture = Picture(width, height, "bits that the elements have and need")
     left = MARGIN + NAMES
-    picture.text(MARGIN, 28, "bits that each element has, and of these (filled) those that its words need", 13, BLACK, "start")
+    picture.text(MARGIN, 28, "bits that each element has, and of these (filled) those that its words need", 13, BLACK,
+                 "start")
     for bit in range(0, most + 1, 4):
         picture.line(left + BIT * bit, HEAD - 8, left + BIT * bit, height - MARGIN, FAINT, 1)
         picture.text(left + BIT * bit, HEAD - 14, str(bit), 10)

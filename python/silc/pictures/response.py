@@ -1,13 +1,22 @@
 """The magnitude of a filter over the frequency: of its rows on an impulse, and of its design in real numbers."""
 import cmath
 import math
+from collections.abc import Callable, Sequence
+from typing import TypeAlias
 
 from silc.pictures.axes import logarithmic, numbers_over, numbers_within, runs_within
 from silc.pictures.picture import BLACK, BLUE, FAINT, MARGIN, ORANGE, Picture
 
+# The coefficients of a section: of its numerator, and of its denominator from a0 = 1 on.
+Section: TypeAlias = tuple[list[float], list[float]]
+# What a curve has at a share of the sample rate, in decibels.
+Curve: TypeAlias = Callable[[float], float]
+# The least and the greatest number of an axis.
+Ends: TypeAlias = tuple[float, float]
+
 WIDTH, HEIGHT, LEFT, TOP = 760, 380, 84, 56
-# The axis of frequencies, in shares of the sample rate: it ends at HIGHEST, and begins below FIRST where a curve is not level
-# there, further down than LOWEST only where there are rows enough. It is searched at so many places a decade.
+# The axis of frequencies, in shares of the sample rate: it ends at HIGHEST, and begins below FIRST where a curve is not
+# level there, further down than LOWEST only where there are rows enough. It is searched at so many places a decade.
 LOWEST, FIRST, HIGHEST, POINTS, SEARCHED = 0.001, 0.01, 0.5, 600, 12
 # How many decibels are still level, and which share of all that are shown.
 LEVEL, LEVEL_SHARE = 0.05, 0.01
@@ -21,7 +30,7 @@ SHARES, HERTZ = "frequency, as a share of the sample rate", "frequency in hertz,
 LEAST = 1e-12
 
 
-def words_of(text, unit):
+def words_of(text: str, unit: float) -> list[float]:
     """The first words of rows, as shares of the word that stands for a gain of 1."""
     if unit == 0:
         raise ValueError("UNIT is 0")
@@ -36,7 +45,7 @@ def words_of(text, unit):
     return made
 
 
-def section_of(place, words):
+def section_of(place: int, words: str) -> Section:
     """The coefficients b0,b1,..;a1,a2,.. of a section, whose a0 is 1."""
     b, _, a = words.partition(";")
     if not b:
@@ -45,23 +54,23 @@ def section_of(place, words):
     return numbers[0], [1.0, *numbers[1]]
 
 
-def decibels(number):
+def decibels(number: complex) -> float:
     return 20 * math.log10(max(abs(number), LEAST))
 
 
-def value(coefficients, share):
+def value(coefficients: Sequence[float], share: float) -> complex:
     """A polynomial of the delay, at a share of the sample rate."""
-    turn, made = cmath.exp(-2j * math.pi * share), 0
+    turn, made = cmath.exp(-2j * math.pi * share), 0j
     for coefficient in reversed(coefficients):
         made = made * turn + coefficient
     return made
 
 
-def designed(sections, share):
+def designed(sections: list[Section], share: float) -> float:
     return math.prod(abs(value(b, share)) / max(abs(value(a, share)), LEAST) for b, a in sections)
 
 
-def rate_of(words):
+def rate_of(words: str) -> float:
     """The samples a second that are given after --rate."""
     rate = float(words)
     if not 0 < rate < math.inf:
@@ -70,26 +79,27 @@ def rate_of(words):
 
 
 class Axes:
-    """Where a share of the sample rate and a number of decibels stand. The numbers are in hertz where there is a rate."""
+    """Where a share of the sample rate and a number of decibels stand. The numbers are in hertz where there is a
+    rate."""
 
-    def __init__(self, shares, levels, numbers, rate):
+    def __init__(self, shares: Ends, levels: Ends, numbers: list[float], rate: float | None) -> None:
         (self.first, self.last), (self.lowest, self.highest), self.levels = shares, levels, numbers
         self.rate = rate or 1
         self.words = HERTZ.format(rate=rate) if rate else SHARES
 
-    def x(self, share):
+    def x(self, share: float) -> float:
         return LEFT + WIDTH * math.log(share / self.first) / math.log(self.last / self.first)
 
-    def y(self, decibels):
+    def y(self, decibels: float) -> float:
         return TOP + HEIGHT * (self.highest - decibels) / (self.highest - self.lowest)
 
-    def frequencies(self):
+    def frequencies(self) -> list[float]:
         """The numbers at the axis of frequencies, over less than a decade in equal steps."""
         ends = self.first * self.rate, self.last * self.rate
         numbers = logarithmic(*ends)
         return numbers if len(numbers) >= FEWEST else numbers_within(*ends, MOST)
 
-    def draw(self, picture):
+    def draw(self, picture: Picture) -> None:
         for frequency in self.frequencies():
             x = self.x(frequency / self.rate)
             picture.line(x, TOP, x, TOP + HEIGHT, FAINT, 1)
@@ -100,28 +110,30 @@ class Axes:
         picture.text(LEFT + WIDTH / 2, TOP + HEIGHT + 36, self.words, 11)
         picture.text(LEFT - 8, TOP - 14, "dB", 11, BLACK, "end")
 
-    def draw_curve(self, picture, points, colour, width, dashes, words):
+    def draw_curve(self, picture: Picture, points: list[tuple[float, float]], colour: str, width: float, dashes: str,
+                   words: str) -> None:
         """A curve through shares and levels, as far as it is between the ends of the axis."""
         placed = [(self.x(share), self.y(level)) for share, level in points]
         picture.curves(runs_within(placed, TOP - 1, TOP + HEIGHT + 1), colour, width, dashes, words)
 
 
-def first_share(curves, count, rate):
-    """Where the axis of frequencies begins: where all curves are level up to there, but no further down than `count` rows
-    tell, and at least a decade and a half below its end."""
+def first_share(curves: list[Curve], count: int, rate: float) -> float:
+    """Where the axis of frequencies begins: where all curves are level up to there, but no further down than `count`
+    rows tell, and at least a decade and a half below its end."""
     lowest = min(LOWEST, 1 / count)
     places = range(math.ceil(SEARCHED * math.log10(HIGHEST / lowest)) + 1)
     shares = [lowest * (HIGHEST / lowest) ** (place / places[-1]) for place in places]
     levels = [[curve(share) for share in shares] for curve in curves]
-    floor = max(map(max, levels)) - DEPTH
-    near = max(LEVEL, (max(map(max, levels)) - max(floor, min(map(min, levels)))) * LEVEL_SHARE)
+    high, low = max(max(own) for own in levels), min(min(own) for own in levels)
+    floor = high - DEPTH
+    near = max(LEVEL, (high - max(floor, low)) * LEVEL_SHARE)
     level = next((share for place, share in enumerate(shares) if any(
         abs(max(own[place], floor) - max(own[0], floor)) > near for own in levels)), HIGHEST)
     numbers = [number / rate for number in logarithmic(lowest * rate, FIRST * rate)]
     return max([number for number in numbers if number <= level / 2], default=numbers[0])
 
 
-def levels_over(levels):
+def levels_over(levels: list[float]) -> list[float]:
     """The numbers at the axis of decibels."""
     high = max(levels)
     low = max(min(levels), high - DEPTH)
@@ -129,7 +141,7 @@ def levels_over(levels):
     return numbers_over(low - short, high + short, MOST, 0, BEYOND)
 
 
-def shares_of(frequencies, rate):
+def shares_of(frequencies: Ends, rate: float) -> Ends:
     """The ends of the axis of frequencies that is asked for, as shares of the sample rate."""
     first, last = (frequency / rate for frequency in frequencies)
     if not 0 < first or last > HIGHEST:
@@ -137,12 +149,14 @@ def shares_of(frequencies, rate):
     return first, last
 
 
-def draw_response(text, unit, *sections, rate=None, frequencies=None, db=None):
+def draw_response(text: str, unit: str, *sections: str, rate: float | None = None, frequencies: Ends | None = None,
+                  db: Ends | None = None) -> str:
     """A picture of the rows on an impulse, and of the design by its sections, between the frequencies and the levels in
     decibels that are asked for, or those that the curves have."""
     impulse = words_of(text, float(unit))
     filters = [section_of(place, words) for place, words in enumerate(sections, 1)]
-    drawn = [(lambda share: decibels(value(impulse, share)), ORANGE, 3, "", f"the {len(impulse)} rows on an impulse")]
+    drawn: list[tuple[Curve, str, float, str, str]] = [
+        (lambda share: decibels(value(impulse, share)), ORANGE, 3, "", f"the {len(impulse)} rows on an impulse")]
     if filters:
         drawn.append((lambda share: decibels(designed(filters, share)), BLUE, 1.5, "6 4", "the design in real numbers"))
     curves = [curve for curve, *_ in drawn]

@@ -1,7 +1,9 @@
-"""The trade-off of an exploration: bits of registers over the period, a panel for each number of units, a colour for each
-number of buses."""
+"""The trade-off of an exploration: bits of registers over the period, a panel for each number of units and of stages, a
+colour for each number of buses."""
 import math
+from collections.abc import Callable
 
+from silc.exploring.trades import Trade
 from silc.pictures.axes import numbers_over
 from silc.pictures.picture import BLACK, BLUE, FAINT, GREY, MARGIN, ORANGE, Picture
 
@@ -13,7 +15,7 @@ KEY = 92
 NOISE_WIDE = 560
 
 
-def marks_of(low, high):
+def marks_of(low: float, high: float) -> list[int]:
     """Round numbers over an axis, a few of them."""
     return numbers_over(low, high, MARKS, 1)
 
@@ -21,18 +23,18 @@ def marks_of(low, high):
 class Panel:
     """A pair of axes, the same in all panels."""
 
-    def __init__(self, number, periods, registers):
+    def __init__(self, number: int, periods: list[int], registers: list[int]) -> None:
         self.left = MARGIN + LEFT + number % ACROSS * (PANEL + BETWEEN)
         self.top = HEAD + number // ACROSS * (TALL + HEAD)
         self.periods, self.registers = periods, registers
 
-    def x(self, period):
+    def x(self, period: float) -> float:
         return self.left + (period - self.periods[0]) * PANEL / max(1, self.periods[-1] - self.periods[0])
 
-    def y(self, registers):
+    def y(self, registers: float) -> float:
         return self.top + TALL - (registers - self.registers[0]) * TALL / max(1, self.registers[-1] - self.registers[0])
 
-    def draw(self, picture, title):
+    def draw(self, picture: Picture, title: str) -> None:
         picture.text(self.left, self.top - 28, title, 12, BLACK, "start")
         picture.text(self.left - 8, self.top - 10, "bits of registers", 10, BLACK, "start")
         picture.text(self.left + PANEL, self.top + TALL + 30, "cycles of a period", 10, BLACK, "end")
@@ -44,9 +46,10 @@ class Panel:
             picture.text(self.left - 6, self.y(registers) + 4, str(registers), 10, BLACK, "end")
 
 
-def staircase(panel, trades):
+def staircase(panel: Panel, trades: list[Trade]) -> list[tuple[float, float]]:
     """The line below which no combination is: the least bits of registers that are enough in each period."""
-    least, points = None, []
+    least: int | None = None
+    points: list[tuple[float, float]] = []
     for trade in sorted(trades, key=lambda trade: (trade.period, trade.register_bits)):
         if least is None or trade.register_bits < least:
             points += [] if least is None else [(panel.x(trade.period), panel.y(least))]
@@ -55,7 +58,7 @@ def staircase(panel, trades):
     return [*points, (panel.left + PANEL, panel.y(least))]
 
 
-def said_of(trade):
+def said_of(trade: Trade) -> str:
     """A combination in words: its costs and the number of each range."""
     ranges = ", ".join(f"{name} {number}" for name, number in trade.choice.items() if name != "period")
     return (f"period {trade.period}, {trade.units} units, {trade.buses} buses, {trade.registers} registers "
@@ -63,7 +66,7 @@ def said_of(trade):
             + (f": {ranges}" if ranges else ""))
 
 
-def draw_panel(picture, panel, trades, colours):
+def draw_panel(picture: Picture, panel: Panel, trades: list[Trade], colours: dict[int, str]) -> None:
     """The points of one number of units, with those of fewer buses above the others, and those of the front larger."""
     for buses in sorted({trade.buses for trade in trades}, reverse=True):
         picture.curve(staircase(panel, [trade for trade in trades if trade.buses == buses]), colours[buses], 1.5)
@@ -76,10 +79,19 @@ def draw_panel(picture, panel, trades, colours):
                     FRONT_DOT if is_large else DOT, said_of(trade) if is_large else "")
 
 
-def draw_tradeoff(trades):
+def panel_of(trade: Trade) -> tuple[int, int]:
+    """What a panel is for: a number of units, and of stages where there are some."""
+    return trade.units, trade.stages()
+
+
+def title_of(units: int, stages: int) -> str:
+    return f"{units} units" + (f", {stages} stage{'s' if stages > 1 else ''}" if stages else "")
+
+
+def draw_tradeoff(trades: list[Trade]) -> str:
     fit = [trade for trade in trades if trade.fits()]
     said = f"{len(trades)} combinations, of which {len(fit)} fit"
-    numbers = sorted({trade.units for trade in trades})
+    numbers = sorted(set(map(panel_of, trades)))
     periods = marks_of(min((trade.period for trade in fit), default=0), max((trade.period for trade in fit), default=1))
     registers = marks_of(min((trade.register_bits for trade in fit), default=0),
                          max((trade.register_bits for trade in fit), default=1))
@@ -88,27 +100,28 @@ def draw_tradeoff(trades):
     width = 2 * MARGIN + LEFT + min(len(numbers), ACROSS) * (PANEL + BETWEEN) - BETWEEN
     picture = Picture(max(width, 620), HEAD + lines * (TALL + HEAD) - HEAD // 2 + FOOT, f"trade-off: {said}")
     picture.text(MARGIN, 28, said, 13, BLACK, "start")
-    for number, units in enumerate(numbers):
-        of_panel = [trade for trade in trades if trade.units == units]
+    for number, shown in enumerate(numbers):
+        of_panel = [trade for trade in trades if panel_of(trade) == shown]
         fitting = [trade for trade in of_panel if trade.fits()]
         panel = Panel(number, periods, registers)
-        panel.draw(picture, f"{units} units: {len(fitting)} fit, {len(of_panel) - len(fitting)} do not")
+        panel.draw(picture, f"{title_of(*shown)}: {len(fitting)} fit, {len(of_panel) - len(fitting)} do not")
         draw_panel(picture, panel, fitting, colours)
-    draw_key(picture, colours, HEAD + lines * (TALL + HEAD) - HEAD // 2 + 20)
+    draw_key(picture, colours, HEAD + lines * (TALL + HEAD) - HEAD // 2 + 20, any(stages for _, stages in numbers))
     return picture.whole()
 
 
-def draw_key(picture, colours, y):
+def draw_key(picture: Picture, colours: dict[int, str], y: float, has_stages: bool) -> None:
     for number, (buses, colour) in enumerate(colours.items()):
         picture.dot(MARGIN + 6 + number * KEY, y - 4, colour)
         picture.text(MARGIN + 16 + number * KEY, y, f"{buses} buses", 11, BLACK, "start")
     picture.text(MARGIN + 16 + len(colours) * KEY, y, "(the fewest that fit at a place)", 11, BLACK, "start")
     picture.dot(MARGIN + 6, y + 16, GREY, FRONT_DOT)
-    words = "on the Pareto front: no other has less of period, units, buses or bits and no more of the rest"
+    costs = "buses, bits or stages" if has_stages else "buses or bits"
+    words = f"on the Pareto front: no other has less of period, units, {costs} and no more of the rest"
     picture.text(MARGIN + 16, y + 20, words, 11, BLACK, "start")
 
 
-def draw_noise(trades):
+def draw_noise(trades: list[Trade]) -> str:
     """The noise of the combinations that fit over the bits of their registers, a colour for each number of buses."""
     fit = [trade for trade in trades if trade.fits() and trade.noise is not None]
     said = f"{len(trades)} combinations, of which {len(fit)} fit: noise beside the signal in dB, over bits of registers"
@@ -130,11 +143,12 @@ def draw_noise(trades):
     return picture.whole()
 
 
-def noise_axes(picture, registers, levels):
+def noise_axes(picture: Picture, registers: list[int],
+               levels: list[int]) -> Callable[[float, float], tuple[float, float]]:
     """The axes of a picture of noise, and where a number of bits and a level stand."""
     left, top = MARGIN + LEFT, HEAD
 
-    def place(number, level):
+    def place(number: float, level: float) -> tuple[float, float]:
         return (left + (number - registers[0]) * NOISE_WIDE / max(1, registers[-1] - registers[0]),
                 top + (levels[-1] - level) * TALL / max(1, levels[-1] - levels[0]))
 

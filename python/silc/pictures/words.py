@@ -1,7 +1,13 @@
-"""Words over the samples: a panel for each column of rows, with an axis by its words, or by those of columns that are like
-it."""
+"""Words over the samples: a panel for each column of rows, with an axis by its words, or by those of columns that are
+like it."""
+from collections.abc import Sequence
+from typing import TypeAlias
+
 from silc.pictures.axes import numbers_over, numbers_within, runs_within, step_for
 from silc.pictures.picture import BLACK, BLUE, FAINT, MARGIN, ORANGE, Picture
+
+# A column of rows: its name, and its words.
+Column: TypeAlias = tuple[str, Sequence[int]]
 
 WIDTH, PANEL, LEFT, TOP, SPACE, FOOT = 760, 130, 96, 40, 44, 34
 # How many samples have their number at the axis at most, and into how many steps an axis of words goes.
@@ -11,7 +17,7 @@ NEAR = 3
 COLOURS = (BLACK, ORANGE, BLUE)
 
 
-def columns_of(text, names):
+def columns_of(text: str, names: list[str]) -> list[Column]:
     """The columns of rows, each with its name."""
     rows = []
     for number, line in enumerate(text.split(), 1):
@@ -26,11 +32,11 @@ def columns_of(text, names):
     return list(zip(names, zip(*rows)))
 
 
-def groups_of(columns):
-    """The columns by their magnitudes, those together that are to be compared: none has more than NEAR bits less than the
-    greatest of its group."""
+def groups_of(columns: Sequence[Column]) -> list[list[int]]:
+    """The columns by their magnitudes, those together that are to be compared: none has more than NEAR bits less than
+    the greatest of its group."""
     bits = [max(max(words), ~min(words)).bit_length() for _, words in columns]
-    groups = []
+    groups: list[list[int]] = []
     for number in sorted(range(len(columns)), key=lambda number: -bits[number]):
         if groups and bits[groups[-1][0]] - bits[number] <= NEAR:
             groups[-1].append(number)
@@ -39,16 +45,17 @@ def groups_of(columns):
     return groups
 
 
-def axes_of(columns):
-    """The numbers at the axis of each column: those of a group have one axis, from their least to their greatest word."""
-    made = {}
+def axes_of(columns: Sequence[Column]) -> list[list[int]]:
+    """The numbers at the axis of each column: those of a group have one axis, from their least to their greatest
+    word."""
+    made: dict[int, list[int]] = {}
     for group in groups_of(columns):
         words = [word for number in group for word in columns[number][1]]
         made |= dict.fromkeys(group, numbers_over(min(words), max(words), MOST, 1))
     return [made[number] for number in range(len(columns))]
 
 
-def step_of(count):
+def step_of(count: int) -> int:
     """How far the numbers of the samples are apart."""
     digit, power = step_for(count, TICKS, 1)
     return digit * 10**power
@@ -57,16 +64,16 @@ def step_of(count):
 class Panel:
     """Where a sample and a word of one column stand, between the ends of its axis."""
 
-    def __init__(self, number, count, ends):
+    def __init__(self, number: int, count: int, ends: tuple[float, float]) -> None:
         self.top, self.count, (self.low, self.high) = TOP + number * (PANEL + SPACE), count, ends
 
-    def x(self, sample):
+    def x(self, sample: int) -> float:
         return LEFT + WIDTH * sample / max(1, self.count - 1)
 
-    def y(self, word):
+    def y(self, word: float) -> float:
         return self.top + PANEL * (self.high - word) / (self.high - self.low)
 
-    def draw(self, picture, name, words, numbers, colour):
+    def draw(self, picture: Picture, name: str, words: Sequence[int], numbers: Sequence[int], colour: str) -> None:
         for sample in range(0, self.count, step_of(self.count)):
             picture.line(self.x(sample), self.top, self.x(sample), self.top + PANEL, FAINT, 1)
             picture.text(self.x(sample), self.top + PANEL + 14, str(sample), 10)
@@ -79,11 +86,12 @@ class Panel:
         picture.curves(runs, colour, 1.2, "", name)
 
 
-def draw_words(*columns, range=None):
+def draw_words(*columns: Column, range: tuple[float, float] | None = None) -> str:
     """A picture of columns, each a name and its words, with the axes that the words have, or one axis for all."""
     count = max(len(words) for _, words in columns)
-    within = range and [int(word) for word in numbers_within(*range, MOST) if word == int(word)]
-    axes = [(within, range)] * len(columns) if range else [(own, (own[0], own[-1])) for own in axes_of(columns)]
+    axes: list[tuple[list[int], tuple[float, float]]] = [(own, (own[0], own[-1])) for own in axes_of(columns)]
+    if range:
+        axes = [([int(word) for word in numbers_within(*range, MOST) if word == int(word)], range)] * len(columns)
     height = TOP + len(columns) * (PANEL + SPACE) - SPACE + FOOT + MARGIN
     picture = Picture(LEFT + WIDTH + MARGIN, height, "words over the samples")
     for number, ((name, words), (numbers, ends)) in enumerate(zip(columns, axes)):

@@ -1,7 +1,7 @@
 """The rows of a sound."""
 import re
 from collections.abc import Iterator, Sequence
-from typing import BinaryIO
+from typing import IO
 
 from silc.sounds.shapes import WIDEST, Shape, pcm_shape
 from silc.sounds.streams import skip
@@ -12,7 +12,8 @@ COLUMN = re.compile(r"([1-9]\d?)|=(-?\d{1,13})")
 
 
 class Columns:
-    """What the rows have, column by column: channels by their numbers from 1 on, and texts that stand for themselves."""
+    """What the rows have, column by column: channels by their numbers from 1 on, and texts that stand for
+    themselves."""
 
     def __init__(self, parts: list):
         self.parts = parts
@@ -51,7 +52,7 @@ class Rows:
     def __init__(self, shape: Shape, columns: Columns | None = None):
         self.shape, self.columns, self.row = shape, columns, 0
 
-    def parts(self, source: BinaryIO) -> Iterator[bytes]:
+    def parts(self, source: IO[bytes]) -> Iterator[bytes]:
         count, width, length = head_of(source)
         columns = self.columns or Columns(list(range(1, count + 1)))
         if max(columns.channels) > count:

@@ -30,7 +30,8 @@ class Shape:
         return [word << -fewer for word in given] if fewer else given
 
     def takes(self, given: Sequence[int], other: "Shape") -> bool:
-        """Whether each of these words of another shape has one here: the least and the greatest have, as those between."""
+        """Whether each of these words of another shape has one here: the least and the greatest have, as those
+        between."""
         return not given or self.has_all(self.nearest([min(given), max(given)], other))
 
     def takes_every(self, other: "Shape") -> bool:

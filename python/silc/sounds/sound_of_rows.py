@@ -1,20 +1,20 @@
 """The sound of rows."""
-import json
 import re
 import struct
 from collections.abc import Iterator, Sequence
-from typing import BinaryIO
+from typing import IO
 
 from silc.sounds.shapes import Shape, pcm_shape
 from silc.sounds.streams import PIECE, pieces
 from silc.sounds.wav import CHANNELS, head_with, samples_in
+from silc.words import numbers_in
 
 ROW = re.compile(rb"-?[0-9]+(?:,-?[0-9]+)*")
 # What a row has between its commas and its end.
 IN_WORDS = b"-0123456789"
 
 
-def blocks_of(source: BinaryIO) -> Iterator[bytes]:
+def blocks_of(source: IO[bytes]) -> Iterator[bytes]:
     """The lines, as many at once as are there. The last one may lack its end."""
     rest = b""
     for piece in pieces(source):
@@ -25,14 +25,6 @@ def blocks_of(source: BinaryIO) -> Iterator[bytes]:
             raise ValueError(f"a line of more than {PIECE} bytes")
     if rest:
         yield rest + b"\n"
-
-
-def numbers_in(text: str) -> list[int]:
-    """The numbers between commas and ends of lines, by a reader that is fast, and has no leading zeros."""
-    try:
-        return json.loads(f"[{text}]".replace("\n", ","))
-    except ValueError:
-        return [int(word) for word in text.replace("\n", ",").split(",")]
 
 
 def channels_of(text: str) -> list[int]:
@@ -47,12 +39,13 @@ class Sound:
 
     def __init__(self, shape: Shape, rate: int, width: int, columns: list[int] | None = None):
         self.shape, self.rate, self.own, self.columns = shape, rate, pcm_shape(width), columns
-        self.row, self.count = 0, None
+        self.row = 0
+        self.count: int | None = None
         # The ends of the range that have to be looked at: what is beyond the others has no sample either.
         beyond = self.own.nearest([shape.low - 1, shape.high + 1], shape)
         self.ends = [end for end, word in zip((min, max), beyond) if self.own.has(word)]
 
-    def parts(self, source: BinaryIO) -> Iterator[bytes]:
+    def parts(self, source: IO[bytes]) -> Iterator[bytes]:
         for block in blocks_of(source):
             made = self.of_block(block)
             yield from self.line_by_line(block) if made is None else [made]
@@ -77,7 +70,8 @@ class Sound:
         return made
 
     def taken(self, count: int) -> Sequence[int]:
-        """The columns that become channels, of so many. Without a choice all do, and there are no more than channels."""
+        """The columns that become channels, of so many. Without a choice all do, and there are no more than
+        channels."""
         return self.columns or range(1, count + 1 if count <= len(CHANNELS) else count + 2)
 
     def channels(self, words: list[int], count: int) -> list[int]:
@@ -91,7 +85,8 @@ class Sound:
 
     def line_by_line(self, block: bytes) -> Iterator[bytes]:
         """The samples of rows up to one that is refused, and then why."""
-        made, refused = [], None
+        made: list[bytes] = []
+        refused: ValueError | None = None
         try:
             for line in block[:-1].split(b"\n"):
                 self.row += 1
@@ -110,12 +105,13 @@ class Sound:
         if not ROW.fullmatch(line) or not self.columns and line.count(b",") >= len(CHANNELS):
             raise ValueError(f"row {self.row}: {line.decode(errors='replace')!r} is not {what}")
         words = [int(word) for word in line.split(b",")]
-        self.count = self.count or len(words)
-        if len(words) != self.count:
-            raise ValueError(f"row {self.row} has {len(words)} words, and row 1 has {self.count}")
-        if max(self.taken(self.count)) > self.count:
-            raise ValueError(f"column {max(self.columns)}, and row {self.row} has {self.count} word" + "s" * (self.count > 1))
-        words = self.channels(words, self.count)
+        count = self.count = self.count or len(words)
+        if len(words) != count:
+            raise ValueError(f"row {self.row} has {len(words)} words, and row 1 has {count}")
+        last = max(self.taken(count))
+        if last > count:
+            raise ValueError(f"column {last}, and row {self.row} has {count} word" + "s" * (count > 1))
+        words = self.channels(words, count)
         if not self.shape.has_all(words):
             raise ValueError(f"row {self.row}: {line.decode()} is out of the range of {self.shape}")
         return words

@@ -1,7 +1,7 @@
 """The heads of WAV files, and their words."""
 from collections.abc import Iterator, Sequence
 from struct import pack, unpack
-from typing import BinaryIO
+from typing import IO
 
 from silc.sounds.streams import pieces, skip, taken
 
@@ -17,8 +17,8 @@ UNKNOWN_LENGTH = 0x7FFF0000
 # The length that sox gives then, and takes for none.
 NO_LENGTH = 0x7FFFF000
 LONGEST = 0xFFFFFFFF
-# The letters by which `struct` has words of 16 and of 32 bits. Of 24 bits it has none: they are taken for the upper bytes
-# of 32.
+# The letters by which `struct` has words of 16 and of 32 bits. Of 24 bits it has none: they are taken for the upper
+# bytes of 32.
 LETTERS = {16: "h", 32: "i"}
 THREE, FOUR, BESIDE = 3, 4, 8
 
@@ -37,7 +37,7 @@ def format_of(head: bytes) -> tuple[int, int]:
     return count, width
 
 
-def head_of(source: BinaryIO) -> tuple[int, int, int]:
+def head_of(source: IO[bytes]) -> tuple[int, int, int]:
     """Reads up to the samples. Gives the number of channels, the bits of a word and the length of the samples."""
     head = taken(source, 12)
     if head[:4] != b"RIFF" or head[8:12] != b"WAVE":
@@ -54,7 +54,7 @@ def head_of(source: BinaryIO) -> tuple[int, int, int]:
     raise ValueError("the file ends too early")
 
 
-def samples_of(source: BinaryIO, length: int, frame: int) -> Iterator[bytes]:
+def samples_of(source: IO[bytes], length: int, frame: int) -> Iterator[bytes]:
     """The bytes of the samples, in pieces of whole frames."""
     known, came, rest = length < UNKNOWN_LENGTH, 0, b""
     if known and length % frame:

@@ -1,5 +1,12 @@
 """The signals of a run of microcode, with the names of its datapath."""
 from dataclasses import dataclass
+from typing import Any, TypeAlias
+
+from silc.hardware.datapath import Names
+from silc.micro_file.image import Image
+
+# What a signal shows: of the run, or with their numbers of a unit, of a bus, of a register or of a cell.
+Key: TypeAlias = str | tuple[Any, ...]
 
 # Each word fits: inputs, constants and results have at most 40 bits, and addresses fewer.
 WORD_BITS = 40
@@ -16,19 +23,19 @@ FIRST_CODE, LAST_CODE = 33, 126
 @dataclass(frozen=True)
 class Signal:
     """A signal: the scopes that it stands in, its name, its bits (None: it is a text), and its code in the file."""
-    scopes: tuple
+    scopes: tuple[str, ...]
     name: str
     bits: int | None
     code: str
 
-    def change(self, value):
+    def change(self, value: Any) -> str:
         """The line by which it has a value from now on. None stands for no value."""
         if self.bits is None:
             return f"s{value or NO_TEXT} {self.code}"
         digits = NOTHING if value is None else format(value % (1 << self.bits), "b")
         return f"{digits}{self.code}" if self.bits == 1 else f"b{digits} {self.code}"
 
-    def declared(self):
+    def declared(self) -> str:
         """Its type, size, code and name."""
         if self.bits is None:
             return f"$var string 1 {self.code} {self.name} $end"
@@ -36,7 +43,7 @@ class Signal:
         return f"$var wire {self.bits} {self.code} {self.name}{span} $end"
 
 
-def code_of(number):
+def code_of(number: int) -> str:
     """The code of a signal: a word of printable characters."""
     count = LAST_CODE - FIRST_CODE + 1
     text = chr(FIRST_CODE + number % count)
@@ -49,8 +56,8 @@ def code_of(number):
 class Signals:
     """The signals of a run by what they show, in the order in which they were added."""
 
-    def __init__(self, image, names):
-        self.by_key = {}
+    def __init__(self, image: Image, names: Names) -> None:
+        self.by_key: dict[Key, Signal] = {}
         self.units = names.units
         self.add("strobe", (), "strobe", 1)
         self.add("sample", (), "sample", SAMPLE_BITS)
@@ -63,7 +70,7 @@ class Signals:
         for output in range(image.outputs):
             self.add(("latch", output), ("latches",), f"out{output}", WORD_BITS)
 
-    def add_unit(self, unit, scopes, files):
+    def add_unit(self, unit: int, scopes: tuple[str, ...], files: list[list[int]]) -> None:
         self.add(("operation", unit), scopes, "operation", None)
         self.add(("opcode", unit), scopes, "opcode", OPCODE_BITS)
         self.add(("result", unit), scopes, "result", WORD_BITS)
@@ -71,25 +78,25 @@ class Signals:
             for register in range(len(file)):
                 self.add(("register", unit, port, register), (*scopes, f"port{port}"), f"r{register}", WORD_BITS)
 
-    def add(self, key, scopes, name, bits):
+    def add(self, key: Key, scopes: tuple[str, ...], name: str, bits: int | None) -> Signal:
         self.by_key[key] = Signal(scopes, name, bits, code_of(len(self.by_key)))
         return self.by_key[key]
 
-    def of(self, key):
+    def of(self, key: Key) -> Signal:
         """The signal of a key; that of a cell is added when it is first asked for."""
-        if key not in self.by_key and key[0] == "cell":
+        if key not in self.by_key and isinstance(key, tuple) and key[0] == "cell":
             _, ram, cell = key
             return self.add(key, ("units", self.units[ram], "cells"), f"c{cell}", WORD_BITS)
         return self.by_key[key]
 
 
-def first_value(image, key):
+def first_value(image: Image, key: Key) -> int | None:
     """What a signal shows before the first cycle."""
-    kind = key if isinstance(key, str) else key[0]
+    kind, *numbers = (key,) if isinstance(key, str) else key
     if kind == "register":
-        _, unit, port, register = key
+        unit, port, register = numbers
         return image.units[unit].files[port][register]
     if kind == "cell":
-        _, ram, cell = key
+        ram, cell = numbers
         return image.units[ram].cells[cell]
     return 0 if kind in ("latch", "strobe", "sample", "word") else None

@@ -30,13 +30,16 @@ class Layout:
     """What the lines of a cycle say, but for the words: these are what is left of the lines behind their beginnings. A
     microword has one layout, or a few, where results of the sample before are not there yet."""
 
-    def __init__(self, word: int, lines: list[str], conflict: str | None = None):
-        self.word, self.conflict, self.beginnings = word, conflict, []
-        # The operation that a unit begins, by the unit; and by the bus the unit that drives it, with the line of its word.
-        self.issues, self.buses = {}, {}
+    def __init__(self, word: int, lines: list[str], conflict: str | None = None) -> None:
+        self.word, self.conflict = word, conflict
+        self.beginnings: list[str] = []
+        # The operation that a unit begins, by the unit; and by the bus the unit that drives it, with the line of its
+        # word.
+        self.issues: dict[int, str] = {}
+        self.buses: dict[int, tuple[int, int]] = {}
         # Places with the lines of the words that they become: ("register", unit, port, register), ("cell", ram), whose
         # line has the number of the cell too, or ("latch", output).
-        self.writes = []
+        self.writes: list[tuple[tuple, int]] = []
         for line in lines:
             self.put(line)
 
@@ -62,14 +65,14 @@ class Layout:
         return words if min(words, default=WORD) >= WORD else None
 
 
-# A cycle: its number, its sample as a text, and what its lines say, with the words. Where the run ends with it by a conflict,
-# it has no lines: nothing of it is done.
+# A cycle: its number, its sample as a text, and what its lines say, with the words. Where the run ends with it by a
+# conflict, it has no lines: nothing of it is done.
 Cycle = tuple[int, str, Layout, list[str]]
 
 
 def blocks_of(pieces: Iterable[str]) -> Iterator[list[str]]:
-    """The texts of the cycles of a trace, as many at once as are there, without the word `cycle` and the end of the last
-    line. What is no cycle is one of them as well."""
+    """The texts of the cycles of a trace, as many at once as are there, without the word `cycle` and the end of the
+    last line. What is no cycle is one of them as well."""
     rest = "\n"
     for piece in pieces:
         first, *blocks = (rest + piece).split(BEGIN)
@@ -81,8 +84,8 @@ def blocks_of(pieces: Iterable[str]) -> Iterator[list[str]]:
 class Reader:
     """Reads the cycles of a trace from their texts. The layouts that were there are known by their microwords."""
 
-    def __init__(self):
-        self.layouts = {}
+    def __init__(self) -> None:
+        self.layouts: dict[str, list[Layout]] = {}
 
     def cycles(self, blocks: list[str]) -> Iterator[Cycle]:
         known = self.layouts

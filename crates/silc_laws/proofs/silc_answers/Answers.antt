@@ -1,5 +1,5 @@
 use Rattle.silc_laws.proofs.Laws.{answer_law, schedule_law, list_law, demo_law, sim_law, eval_law, run_law}
-use Rattle.silc_laws.proofs.Laws.{stages_law, pipe_law}
+use Rattle.silc_laws.proofs.Laws.{stages_law, pipe_law, frame_law, frame_compile_law, net_law}
 use Rattle.silc_laws.proofs.silc_answers.Goals as goal
 
 pub returns-clause-answer : goal.returns-clause-answer
@@ -48,4 +48,19 @@ returns-clause-stages_answer g c =
 pub returns-clause-pipe_answer : goal.returns-clause-pipe_answer
 returns-clause-pipe_answer g c =
     pipe_law c.args.words.now (g.D.Desk.view c.args.desk.now) (g.D.Desk.view c.silc.new.desk) c.silc.new.kept
+    c.silc.result c.silc.ensures.ending
+
+pub returns-clause-frame_answer : goal.returns-clause-frame_answer
+returns-clause-frame_answer g c =
+    frame_law c.args.words.now (g.D.Desk.view c.args.desk.now) (g.D.Desk.view c.silc.new.desk) c.silc.new.kept
+    c.silc.result c.silc.ensures.ending
+
+pub returns-clause-frame_compiles : goal.returns-clause-frame_compiles
+returns-clause-frame_compiles g c =
+    frame_compile_law c.args.words.now (g.D.Desk.view c.args.desk.now) (g.D.Desk.view c.silc.new.desk) c.silc.new.kept
+    c.silc.result c.silc.ensures.ending
+
+pub returns-clause-net_answer : goal.returns-clause-net_answer
+returns-clause-net_answer g c =
+    net_law c.args.words.now (g.D.Desk.view c.args.desk.now) (g.D.Desk.view c.silc.new.desk) c.silc.new.kept
     c.silc.result c.silc.ensures.ending

@@ -1,5 +1,5 @@
 use Rattle.silc_laws.proofs.Laws.{printed_law, listed_law, demonstrated_law, simulated_law, one_solution_law}
-use Rattle.silc_laws.proofs.Laws.{equals_eval_law, staged_law, piped_law, closed_law}
+use Rattle.silc_laws.proofs.Laws.{equals_eval_law, staged_law, piped_law, framed_law, joined_law, closed_law}
 use Rattle.silc_laws.proofs.silc_done.Goals as goal
 
 pub returns-clause-printed : goal.returns-clause-printed
@@ -48,4 +48,14 @@ returns-clause-staged g c =
 pub returns-clause-piped : goal.returns-clause-piped
 returns-clause-piped g c =
     piped_law c.args.words.now (g.D.Desk.view c.args.desk.now) (g.D.Desk.view c.silc.new.desk) c.silc.new.kept
+    c.silc.result c.silc.ensures.ending
+
+pub returns-clause-framed : goal.returns-clause-framed
+returns-clause-framed g c =
+    framed_law c.args.words.now (g.D.Desk.view c.args.desk.now) (g.D.Desk.view c.silc.new.desk) c.silc.new.kept
+    c.silc.result c.silc.ensures.ending
+
+pub returns-clause-joined : goal.returns-clause-joined
+returns-clause-joined g c =
+    joined_law c.args.words.now (g.D.Desk.view c.args.desk.now) (g.D.Desk.view c.silc.new.desk) c.silc.new.kept
     c.silc.result c.silc.ensures.ending

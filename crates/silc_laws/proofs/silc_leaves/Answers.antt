@@ -1,4 +1,4 @@
-use Rattle.command_words.specs.Command.{compile, schedule, list, eval, stages}
+use Rattle.command_words.specs.Command.{compile, schedule, list, eval, stages, frame}
 use Rattle.silc_laws.proofs.Laws.{only_law, prints_law, demo_only_law}
 use Rattle.silc_laws.proofs.silc_leaves.Goals as goal
 
@@ -38,3 +38,8 @@ returns-clause-words g c = (c.silc.ensures.words, c.silc.ensures.command)
 pub returns-clause-stages_keeps_nothing : goal.returns-clause-stages_keeps_nothing
 returns-clause-stages_keeps_nothing g c =
     λ src datapath count form. (c.silc.ensures.ending (stages src datapath count) form).2
+
+pub returns-clause-frame_keeps_nothing : goal.returns-clause-frame_keeps_nothing
+returns-clause-frame_keeps_nothing g c =
+    λ src datapath phases down up out form.
+    (c.silc.ensures.ending (frame src datapath phases down up out) form).2

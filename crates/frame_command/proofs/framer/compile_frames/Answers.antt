@@ -4,7 +4,7 @@ use Rattle.silc_files.specs.Limits.{text_limit}
 use Rattle.silc_files.proofs.Endings.{not_written}
 use Rattle.statuses.specs.declared.status.Ending.{Ending}
 use Rattle.frame_command.specs.Frame.{AreFramed}
-use Rattle.frame_command.specs.FrameGraphs.{rates}
+use Rattle.rate_unfold.specs.Frames.{rates}
 use Rattle.frame_command.specs.FramePlans.{IsFrameError}
 use Rattle.frame_command.proofs.Framed.{frame_error}
 use Rattle.plan_commands.proofs.Making.{cut_short}

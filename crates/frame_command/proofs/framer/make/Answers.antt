@@ -1,4 +1,4 @@
-use Rattle.frame_command.specs.FrameGraphs.{rates}
+use Rattle.rate_unfold.specs.Frames.{rates}
 use Rattle.frame_command.proofs.Framed.{is_planned, made}
 use Rattle.frame_command.proofs.framer.make.Goals as goal
 

@@ -1,5 +1,5 @@
 use Rattle.signal_graph.specs.Flat.{view}
-use Rattle.frame_command.specs.FrameGraphs.{rates}
+use Rattle.rate_unfold.specs.Frames.{rates}
 use Rattle.frame_command.proofs.FrameGraphs.{keeps_frame_rows}
 use Rattle.frame_command.proofs.planning.frame_graph.Goals as goal
 

@@ -1,5 +1,5 @@
 use Rattle.std.proofs.Common.{sym, ap, ◌∙◌, subst}
-use Rattle.frame_command.specs.FrameGraphs.{rates}
+use Rattle.rate_unfold.specs.Frames.{rates}
 use Rattle.frame_command.specs.Planning.{IsNoFrameSource}
 use Rattle.frame_command.proofs.Framing.{frame_source, frame_fault}
 use Rattle.signal_graph.specs.Flat as flat

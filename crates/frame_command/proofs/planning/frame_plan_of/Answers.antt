@@ -1,7 +1,7 @@
 use Rattle.std.proofs.Common.{None}
 use Rattle.lists.proofs.Results.{if_err}
 use Rattle.silc_files.proofs.Results.{at_error}
-use Rattle.frame_command.specs.FrameGraphs.{rates}
+use Rattle.rate_unfold.specs.Frames.{rates}
 use Rattle.frame_command.specs.Planning.{IsNoInputFramePlan}
 use Rattle.frame_command.proofs.Framing.{no_path, no_plan, input_plan}
 use Rattle.statuses.specs.declared.status.Ending.{Ending}

@@ -3,7 +3,7 @@ use Rattle.lists.proofs.Results.{if_err}
 use Rattle.silc_files.proofs.Results.{if_ok, at_error}
 use Rattle.plan_commands.proofs.Errors.{not_read, not_planned}
 use Rattle.plan_commands.specs.declared.planning.Planned.{Planned}
-use Rattle.frame_command.specs.FrameGraphs.{rates}
+use Rattle.rate_unfold.specs.Frames.{rates}
 use Rattle.frame_command.specs.FramePlans.{IsFrameRefusal, IsFrameRefused, IsFrameError}
 use Rattle.frame_command.proofs.Framing.{read_plan}
 use Rattle.statuses.specs.declared.status.Ending.{Ending}

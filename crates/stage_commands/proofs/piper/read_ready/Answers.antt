@@ -2,12 +2,12 @@ use Rattle.std.proofs.Common.{ap, inl, ◌∙◌}
 use Rattle.std.proofs.lemmas.Result.{err_from_is_err_and}
 use Rattle.statuses.specs.declared.status.Ending.{Ending}
 use Rattle.stage_commands.proofs.Piping.{guarded_machine}
-use Rattle.stage_commands.proofs.Staging.{has_image}
+use Rattle.stage_commands.proofs.Staging.{is_planned}
 use Rattle.stage_commands.proofs.piper.read_ready.Goals as goal
 
 pub ready_for-requires-clause-plan : goal.ready_for-requires-clause-plan
 ready_for-requires-clause-plan g c =
-    has_image c.args.stages c.requires c.args.source.now c.args.datapath.now (g.D.Desk.view c.args.desk.now)
+    is_planned c.args.stages c.requires c.args.source.now c.args.datapath.now (g.D.Desk.view c.args.desk.now)
     (g.D.Desk.view c.read_stage_plan.new.desk) c.in_ok-planned.planned c.in_ok-planned.ensures.ok
 
 pub returns-clause-machine : goal.returns-clause-machine

@@ -1,12 +1,12 @@
 use Rattle.std.proofs.Common.{ap, inl, ◌∙◌}
 use Rattle.std.proofs.lemmas.Result.{err_from_is_err_and}
 use Rattle.statuses.specs.declared.status.Ending.{Ending}
-use Rattle.stage_commands.proofs.Staging.{has_text, made_text}
+use Rattle.stage_commands.proofs.Staging.{is_planned, made_text}
 use Rattle.stage_commands.proofs.printer.make.Goals as goal
 
 pub text_of-requires-clause-plan : goal.text_of-requires-clause-plan
 text_of-requires-clause-plan g c =
-    has_text c.args.stages c.requires c.args.source.now c.args.datapath.now (g.D.Desk.view c.args.desk.now)
+    is_planned c.args.stages c.requires c.args.source.now c.args.datapath.now (g.D.Desk.view c.args.desk.now)
     (g.D.Desk.view c.read_stage_plan.new.desk) c.in_ok-planned.planned c.in_ok-planned.ensures.ok
 
 pub returns-clause-ok : goal.returns-clause-ok

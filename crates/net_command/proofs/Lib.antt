@@ -1,0 +1,15 @@
+pub mod TypeRanges
+pub mod Places
+pub mod Fitting
+pub mod FaultKinds
+pub mod NetReading
+pub mod Rows
+pub mod PortTypes
+pub mod Preparing
+pub mod FilesRead
+pub mod Joining
+pub mod NetFiles
+pub mod NetRuns
+pub mod NetEnds
+pub mod OneRefusal
+pub mod NetAnswers

@@ -1,0 +1,3 @@
+pub mod Prepared
+pub mod Reading
+pub mod Running

@@ -1,0 +1,4 @@
+pub mod Steps
+pub mod Answers
+pub mod Widths
+pub mod Joined

@@ -1,0 +1,124 @@
+#!/usr/bin/env python3
+"""Whether tools/board makes tops that play: rows that go through the lines of each board, as master and as slave, with
+words of 16, 24 and 32 bits, come back as `silc sim` puts them; and what it refuses. With Yosys and nextpnr also,
+whether tools/synthesize says what is too slow and what does not fit.
+
+usage: tests/hardware/check_boards.py
+
+It runs the built `silc`, or the one that `SILC` names. Without Icarus it is skipped, and ends with 77.
+"""
+import os
+import random
+import shutil
+import subprocess
+import sys
+import tempfile
+from collections.abc import Iterator
+from pathlib import Path
+
+ROOT = Path(__file__).resolve().parent.parent.parent
+SILC = Path(os.environ.get("SILC", ROOT / "crates" / "silc_main" / "out" / "silc_main")).resolve()
+SKIPPED, ROWS = 77, 20
+EQUALISER = ("equaliser", "one_multiplier")
+# A microcode of two words of each, left and right exchanged, and one of four words.
+SWAP = "func main(a : fix<16,15>, b : fix<16,15>) (c : fix<16,15>, d : fix<16,15>) = begin c = b; d = a >> 1; end;"
+MANY = "func main(x[4] : fix<16,15>) y : fix<16,15> = begin y = x[0] + x[3]; end;"
+TRUTH = "func main(x : bool) y : bool = begin y = !x; end;"
+# Of each play the board, the core, its options, and what it says behind the rows.
+PLAYS = (
+    ("icebreaker", "equaliser", "--bits 32", "the core has 232 clocks to spare in each frame"),
+    ("icebreaker", "swap", "", "clocks to spare in each frame"),
+    ("hx8k", "swap", "--slave --rate 48000 --bits 24", "clocks to spare in each frame"),
+    ("hx8k", "equaliser", "--slave --rate 44100 --bits 16", "clocks to spare in each frame"),
+)
+REFUSED = (
+    ("hx8k equaliser --rate 48000",
+     "as a master an hx8k has 46,875 samples a second, 256 clocks each, and not 48,000; "
+     "as a slave it takes the codec's"),
+    ("hx8k equaliser --slave --rate 96000",
+     "as a slave an hx8k reads up to 57,692 samples a second, with 64 bits a frame"),
+    ("hx8k equaliser --slave --rate 1000000",
+     "1,000,000 samples a second leave 12.0 clocks of 12 MHz for each, and the core takes 24"),
+    ("icebreaker many",
+     "a row of the core has 4 words in and 1 out; a board takes two of each, left and right, "
+     "or one of each, for a core for each channel"),
+    ("icebreaker truth", "an input of the core is a truth value, and no word of audio"),
+    ("icebreaker equaliser --output 20", "--output 20: an output of the core has 32 bits"),
+    ("icebreaker equaliser --name board", "the core would be called board, as the top is; --name gives another"),
+)
+
+
+def ran(*words: str | Path, room: Path) -> "subprocess.CompletedProcess[str]":
+    return subprocess.run(words, cwd=room, stdin=subprocess.DEVNULL, capture_output=True, text=True,
+                          env=os.environ | {"SILC": str(SILC), "XDG_STATE_HOME": str(room)})
+
+
+def compile_all(room: Path) -> None:
+    """The microcode of the equaliser, and of the small ones over that of another example."""
+    example = ROOT / "examples" / EQUALISER[0]
+    named = {EQUALISER[0]: (example / f"{EQUALISER[0]}.sil", example / f"{EQUALISER[1]}.toml")}
+    for name, text in (("swap", SWAP), ("many", MANY), ("truth", TRUTH)):
+        (room / f"{name}.sil").write_text(text)
+        named[name] = room / f"{name}.sil", ROOT / "examples" / "goertzel" / "one_multiplier.toml"
+    for name, (source, datapath) in named.items():
+        done = ran(SILC, "compile", source, datapath, f"{name}.mic", room=room)
+        if done.returncode:
+            raise ValueError(f"{name}: {done.stderr.strip()}")
+
+
+def board(name: str, core: str, options: str, room: Path, out: str) -> "subprocess.CompletedProcess[str]":
+    return ran(ROOT / "tools" / "board", name, f"{core}.mic", out, *options.split(), room=room)
+
+
+def play_faults(room: Path) -> Iterator[str]:
+    dice = random.Random(3)
+    (room / "rows").write_text("".join(f"{dice.randint(-32768, 32767)},{dice.randint(-32768, 32767)}\n"
+                                       for _ in range(ROWS)))
+    for number, (name, core, options, said) in enumerate(PLAYS):
+        done = board(name, core, f"{options} --samples rows", room, f"play{number}")
+        if (done.returncode or f"{ROWS} rows came back as silc sim puts them" not in done.stdout
+                or said not in done.stdout):
+            yield f"{name} {core} {options}: {done.stdout}{done.stderr}"
+
+
+def refusal_faults(room: Path) -> Iterator[str]:
+    for words, said in REFUSED:
+        name, core, *options = words.split()
+        done = board(name, core, " ".join(options), room, "refused")
+        if done.returncode != 1 or done.stderr != f"board: {said}\n" or (room / "refused").exists():
+            yield f"{words}: it ended with {done.returncode}: {done.stderr}"
+    top = room / "play0" / "board.v"
+    top.write_text("mine\n")
+    done = board("icebreaker", "equaliser", "", room, "play0")
+    if done.returncode != 1 or top.read_text() != "mine\n":
+        yield f"a file of the user's: {done.stderr}"
+
+
+def route_faults(room: Path) -> Iterator[str]:
+    """A rate that a small core serves, one that it does not, and a part that has no multipliers."""
+    for options, status, said in (("--part hx8k --route --rate 48000", 0, "48,000 samples a second take"),
+                                  ("--part hx8k --route --rate 100000000", 3, "the longest path goes through"),
+                                  ("--part hx8k --dsp", 1, "synthesize: --dsp: an hx8k has no multipliers")):
+        done = ran(ROOT / "tools" / "synthesize", "swap.mic", *options.split(), room=room)
+        if done.returncode != status or said not in done.stdout + done.stderr:
+            yield f"synthesize {options}: it ended with {done.returncode}: {done.stdout}{done.stderr}"
+
+
+def main() -> int:
+    if not shutil.which("iverilog"):
+        print("boards: skipped: there is no iverilog; apt-get install iverilog")
+        return SKIPPED
+    with tempfile.TemporaryDirectory(prefix="silc-boards-") as folder:
+        room = Path(folder)
+        compile_all(room)
+        faults = [*play_faults(room), *refusal_faults(room)]
+        if all(map(shutil.which, ("yosys", "nextpnr-ice40"))):
+            faults += route_faults(room)
+    for fault in faults:
+        print(fault)
+    print(f"boards: {len(PLAYS)} plays and {len(REFUSED) + 1} refusals, {len(faults)} faults")
+    return 1 if faults else 0
+
+
+if __name__ == "__main__":
+    sys.exit(main())

@@ -1,0 +1,86 @@
+#!/usr/bin/env python3
+"""Whether `tools/trusted` reaches the definitions of a small tree of crates that tree.toml says each clause does.
+
+usage: tests/trusted/check_trusted.py
+
+The tools are copied into a new folder beside that tree, since they count the crates that they stand with.
+"""
+import shutil
+import sys
+import tempfile
+import tomllib
+from pathlib import Path
+from typing import Iterator
+
+HERE = Path(__file__).resolve().parent
+TOOLS = HERE.parent.parent / "tools"
+CRATE = "small_words"
+
+
+def said(reached: dict) -> dict[str, list[str]]:
+    """What was reached, as tree.toml says it: by the names of the files, in their order."""
+    found: dict[str, list] = {}
+    for definition in reached:
+        found.setdefault(definition.module.file.stem, []).append(definition)
+    return {file: [one.names[0] for one in sorted(own, key=lambda one: min(one.lines()))]
+            for file, own in found.items()}
+
+
+def differences(what: str, found: object, expected: object) -> Iterator[str]:
+    if found != expected:
+        yield f"{what}: {found!r} instead of {expected!r}"
+
+
+def faults(tree: dict) -> Iterator[str]:
+    from antt.reach import Reached, Specs, clauses_of
+    from antt.trusted import by_module, counts_of, shown
+
+    specs = Specs()
+    clauses = clauses_of(specs, CRATE, "promise")
+    yield from differences("the clauses", [one.name for one in clauses], [one["name"] for one in tree["clause"]])
+    for clause, expected in zip(clauses, tree["clause"]):
+        reached = Reached()
+        specs.reach(clause.paths, reached)
+        name = clause.name
+        yield from differences(f"what {name} reaches", said(reached.definitions), expected.get("reaches", {}))
+        yield from differences(f"the types of {name}", sorted(f"{one.crate}::{one.name}" for one in reached.types),
+                               expected.get("types", []))
+        yield from differences(f"the lines of {name}", next(counts_of(specs, [clause])).alone, expected["lines"])
+        for own in by_module(reached).values():
+            if text := expected.get("shows", {}).get(own[0].module.file.stem):
+                yield from differences(f"the text of {name}", shown(own), text.strip("\n"))
+    for case in tree["without"]:
+        yield from left_out(case)
+
+
+def left_out(case: dict) -> Iterator[str]:
+    """What a clause reaches where some names are left out."""
+    from antt.reach import Reached, Specs, clauses_of
+
+    specs = Specs(case["names"])
+    clause = next(one for one in clauses_of(specs, CRATE, "promise") if one.name == case["clause"])
+    reached = Reached()
+    specs.reach(clause.paths, reached)
+    yield from differences(f"{clause.name} without {', '.join(case['names'])}", said(reached.definitions),
+                           case["reaches"])
+    yield from differences(f"which of {case['names']} were met", specs.met, set(case["names"]))
+
+
+def main() -> int:
+    tree = tomllib.loads((HERE / "tree.toml").read_text())
+    with tempfile.TemporaryDirectory() as folder:
+        for name, text in tree["files"].items():
+            path = Path(folder, name)
+            path.parent.mkdir(parents=True, exist_ok=True)
+            path.write_text(text)
+        shutil.copytree(TOOLS / "antt", Path(folder, "tools", "antt"), ignore=shutil.ignore_patterns("__pycache__"))
+        sys.path.insert(0, str(Path(folder, "tools")))
+        found = list(faults(tree))
+    for fault in found:
+        print(f"trusted: {fault}")
+    print(f"trusted: {len(tree['clause'])} clauses, {len(found)} faults")
+    return 1 if found else 0
+
+
+if __name__ == "__main__":
+    sys.exit(main())
