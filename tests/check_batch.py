@@ -56,9 +56,11 @@ class Room:
             (folder / name).write_text(text)
 
     def variables(self, **more: str) -> dict[str, str]:
-        return os.environ | {"SILC": str(self.top / "silc"), "LOG": str(self.top / "log"),
-                             "FAR_HOME": str(self.top / "far"),
-                             "PARALLEL_SSH": str(self.top / "ssh"), "XDG_STATE_HOME": str(self.top / "states")} | more
+        """Without the user's own shell, since a machine that runs tests by itself may tell none."""
+        kept = {name: value for name, value in os.environ.items() if name != "SHELL"}
+        return kept | {"SILC": str(self.top / "silc"), "LOG": str(self.top / "log"),
+                       "FAR_HOME": str(self.top / "far"), "PARALLEL_SSH": str(self.top / "ssh"),
+                       "XDG_STATE_HOME": str(self.top / "states")} | more
 
     def run(self, *words: str, within: str = "", **more: str) -> tuple[int, str]:
         """The exit status, and what is said on standard error."""
@@ -167,6 +169,9 @@ def far(room: Room) -> Iterator[Fact]:
     for place, machines in enumerate(("one,2/two", ":,one")):
         yield machines, room.run("p.sil", "samples", f"out{place}", "--sshlogin", machines)[0], 0
         yield f"the rows of {machines}", room.rows(f"out{place}"), ROWS
+    words = ("p.sil", "samples", "by_another_shell", "--sshlogin", "one")
+    yield "another shell", room.run(*words, SHELL="/bin/csh")[0], 0
+    yield "its rows", room.rows("by_another_shell"), ROWS
     yield "nothing is left", list((room.top / "far").iterdir()), []
 
 

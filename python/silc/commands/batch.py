@@ -42,6 +42,8 @@ from silc.programs import SILC, NoProgram
 
 RECORD, HEAD = ".batch", "silc batch 1"
 SECONDS_BETWEEN, SECONDS_TO_STOP, NO_WORDS = 5, 0.2, 2
+# What GNU parallel runs is written for this shell, whatever the user's own is, and where the variable SHELL is missing.
+SHELL = {"PARALLEL_SHELL": "/bin/sh"}
 JOBS = re.compile(r"[1-9][0-9]{0,3}%?")
 # A line of the record: the sum of what rows were made of, that of the rows, and their name.
 LINE = re.compile(r'([0-9a-f]{64}) ([0-9a-f]{64}) (".*")')
@@ -224,7 +226,7 @@ def ends_of(words: list[str], room: Room, count: int) -> Iterator[tuple[int, int
         numbers.write("".join(f"{number}\n" for number in range(count)))
         numbers.seek(0)
         with subprocess.Popen(words, cwd=room.folder, stdin=numbers, stdout=subprocess.PIPE, stderr=faults,
-                              text=True) as run:
+                              text=True, env=os.environ | SHELL) as run:
             assert run.stdout
             try:
                 for line in run.stdout:
