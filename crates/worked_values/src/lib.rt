@@ -1,0 +1,52 @@
+//! What the definitions of the specification say of values that were worked out by hand. Each clause holds whatever the
+//! code is: the prover computes it from the definitions alone. `docs/TRUSTED.md` shows it beside its definition.
+#![tactic(auto)]
+
+ghost use Rattle.std.specs.Prelude.{ℤ};
+ghost use Rattle.worked_values.specs.Conflicts.{UnitsAreBusy, DriversMeet, WritesMeet, BusesAreBare, ResultsAreMissing};
+ghost use Rattle.worked_values.specs.Conflicts.{AddressesAreOutside};
+ghost use Rattle.worked_values.specs.Runs.{SixCyclesWrite, AddressesGoRound, LoadsTakeTwoCycles, WritesComeAtTheEnd};
+ghost use Rattle.worked_values.specs.Runs.{ThreeSamplesRun};
+ghost use Rattle.worked_values.specs.Values.{LeavesHaveValues, SumsAndProductsHaveValues, ShiftsHaveValues};
+ghost use Rattle.worked_values.specs.Values.{CastsHaveValues, ComparisonsHaveValues, TruthsHaveValues, ChoicesHaveValues};
+ghost use Rattle.worked_values.specs.Values.{OthersHaveNoValue};
+ghost use Rattle.worked_values.specs.Words.{RoundEachWay, OverflowEachWay, ShiftToTheLeft, NumbersHaveWords};
+
+/// How numbers are brought to words.
+pub fn words()
+    ensures rounded { RoundEachWay }
+    ensures overflown { OverflowEachWay }
+    ensures shifted { ShiftToTheLeft }
+    ensures literals { NumbersHaveWords }
+{}
+
+/// The values of expressions.
+pub fn values()
+    ensures leaves { LeavesHaveValues }
+    ensures sums { SumsAndProductsHaveValues }
+    ensures shifts { ShiftsHaveValues }
+    ensures casts { CastsHaveValues }
+    ensures comparisons { ComparisonsHaveValues }
+    ensures truths { TruthsHaveValues }
+    ensures choices { ChoicesHaveValues }
+    ensures others { (v : ℤ) → OthersHaveNoValue v }
+{}
+
+/// A run of the machine.
+pub fn runs()
+    ensures written { SixCyclesWrite }
+    ensures addresses { AddressesGoRound }
+    ensures loads { LoadsTakeTwoCycles }
+    ensures cells { WritesComeAtTheEnd }
+    ensures rows { ThreeSamplesRun }
+{}
+
+/// The conflicts of a cycle.
+pub fn conflicts()
+    ensures busy { UnitsAreBusy }
+    ensures drivers { DriversMeet }
+    ensures writes { WritesMeet }
+    ensures bare { BusesAreBare }
+    ensures results { ResultsAreMissing }
+    ensures addresses { AddressesAreOutside }
+{}
