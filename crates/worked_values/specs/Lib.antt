@@ -1,6 +1,11 @@
-pub mod Words
+pub mod Tokens
 pub mod Trees
+pub mod Programs
+pub mod Words
 pub mod Values
+pub mod Solutions
 pub mod Machine
+pub mod Files
 pub mod Runs
 pub mod Conflicts
+pub mod Paths

@@ -5,12 +5,33 @@
 ghost use Rattle.std.specs.Prelude.{ℤ};
 ghost use Rattle.worked_values.specs.Conflicts.{UnitsAreBusy, DriversMeet, WritesMeet, BusesAreBare, ResultsAreMissing};
 ghost use Rattle.worked_values.specs.Conflicts.{AddressesAreOutside};
+ghost use Rattle.worked_values.specs.Files.{BytesSpellTheImage, BitsSpellTheImage, OthersDoNotSpellTheImage};
+ghost use Rattle.worked_values.specs.Files.{OnlyTheImageIsSpelled};
+ghost use Rattle.datapath.specs.declared.types.Datapath.{Datapath};
+ghost use Rattle.worked_values.specs.Paths.{FileDescribesThePath, OthersAreNotDescribed};
+ghost use Rattle.worked_values.specs.Programs.{TokensAreTheProgram, KindsHaveWeights};
 ghost use Rattle.worked_values.specs.Runs.{SixCyclesWrite, AddressesGoRound, LoadsTakeTwoCycles, WritesComeAtTheEnd};
 ghost use Rattle.worked_values.specs.Runs.{ThreeSamplesRun};
+ghost use Rattle.worked_values.specs.Solutions.{RowsAreWords, SumsAreTheSolution, SumsComeOut};
+ghost use Rattle.worked_values.specs.Tokens.{TextHasTokens, TextsHaveOtherTokens};
 ghost use Rattle.worked_values.specs.Values.{LeavesHaveValues, SumsAndProductsHaveValues, ShiftsHaveValues};
 ghost use Rattle.worked_values.specs.Values.{CastsHaveValues, ComparisonsHaveValues, TruthsHaveValues, ChoicesHaveValues};
 ghost use Rattle.worked_values.specs.Values.{OthersHaveNoValue};
 ghost use Rattle.worked_values.specs.Words.{RoundEachWay, OverflowEachWay, ShiftToTheLeft, NumbersHaveWords};
+
+/// The tokens of a text.
+pub fn tokens()
+    ensures each { TextHasTokens }
+    ensures others { TextsHaveOtherTokens }
+{
+}
+
+/// The program of tokens.
+pub fn programs()
+    ensures program { TokensAreTheProgram }
+    ensures weights { KindsHaveWeights }
+{
+}
 
 /// How numbers are brought to words.
 pub fn words()
@@ -32,6 +53,14 @@ pub fn values()
     ensures others { (v : ℤ) → OthersHaveNoValue v }
 {}
 
+/// The solution of a program.
+pub fn solutions()
+    ensures streams { RowsAreWords }
+    ensures solution { SumsAreTheSolution }
+    ensures rows { SumsComeOut }
+{
+}
+
 /// A run of the machine.
 pub fn runs()
     ensures written { SixCyclesWrite }
@@ -50,3 +79,19 @@ pub fn conflicts()
     ensures results { ResultsAreMissing }
     ensures addresses { AddressesAreOutside }
 {}
+
+/// The files of an image.
+pub fn files()
+    ensures in_bytes { BytesSpellTheImage }
+    ensures in_bits { BitsSpellTheImage }
+    ensures others { OthersDoNotSpellTheImage }
+    ensures unique { OnlyTheImageIsSpelled }
+{
+}
+
+/// The datapath of a file.
+pub fn paths()
+    ensures path { FileDescribesThePath }
+    ensures others { (d : Datapath) → OthersAreNotDescribed d }
+{
+}
