@@ -1,13 +1,13 @@
 -- Tokens of a text by tests that compute.
-use Rattle.std.proofs.Common.{◌≡◌, ◌<◌, ◌≤◌, ◌+◌, ◌-◌, ◌&&◌, refl, sym, subst, ap, ◌∙◌, arith, ℕ, zero, suc, Bool, true}
-use Rattle.std.proofs.Common.{false, not, true≢false, inl, inr, ◌++◌, List, [], ◌∷◌, length, Some}
+use Rattle.std.proofs.Common.{◌≡◌, ◌<◌, ◌≤◌, ◌+◌, ◌-◌, ◌&&◌, refl, sym, subst, ◌∙◌, arith, ℕ, zero, suc, Bool, true}
+use Rattle.std.proofs.Common.{false, not, true≢false, inl, inr, ◌++◌, List, [], length, Some}
 use Rattle.std.specs.Prelude.{slice_get, slice_index, slice_index_or, slice_range, Contains, bytes_eq}
 use Rattle.std.specs.List.{list_all}
 use Rattle.std.proofs.lemmas.Bool.{and_parts, cases_lt}
 use Rattle.std.proofs.lemmas.List.{get_or_default}
 use Rattle.std.proofs.lemmas.List.Sums.{AllPass-from_list_all}
 use Rattle.silage_lex.specs.Bytes.{is_digit, is_letter, is_name_byte, begins_fraction, closes_comment}
-use Rattle.silage_lex.specs.Scan.{stands_at, NoneBefore, IsDigitSpan}
+use Rattle.silage_lex.specs.Scan.{stands_at, IsDigitSpan}
 use Rattle.silage_lex.specs.Texts.{reserved_words, symbols, is_digits, digit_count, decimal}
 use Rattle.silage_lex.specs.Tokens.{IsSpan, NoCloseBetween}
 use Rattle.silage_lex.specs.declared.TokenKind.TheVariants.{Name, Whole, Point, Reserved, Symbol}

@@ -35,7 +35,7 @@ module _ (ts : List Token) where
   run (suc steps) (Act a ∷ ss) i c vs = run steps ss i c (made a vs)
 
   both_hold : (a b : Bool) (r : Option (List Value)) (ws : List Value)
-      → elim a [ | true ↦ elim b [ | true ↦ r | false ↦ None ] | false ↦ None ] ≡ Some ws
+      → elim a [ true ↦ elim b [ true ↦ r | false ↦ None ] | false ↦ None ] ≡ Some ws
       → (a ≡ true) × (b ≡ true) × (r ≡ Some ws)
   both_hold true true r ws e = (refl, refl, e)
   both_hold true false r ws e = absurd (cc)

@@ -12,9 +12,6 @@ use Rattle.operations.specs.declared.units.Kind.TheVariants as kind
 use Rattle.micro_image.specs.Valid.{IsValid, IsUnit, IsFile, IsWordOf, IsIssue, IsEnable, IsTake, AreRegisters}
 use Rattle.micro_image.specs.Valid.{EnableBefore, TakeBefore}
 use Rattle.micro_image.specs.declared.image.Word.{Word}
-use Rattle.micro_image.specs.declared.image.Enable.{Enable}
-use Rattle.micro_image.specs.declared.image.Issue.{Issue}
-use Rattle.micro_image.specs.declared.image.Take.{Take}
 use Rattle.micro_image.proofs.Each.{Each, none, more, All-from_Each}
 use Rattle.worked_values.specs.Machine.{echo, simple, memory, addresses, drive}
 

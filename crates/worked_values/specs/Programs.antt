@@ -1,5 +1,5 @@
 -- Tokens and the program that they are. Token k begins at byte k, so that a position is the number of a token.
-use Rattle.std.specs.Prelude.{◌≡◌, ℕ, ◌+◌, codes, Bool, true, false, List, [], ◌∷◌, Some, None, map, replicate}
+use Rattle.std.specs.Prelude.{◌≡◌, ℕ, ◌+◌, codes, true, false, List, [], ◌∷◌, Some, None, map, replicate}
 use Rattle.fix_word.specs.declared.types.Mode.TheVariants.{Trunc, Round, Sat, RoundSat}
 use Rattle.fix_word.specs.declared.types.SigType.{SigType}
 use Rattle.fix_word.specs.declared.types.SigType.TheVariants as sig
@@ -20,7 +20,7 @@ use Rattle.silage_syntax.specs.declared.tree.MOp.TheVariants as mop
 use Rattle.silage_syntax.specs.Grammar.{weighs}
 use Rattle.silage_syntax.specs.Tree.{Manifest, whole, counter, minus, both, Place, Expr, literal, read, negate, not, binary}
 use Rattle.silage_syntax.specs.Tree.{shift, cast, choose, no_branch, branch, Item, equation, call, loop, initial, items_of}
-use Rattle.silage_syntax.specs.Tree.{Func, Top, table, function, Program}
+use Rattle.silage_syntax.specs.Tree.{Func, Top, table, function}
 use Rattle.silage_parse.specs.Answers.{IsOnly}
 use Rattle.worked_values.specs.Trees.{fix_type}
 

@@ -1,5 +1,5 @@
 -- A program with a delay, its valid rows, and the one solution over three of them.
-use Rattle.std.specs.Prelude.{◌≡◌, ℕ, zero, suc, false, ℤ, pos, negsuc, codes, List, [], ◌∷◌, slice_index_or}
+use Rattle.std.specs.Prelude.{◌≡◌, ℕ, zero, suc, false, ℤ, pos, negsuc, codes, [], ◌∷◌, slice_index_or}
 use Rattle.lists.specs.Rows.{Rows}
 use Rattle.fix_word.specs.declared.types.Mode.TheVariants.{Trunc}
 use Rattle.silage_syntax.specs.declared.tree.BinOp.TheVariants as op

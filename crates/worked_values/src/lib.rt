@@ -23,15 +23,13 @@ ghost use Rattle.worked_values.specs.Words.{RoundEachWay, OverflowEachWay, Shift
 pub fn tokens()
     ensures each { TextHasTokens }
     ensures others { TextsHaveOtherTokens }
-{
-}
+{}
 
 /// The program of tokens.
 pub fn programs()
     ensures program { TokensAreTheProgram }
     ensures weights { KindsHaveWeights }
-{
-}
+{}
 
 /// How numbers are brought to words.
 pub fn words()
@@ -58,8 +56,7 @@ pub fn solutions()
     ensures streams { RowsAreWords }
     ensures solution { SumsAreTheSolution }
     ensures rows { SumsComeOut }
-{
-}
+{}
 
 /// A run of the machine.
 pub fn runs()
@@ -86,12 +83,10 @@ pub fn files()
     ensures in_bits { BitsSpellTheImage }
     ensures others { OthersDoNotSpellTheImage }
     ensures unique { OnlyTheImageIsSpelled }
-{
-}
+{}
 
 /// The datapath of a file.
 pub fn paths()
     ensures path { FileDescribesThePath }
     ensures others { (d : Datapath) → OthersAreNotDescribed d }
-{
-}
+{}

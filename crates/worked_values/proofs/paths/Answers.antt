@@ -1,6 +1,12 @@
 -- The bytes are read by the definition of TOML, and each key by its row.
 use Rattle.std.proofs.Common.{◌≡◌, ◌≢◌, ◌<◌, refl, sym, subst, ap, arith, lit≤, ℕ, List, [], ◌∷◌, codes, Some, Ok, Result}
-use Rattle.std.specs.List.{All, AllPairs}
+use Rattle.std.proofs.Common.{ltb, true, false, true≢false, length, ◌∙◌}
+use Rattle.std.specs.Prelude.{slice_index, bytes_eq}
+use Rattle.std.specs.Str.{IsAscii}
+use Rattle.std.proofs.lemmas.Bool.Decides.{nat_tests}
+use Rattle.std.proofs.lemmas.List.Sums.{AllPass-from_list_all}
+use Rattle.std.proofs.lemmas.Str.{is_utf8-from_IsUtf8, IsUtf8-from_ascii}
+use Rattle.std.proofs.lemmas.Str.Ascii.{IsAscii-from_reads}
 use Rattle.std.proofs.lemmas.List.Kept.{AllPairs-cons}
 use Rattle.toml.proofs.OnLiterals.{toml_on_literals}
 use Rattle.operations.specs.declared.units.PortRef.{PortRef}
@@ -19,17 +25,28 @@ no_pairs i j d less within = absurd (omega (arith, less, within))
 apart : {A : Type 0} (x : A) {xs : List A} → Each (λ y. x ≢ y) xs → IsDistinct xs → IsDistinct (x ∷ xs)
 apart x {xs} differ rest = AllPairs-cons (λ a b. a ≢ b) x xs (All-from_Each (λ y. x ≢ y) differ) rest
 
+other : (s t : List ℕ) → bytes_eq s s ≡ true → bytes_eq t s ≡ false → s ≢ t
+other s t same differ e = true≢false (sym same ∙ ap (λ u. bytes_eq u s) e ∙ differ)
+
 some_once : {A : Type 0} {x y : A} → Some x ≡ Some y → x ≡ y
 some_once e = cc
 
 zero_is_not_one : ◌≡◌ {A = ℕ} 0 1 → ⊥
 zero_is_not_one e = omega (arith, e)
 
+small : (b : ℕ) → ltb b 128 ≡ true → b < 128
+small b e = grind (arith, nat_tests)
+
+ascii : IsAscii path_file
+ascii =
+    IsAscii-from_reads path_file (length path_file) (omega arith)
+    (λ k below. small (slice_index path_file k) (AllPass-from_list_all (λ b. ltb b 128) path_file refl k 0 below))
+
 pub returns-clause-path : goal.returns-clause-path
 unfolding toml_on_literals
 returns-clause-path _ = record {
   short = lit≤ tt;
-  text = refl;
+  text = is_utf8-from_IsUtf8 path_file (IsUtf8-from_ascii path_file ascii);
   table = _;
   toml = refl;
   path =
@@ -86,8 +103,8 @@ returns-clause-path _ = record {
           ),
         );
         unit_names =
-            apart (codes "x") (more (λ e. absurd (cc)) (more (λ e. absurd (cc)) none))
-            (apart (codes "a") (more (λ e. absurd (cc)) none) (apart (codes "m") none no_pairs));
+            apart (codes "x") (more (other _ _ refl refl) (more (other _ _ refl refl) none))
+            (apart (codes "a") (more (other _ _ refl refl) none) (apart (codes "m") none no_pairs));
         buses = (
           record {
             keys = refl;

@@ -1,6 +1,6 @@
 -- The program has the elements x and y of main alone, and each is defined in one way.
-use Rattle.std.proofs.Common.{◌≡◌, ◌≢◌, ◌<◌, ◌≤◌, ◌+◌, ◌⊎◌, refl, sym, ◌∙◌, ap, subst, arith, ℕ, zero, suc, inl, inr, codes}
-use Rattle.std.proofs.Common.{ℤ, pos, negsuc, ◌+ℤ◌, ◌-ℤ◌, List, [], ◌∷◌, Some, false}
+use Rattle.std.proofs.Common.{◌≡◌, ◌<◌, ◌≤◌, ◌+◌, ◌⊎◌, refl, sym, ◌∙◌, ap, subst, arith, ℕ, zero, suc, inl, inr, codes}
+use Rattle.std.proofs.Common.{ℤ, pos, negsuc, ◌+ℤ◌, ◌-ℤ◌, [], ◌∷◌, Some, false}
 use Rattle.std.specs.Prelude.{slice_get}
 use Rattle.std.proofs.lemmas.Int.{ints}
 use Rattle.fix_word.specs.Values.{wrap_of, fit_of}
@@ -17,14 +17,14 @@ use Rattle.silage_syntax.specs.Tree.{whole, Manifest, Place, Expr, Item, equatio
 use Rattle.silage_meaning.specs.Instances.{Instance, main, Step, Element, element, Site, IsInstance, main_is, inside_is}
 use Rattle.silage_meaning.specs.Instances.{Calls, Occurs, IsElement, IsItemAt, IsSignal, Call}
 use Rattle.silage_meaning.specs.Solves.{Source, word, value, IsDefined, input, equated, argument, array, table, result}
-use Rattle.silage_meaning.specs.Solves.{array_result, Gives, IsPreset, IsInitial, Solves, IsRow, AreSame, IsSample}
+use Rattle.silage_meaning.specs.Solves.{array_result, Gives, IsPreset, IsInitial, Solves, IsRow, AreSame}
 use Rattle.silage_meaning.specs.Types.{IsRawWord}
 use Rattle.silage_meaning.specs.Value.{Words, IsValue, IsFitted, signal}
 use Rattle.silage_meaning.proofs.Sources.{gives_once}
 use Rattle.silage_meaning.proofs.Unique.{initial_once}
 use Rattle.silage_meaning.proofs.Values.{value_once}
 use Rattle.worked_values.specs.Trees.{fix, fix_type, declaration, bare, decimal_number}
-use Rattle.worked_values.specs.Solutions.{sum, summing, summed, one_two_three, word_of, sums, SumsAreTheSolution}
+use Rattle.worked_values.specs.Solutions.{sum, summing, summed, one_two_three, sums}
 use Rattle.worked_values.proofs.solutions.Goals as goal
 
 some_once : {A : Type 0} {a b : A} → Some a ≡ Some b → a ≡ b
