@@ -249,13 +249,13 @@ def section(definitions: list[Definition], doubled: set[str]) -> str:
 
 
 def worked_text(values: list[Value], done: dict[Definition, None]) -> str:
-    """The statements of worked values, without what was shown before."""
+    """The statements of worked values behind what they are made of, without what was shown before."""
     new = Reached({one: None for value in values for one in value.statement() if one not in done})
     done.update(new.definitions)
     if not new.definitions:
         return ""
     names = ", ".join(f"`{value.name()}`" for value in values)
-    texts = "\n\n".join(shown(definitions) for definitions in by_module(new).values())
+    texts = "\n\n".join(shown(definitions) for definitions in reversed(by_module(new).values()))
     return f"Worked, and proved as {names}:\n\n```\n{texts}\n```\n\n"
 
 
@@ -310,6 +310,10 @@ they should is for the reader. `docs/PROOF.md` goes through the proof.
 | Part of the sentence | Lines |
 |---|---|
 {parts}| **in all** | **{lines:,}** |
+
+Below a file stand worked values of its definitions, under "Worked": what texts, numbers, expressions, programs, images \
+and runs come to, worked out by hand. Each is a clause of `crates/worked_values`, and holds whatever the code is: the \
+prover computes it from the definitions above it. They add nothing to what is promised, and do not count.
 
 A line that is blank, a comment or a `use` line does not count. Left out are the names of the proved standard library, \
 as `List`, `≡` and `slice_get`,{kit}: `rt lemma NAME` prints one. What the environment's calls do to files is said by \

@@ -1,6 +1,7 @@
 -- A cycle has no conflict where its word passes a test, in hardware whose units can have an issue in each cycle.
 use Rattle.std.proofs.Common.{◌≡◌, ◌<◌, ◌==◌, ◌&&◌, ◌+◌, refl, sym, subst, ◌∙◌, arith, ℕ, zero, suc, Bool, true, false}
-use Rattle.std.proofs.Common.{not, ◌||◌, cond, if◌then◌else◌, length, is_some, List, [], ◌∷◌, count_by, find, Some, Option, ℤ, pos, negsuc, nat_lt}
+use Rattle.std.proofs.Common.{not, ◌||◌, cond, if◌then◌else◌, length, is_some, List, [], ◌∷◌, count_by, find, Some}
+use Rattle.std.proofs.Common.{Option, ℤ, pos, negsuc, nat_lt}
 use Rattle.std.proofs.Common.{true≢false, inl, inr}
 use Rattle.std.specs.List.{list_all, list_any}
 use Rattle.std.proofs.lemmas.Bool.{and_parts, cases_lt}

@@ -158,6 +158,7 @@ pub no_close : (bytes : List ℕ) (from count : ℕ)
     → each count (λ k. not (closes_comment bytes (from + k))) ≡ true
     → NoCloseBetween bytes from (from + count)
 no_close bytes from count h at low high =
-    let passes = each_passes count (λ k. not (closes_comment bytes (from + k))) h (at - from) (omega (arith, low, high)) in
+    let passes =
+        each_passes count (λ k. not (closes_comment bytes (from + k))) h (at - from) (omega (arith, low, high)) in
     let same : from + (at - from) ≡ at = omega (arith, low) in
     is_false _ (subst (λ m. not (closes_comment bytes m) ≡ true) same passes)

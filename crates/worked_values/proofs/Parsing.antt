@@ -1,5 +1,6 @@
 -- A run of the LL(1) machine by a function that computes, from which tokens are a program and no other.
-use Rattle.std.proofs.Common.{◌≡◌, ◌+◌, ◌++◌, refl, subst, ℕ, zero, suc, Bool, true, false, List, [], ◌∷◌, Option, Some, None}
+use Rattle.std.proofs.Common.{◌≡◌, ◌+◌, ◌++◌, refl, subst, ℕ, zero, suc, Bool, true, false, List, [], ◌∷◌, Option, Some}
+use Rattle.std.proofs.Common.{None}
 use Rattle.std.specs.Prelude.{slice_get}
 use Rattle.silage_lex.specs.declared.Token.{Token}
 use Rattle.silage_syntax.specs.Grammar.{kind_at}

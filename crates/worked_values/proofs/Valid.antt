@@ -1,5 +1,6 @@
 -- The image of y = x@1 + 3 is one that a microcode file can hold.
-use Rattle.std.proofs.Common.{◌≡◌, ◌≢◌, ◌<◌, ◌≤◌, refl, arith, ℕ, zero, suc, List, [], ◌∷◌, length, map, ℤ, pos, inl, inr}
+use Rattle.std.proofs.Common.{◌≡◌, ◌≢◌, ◌<◌, ◌≤◌, refl, arith, ℕ, zero, suc, List, [], ◌∷◌, length, map, ℤ, pos, inl}
+use Rattle.std.proofs.Common.{inr}
 use Rattle.std.proofs.lemmas.Int.{ints}
 use Rattle.std.specs.Prelude.{slice_index_or}
 use Rattle.std.specs.List.{AllAdjacentBelow}

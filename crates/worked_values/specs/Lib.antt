@@ -4,6 +4,8 @@ pub mod Programs
 pub mod Words
 pub mod Values
 pub mod Solutions
+pub mod Definitions
+pub mod Operations
 pub mod Machine
 pub mod Files
 pub mod Runs

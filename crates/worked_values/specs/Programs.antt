@@ -6,20 +6,27 @@ use Rattle.fix_word.specs.declared.types.SigType.TheVariants as sig
 use Rattle.silage_lex.specs.declared.Token.{Token}
 use Rattle.silage_lex.specs.declared.TokenKind.{TokenKind}
 use Rattle.silage_lex.specs.declared.TokenKind.TheVariants as kind
-use Rattle.silage_lex.specs.declared.keywords.TheConstants.{FUNC, CONST, VAR, BEGIN, END, FIX, BOOL, TRUNC, ROUND, IF, FI}
+use Rattle.silage_lex.specs.declared.keywords.TheConstants.{FUNC, CONST, VAR, BEGIN, END, FIX, BOOL, TRUNC, ROUND, IF}
+use Rattle.silage_lex.specs.declared.keywords.TheConstants.{FI}
 use Rattle.silage_lex.specs.declared.keywords.TheConstants.{TRUE, FALSE, SAT}
-use Rattle.silage_lex.specs.declared.punctuation.TheConstants.{COLON_COLON, DOT_DOT, EQUAL_EQUAL, BANG_EQUAL, LESS_EQUAL}
-use Rattle.silage_lex.specs.declared.punctuation.TheConstants.{GREATER_EQUAL, LESS_LESS, GREATER_GREATER, ARROW, PIPE_PIPE}
-use Rattle.silage_lex.specs.declared.punctuation.TheConstants.{AT_AT, LEFT_PAREN, RIGHT_PAREN, LEFT_BRACKET, RIGHT_BRACKET}
-use Rattle.silage_lex.specs.declared.punctuation.TheConstants.{COMMA, SEMICOLON, COLON, EQUAL, LESS, GREATER, PLUS, MINUS}
+use Rattle.silage_lex.specs.declared.punctuation.TheConstants.{COLON_COLON, DOT_DOT, EQUAL_EQUAL, BANG_EQUAL}
+use Rattle.silage_lex.specs.declared.punctuation.TheConstants.{LESS_EQUAL}
+use Rattle.silage_lex.specs.declared.punctuation.TheConstants.{GREATER_EQUAL, LESS_LESS, GREATER_GREATER, ARROW}
+use Rattle.silage_lex.specs.declared.punctuation.TheConstants.{PIPE_PIPE}
+use Rattle.silage_lex.specs.declared.punctuation.TheConstants.{AT_AT, LEFT_PAREN, RIGHT_PAREN, LEFT_BRACKET}
+use Rattle.silage_lex.specs.declared.punctuation.TheConstants.{RIGHT_BRACKET}
+use Rattle.silage_lex.specs.declared.punctuation.TheConstants.{COMMA, SEMICOLON, COLON, EQUAL, LESS, GREATER, PLUS}
+use Rattle.silage_lex.specs.declared.punctuation.TheConstants.{MINUS}
 use Rattle.silage_lex.specs.declared.punctuation.TheConstants.{STAR, AMPERSAND, PIPE, BANG, AT}
 use Rattle.silage_syntax.specs.declared.tree.BinOp.TheVariants as op
 use Rattle.silage_syntax.specs.declared.tree.Decl.{Decl}
 use Rattle.silage_syntax.specs.declared.tree.Lit.TheVariants.{Number, Truth}
 use Rattle.silage_syntax.specs.declared.tree.MOp.TheVariants as mop
 use Rattle.silage_syntax.specs.Grammar.{weighs}
-use Rattle.silage_syntax.specs.Tree.{Manifest, whole, counter, minus, both, Place, Expr, literal, read, negate, not, binary}
-use Rattle.silage_syntax.specs.Tree.{shift, cast, choose, no_branch, branch, Item, equation, call, loop, initial, items_of}
+use Rattle.silage_syntax.specs.Tree.{Manifest, whole, counter, minus, both, Place, Expr, literal, read, negate, not}
+use Rattle.silage_syntax.specs.Tree.{binary}
+use Rattle.silage_syntax.specs.Tree.{shift, cast, choose, no_branch, branch, Item, equation, call, loop, initial}
+use Rattle.silage_syntax.specs.Tree.{items_of}
 use Rattle.silage_syntax.specs.Tree.{Func, Top, table, function}
 use Rattle.silage_parse.specs.Answers.{IsOnly}
 use Rattle.worked_values.specs.Trees.{fix_type}
@@ -132,7 +139,8 @@ chosen =
 abbrev pub target : Place
 target =
     place (codes "z") 105
-    (both 108 mop.Sub (counter (codes "i") 107) (whole 1 109) ∷ both 113 mop.Mul (whole 2 112) (minus 114 (whole 3 116)) ∷ [])
+    (both 108 mop.Sub (counter (codes "i") 107) (whole 1 109) ∷ both 113 mop.Mul (whole 2 112) (minus 114 (whole 3 116))
+     ∷ [])
 
 abbrev pub the_items : List Item
 the_items =

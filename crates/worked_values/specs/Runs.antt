@@ -46,7 +46,8 @@ LoadsTakeTwoCycles =
 
 -- a write is there from the next cycle on: cell 0 of the store in cycle 1, whose write ends in cycle 2
 abbrev pub WritesComeAtTheEnd : Type 0
-WritesComeAtTheEnd = map (Content echoing cycles (Cell 2 0)) (0 ∷ 2 ∷ 3 ∷ 14 ∷ 15 ∷ []) ≡ pos 50 ∷ pos 50 ∷ pos 1 ∷ pos 1 ∷ pos 3 ∷ []
+WritesComeAtTheEnd =
+    map (Content echoing cycles (Cell 2 0)) (0 ∷ 2 ∷ 3 ∷ 14 ∷ 15 ∷ []) ≡ pos 50 ∷ pos 50 ∷ pos 1 ∷ pos 1 ∷ pos 3 ∷ []
 
 -- 60 + 3, 1 + 3 and 127 + 3, which wraps in 8 bits; no cycle of the 18 has a conflict
 abbrev pub ThreeSamplesRun : Type 0

@@ -2,9 +2,11 @@
 //! code is: the prover computes it from the definitions alone. `docs/TRUSTED.md` shows it beside its definition.
 #![tactic(auto)]
 
-ghost use Rattle.std.specs.Prelude.{ℤ};
+ghost use Rattle.std.specs.Prelude.{ℕ, ℤ};
 ghost use Rattle.worked_values.specs.Conflicts.{UnitsAreBusy, DriversMeet, WritesMeet, BusesAreBare, ResultsAreMissing};
 ghost use Rattle.worked_values.specs.Conflicts.{AddressesAreOutside};
+ghost use Rattle.worked_values.specs.Definitions.{EachSourceDefines, LoopsHaveTurns, SubscriptsHaveValues};
+ghost use Rattle.worked_values.specs.Operations.{SumsComeToWords, ComparisonsComeToTruths, TruthsComeToTruths};
 ghost use Rattle.worked_values.specs.Files.{BytesSpellTheImage, BitsSpellTheImage, OthersDoNotSpellTheImage};
 ghost use Rattle.worked_values.specs.Files.{OnlyTheImageIsSpelled};
 ghost use Rattle.datapath.specs.declared.types.Datapath.{Datapath};
@@ -56,6 +58,20 @@ pub fn solutions()
     ensures streams { RowsAreWords }
     ensures solution { SumsAreTheSolution }
     ensures rows { SumsComeOut }
+{}
+
+/// Where the words of elements come from.
+pub fn definitions()
+    ensures sources { EachSourceDefines }
+    ensures turns { (turn : ℤ) → LoopsHaveTurns turn }
+    ensures subscripts { (k : ℕ) → SubscriptsHaveValues k }
+{}
+
+/// The operations of the machine.
+pub fn operations()
+    ensures sums { SumsComeToWords }
+    ensures comparisons { ComparisonsComeToTruths }
+    ensures truths { TruthsComeToTruths }
 {}
 
 /// A run of the machine.

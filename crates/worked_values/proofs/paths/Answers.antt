@@ -1,5 +1,6 @@
 -- The bytes are read by the definition of TOML, and each key by its row.
-use Rattle.std.proofs.Common.{◌≡◌, ◌≢◌, ◌<◌, refl, sym, subst, ap, arith, lit≤, ℕ, List, [], ◌∷◌, codes, Some, Ok, Result}
+use Rattle.std.proofs.Common.{◌≡◌, ◌≢◌, ◌<◌, refl, sym, subst, ap, arith, lit≤, ℕ, List, [], ◌∷◌, codes, Some, Ok}
+use Rattle.std.proofs.Common.{Result}
 use Rattle.std.proofs.Common.{ltb, true, false, true≢false, length, ◌∙◌}
 use Rattle.std.specs.Prelude.{slice_index, bytes_eq}
 use Rattle.std.specs.Str.{IsAscii}

@@ -344,7 +344,9 @@ module _ (others : Words) (h : Solves summed one_two_three others) where
   same_past e j is below = initial_once summed e (j + 1) _ _ (h.past e j is below) (solved.past e j is below)
 
   same_x : (n : ℕ) → n < 3 → others x (pos n) ≡ sums x (pos n)
-  same_x n below = gives_once summed one_two_three sums n (word 0) _ _ (h.present x n (word 0) x_is below (input refl)) (our_input n below)
+  same_x n below =
+      gives_once summed one_two_three sums n (word 0) _ _ (h.present x n (word 0) x_is below (input refl))
+      (our_input n below)
 
   next : (n : ℕ) (a b v : ℤ)
       → n < 3
@@ -359,7 +361,8 @@ module _ (others : Words) (h : Solves summed one_two_three others) where
   first : others y (pos 0) ≡ pos 6
   unfolding wrap_of
   first =
-      next 0 (pos 1) (pos 5) (pos 6) (omega arith) (sym (same_x 0 (omega arith))) (sym (same_past y 0 y_is (omega arith)))
+      next 0 (pos 1) (pos 5) (pos 6) (omega arith) (sym (same_x 0 (omega arith)))
+      (sym (same_past y 0 y_is (omega arith)))
       (fitted (pos 6) (pos 6) refl)
 
   second : others y (pos 1) ≡ pos 8

@@ -32,7 +32,8 @@ a_comment =
 pub returns-clause-each : goal.returns-clause-each
 returns-clause-each _ = (
   none,
-  on_line 1 refl (reserved_span each_kind FUNC 0 4 (word_at each_kind 0 4 (omega arith) (omega arith) refl refl refl) refl),
+  on_line 1 refl
+  (reserved_span each_kind FUNC 0 4 (word_at each_kind 0 4 (omega arith) (omega arith) refl refl refl) refl),
   (
     blank refl none,
     on_line 1 refl
