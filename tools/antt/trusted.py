@@ -311,9 +311,9 @@ they should is for the reader. `docs/PROOF.md` goes through the proof.
 |---|---|
 {parts}| **in all** | **{lines:,}** |
 
-Below a file stand worked values of its definitions, under "Worked": what texts, numbers, expressions, programs, images \
-and runs come to, worked out by hand. Each is a clause of `crates/worked_values`, and holds whatever the code is: the \
-prover computes it from the definitions above it. They add nothing to what is promised, and do not count.
+Below a file stand worked values of its definitions, under "Worked": what texts, numbers, expressions, programs, \
+images and runs come to, worked out by hand. Each is a clause of `crates/worked_values`, and holds whatever the code \
+is: the prover computes it from the definitions above it. They add nothing to what is promised, and do not count.
 
 A line that is blank, a comment or a `use` line does not count. Left out are the names of the proved standard library, \
 as `List`, `≡` and `slice_get`,{kit}: `rt lemma NAME` prints one. What the environment's calls do to files is said by \
@@ -354,4 +354,5 @@ def page_text(specs: Specs) -> str:
     counts["Where `compile` answers Done"] += headline.clause.lines()
     parts = "".join(f"| {title} | {many:,} |\n" for title, many in counts.items())
     introduction = INTRODUCTION.format(lines=sum(counts.values()), parts=parts, kit=kit_of(specs, headline))
-    return introduction + "## Where `compile` answers Done\n\n" + text_of(headline, values) + COUNTS + promises_table(specs)
+    return (introduction + "## Where `compile` answers Done\n\n" + text_of(headline, values) + COUNTS
+            + promises_table(specs))

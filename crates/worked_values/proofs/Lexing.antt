@@ -159,6 +159,6 @@ pub no_close : (bytes : List ℕ) (from count : ℕ)
     → NoCloseBetween bytes from (from + count)
 no_close bytes from count h at low high =
     let passes =
-        each_passes count (λ k. not (closes_comment bytes (from + k))) h (at - from) (omega (arith, low, high)) in
+    each_passes count (λ k. not (closes_comment bytes (from + k))) h (at - from) (omega (arith, low, high)) in
     let same : from + (at - from) ≡ at = omega (arith, low) in
     is_false _ (subst (λ m. not (closes_comment bytes m) ≡ true) same passes)

@@ -1,4 +1,5 @@
--- A program with each way in which an element is defined: a call with an array, a table and a value, its results, a loop.
+-- A program with each way in which an element is defined: a call with an array, a table and a value, its results, and
+-- a loop.
 use Rattle.std.specs.Prelude.{◌≡◌, ℕ, ℤ, pos, negsuc, false, codes, [], ◌∷◌, Some, None}
 use Rattle.fix_word.specs.declared.types.Mode.TheVariants.{Trunc}
 use Rattle.fix_word.specs.declared.types.SigType.{SigType}
@@ -31,7 +32,8 @@ called = record {
   name = codes "f";
   at = 0;
   params =
-      declaration (codes "v") (2 ∷ []) byte ∷ declaration (codes "w") (2 ∷ []) byte ∷ declaration (codes "s") [] byte ∷ [];
+      declaration (codes "v") (2 ∷ []) byte ∷ declaration (codes "w") (2 ∷ []) byte ∷ declaration (codes "s") [] byte
+      ∷ [];
   results = declaration (codes "z") (2 ∷ []) byte ∷ declaration (codes "t") [] byte ∷ [];
   locals = [];
   items = no_item;
@@ -48,12 +50,14 @@ calling = record {
   locals = declaration (codes "p") (2 ∷ []) byte ∷ [];
   items =
       item
-      (call (bare (codes "y") ∷ bare (codes "u") ∷ []) (codes "f") (now (codes "a") ∷ now (codes "k") ∷ now (codes "b") ∷ [])
+      (call (bare (codes "y") ∷ bare (codes "u") ∷ []) (codes "f")
+      (now (codes "a") ∷ now (codes "k") ∷ now (codes "b") ∷ [])
       7)
       (item
       (loop (codes "i") (whole 0 0) (whole 1 0)
       (item
-      (equation (entry_of (codes "p") (counter (codes "i") 0)) (read (entry_of (codes "a") (counter (codes "i") 0)) None))
+      (equation (entry_of (codes "p") (counter (codes "i") 0))
+      (read (entry_of (codes "a") (counter (codes "i") 0)) None))
       no_item) 0) no_item);
 }
 

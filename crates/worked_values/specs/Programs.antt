@@ -140,7 +140,7 @@ abbrev pub target : Place
 target =
     place (codes "z") 105
     (both 108 mop.Sub (counter (codes "i") 107) (whole 1 109) ∷ both 113 mop.Mul (whole 2 112) (minus 114 (whole 3 116))
-     ∷ [])
+    ∷ [])
 
 abbrev pub the_items : List Item
 the_items =

@@ -17,8 +17,8 @@ ghost use Rattle.worked_values.specs.Runs.{ThreeSamplesRun};
 ghost use Rattle.worked_values.specs.Solutions.{RowsAreWords, SumsAreTheSolution, SumsComeOut};
 ghost use Rattle.worked_values.specs.Tokens.{TextHasTokens, TextsHaveOtherTokens};
 ghost use Rattle.worked_values.specs.Values.{LeavesHaveValues, SumsAndProductsHaveValues, ShiftsHaveValues};
-ghost use Rattle.worked_values.specs.Values.{CastsHaveValues, ComparisonsHaveValues, TruthsHaveValues, ChoicesHaveValues};
-ghost use Rattle.worked_values.specs.Values.{OthersHaveNoValue};
+ghost use Rattle.worked_values.specs.Values.{CastsHaveValues, ComparisonsHaveValues, TruthsHaveValues};
+ghost use Rattle.worked_values.specs.Values.{ChoicesHaveValues, OthersHaveNoValue};
 ghost use Rattle.worked_values.specs.Words.{RoundEachWay, OverflowEachWay, ShiftToTheLeft, NumbersHaveWords};
 
 /// The tokens of a text.

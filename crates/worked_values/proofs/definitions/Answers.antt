@@ -94,4 +94,9 @@ outside k (i, rest, is, below, (j, last, js, under, end, e), f) =
     omega (arith, three, under)
 
 pub returns-clause-subscripts : goal.returns-clause-subscripts
-returns-clause-subscripts _ = λ k. ((1, 2, refl, omega arith, (2, 0, refl, omega arith, refl, refl), refl), outside k, refl, refl)
+returns-clause-subscripts _ = λ k. (
+  (1, 2, refl, omega arith, (2, 0, refl, omega arith, refl, refl), refl),
+  outside k,
+  refl,
+  refl,
+)

@@ -33,7 +33,7 @@ pub returns-clause-each : goal.returns-clause-each
 returns-clause-each _ = (
   none,
   on_line 1 refl
-  (reserved_span each_kind FUNC 0 4 (word_at each_kind 0 4 (omega arith) (omega arith) refl refl refl) refl),
+      (reserved_span each_kind FUNC 0 4 (word_at each_kind 0 4 (omega arith) (omega arith) refl refl refl) refl),
   (
     blank refl none,
     on_line 1 refl
