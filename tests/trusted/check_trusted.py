@@ -1,5 +1,6 @@
 #!/usr/bin/env python3
-"""Whether `tools/trusted` reaches the definitions of a small tree of crates that tree.toml says each clause does.
+"""Whether `tools/trusted` reaches the definitions of a small tree of crates that tree.toml says each clause does, and
+what it says of tables of worked values.
 
 usage: tests/trusted/check_trusted.py
 
@@ -51,6 +52,8 @@ def faults(tree: dict) -> Iterator[str]:
                 yield from differences(f"the text of {name}", shown(own), text.strip("\n"))
     for case in tree["without"]:
         yield from left_out(case)
+    for case in tree["worked"]:
+        yield from worked(case)
 
 
 def left_out(case: dict) -> Iterator[str]:
@@ -66,6 +69,29 @@ def left_out(case: dict) -> Iterator[str]:
     yield from differences(f"which of {case['names']} were met", specs.met, set(case["names"]))
 
 
+def worked(case: dict) -> Iterator[str]:
+    """What tables of worked values come to, against the definitions that some clauses reach."""
+    from antt.reach import Reached, Specs, clauses_of
+    from antt.trusted import worked_text
+    from antt.worked import Unworked, Values
+
+    specs, reached = Specs(), Reached()
+    for clause in clauses_of(specs, CRATE, "promise"):
+        if clause.name in case["clauses"]:
+            specs.reach(clause.paths, reached)
+    values, refused = Values(specs, case["shown"], case.get("without", {})), ""
+    try:
+        values.check(list(reached.definitions))
+    except Unworked as why:
+        refused = str(why)
+    yield from differences(f"what is said of {case['shown']}", refused, case.get("refused", ""))
+    done: dict = {}
+    named = {one.names[0]: one for one in reached.definitions}
+    for name, text in zip(case.get("below", []), case.get("texts", [])):
+        yield from differences(f"the text below {name}", worked_text(values.below([named[name]]), done).strip("\n"),
+                               text.strip("\n"))
+
+
 def main() -> int:
     tree = tomllib.loads((HERE / "tree.toml").read_text())
     with tempfile.TemporaryDirectory() as folder:
@@ -78,7 +104,7 @@ def main() -> int:
         found = list(faults(tree))
     for fault in found:
         print(f"trusted: {fault}")
-    print(f"trusted: {len(tree['clause'])} clauses, {len(found)} faults")
+    print(f"trusted: {len(tree['clause'])} clauses, {len(tree['worked'])} tables of worked values, {len(found)} faults")
     return 1 if found else 0
 
 

@@ -11,7 +11,7 @@ from .modules import CRATES, Module, bring, module_of
 from .tokens import tokens_of
 
 DECLARED = ".specs.declared."
-FUNCTION = r"^ *pub fn {}\b.*?^ *\{{\n"
+FUNCTION = r"^ *pub fn {}\b.*?^ *\{{(?:\n|\}})"
 CLAUSE = re.compile(r"^ *(requires|ensures)\*?(?: (\w+))? \{", re.M)
 
 

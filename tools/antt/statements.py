@@ -128,20 +128,31 @@ class Forms:
 
     def term(self, parts: list[Bracket], scope: Scope) -> Form:
         """The form of the parts of one bracket, from the first on."""
-        if not parts:
-            return ()
-        first, place = parts[0], 0
+        found: list[str | int] = []
+        place = 0
+        while place < len(parts):
+            part = parts[place]
+            if part.content is None and part.text in ("λ", "let") or part.content is not None and part.is_binder():
+                return (*found, *self.over_variables(parts[place:], scope))
+            if part.content is not None:
+                found += (part.text, *self.inside(part, scope))
+                place += 1
+            else:
+                end = after_fields(parts, place)
+                found += self.name(parts[place:end], scope)
+                place = end
+        return tuple(found)
+
+    def over_variables(self, parts: list[Bracket], scope: Scope) -> Form:
+        """A term that begins with binders, a `λ` or a `let`."""
+        if parts[0].text == "λ":
+            return self.abstraction(parts, scope)
+        if parts[0].text == "let":
+            return self.binding(parts, scope)
+        place = 0
         while place < len(parts) and parts[place].content is not None and parts[place].is_binder():
             place += 1
-        if place:
-            return self.binders(parts[:place], parts[place:], scope)
-        if first.text == "λ":
-            return self.abstraction(parts, scope)
-        if first.text == "let":
-            return self.binding(parts, scope)
-        if first.content is not None:
-            return (first.text, *self.inside(first, scope), *self.term(parts[1:], scope))
-        return self.name(parts, scope)
+        return self.binders(parts[:place], parts[place:], scope)
 
     def binders(self, binders: list[Bracket], rest: list[Bracket], scope: Scope) -> Form:
         """`(x : A) → B` where x stands in B, and `A → B` where it does not."""
@@ -198,12 +209,9 @@ class Forms:
         return (*self.term(pieces[:arrow], inner), "↦", *self.term(pieces[arrow + 1 :], inner))
 
     def name(self, parts: list[Bracket], scope: Scope) -> Form:
-        """A name with its fields, or a mark, and what follows it."""
-        name, place = parts[0].text, 1
-        while place + 1 < len(parts) and parts[place].text == "." and parts[place].touches and parts[place + 1].touches:
-            place += 2
-        path = "".join(part.text for part in parts[1:place] if part.content is None)
-        return (*self.head(name, path, scope), *self.term(parts[place:], scope))
+        """A name with its fields, or a mark."""
+        path = "".join(part.text for part in parts[1:] if part.content is None)
+        return self.head(parts[0].text, path, scope)
 
     def head(self, name: str, path: str, scope: Scope) -> Form:
         if name in scope:
@@ -214,6 +222,14 @@ class Forms:
         if path and name in self.module.modules:
             return (self.module.modules[name] + path,)
         return (name + path,)
+
+
+def after_fields(parts: list[Bracket], place: int) -> int:
+    """The place behind a name and its fields."""
+    place += 1
+    while place + 1 < len(parts) and parts[place].text == "." and parts[place].touches and parts[place + 1].touches:
+        place += 2
+    return place
 
 
 def pieces_of(parts: list[Bracket]) -> Iterator[tuple[str, list[Bracket]]]:

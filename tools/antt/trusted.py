@@ -10,6 +10,7 @@ from .definitions import Definition
 from .items import Item
 from .modules import CRATES, ROOT, Module
 from .reach import Clause, Reached, Specs, Type, clauses_of, functions_of
+from .worked import Value, Values
 
 PARTS = Path(__file__).with_name("trusted.toml")
 # The call whose clause is the sentence of README.md, and the crate whose calls say what follows.
@@ -166,6 +167,11 @@ def place_of(module: Module) -> str:
     return str(module.file.relative_to(CRATES))
 
 
+def worked_values(specs: Specs) -> Values:
+    tables = tomllib.loads(PARTS.read_text())
+    return Values(specs, tables["worked"], tables["unworked"])
+
+
 @cache
 def pages() -> dict[str, list[str]]:
     return tomllib.loads(PARTS.read_text())["pages"]
@@ -242,13 +248,26 @@ def section(definitions: list[Definition], doubled: set[str]) -> str:
             f"{foreign_names(definitions, doubled)}```\n{shown(definitions)}\n```\n\n")
 
 
-def text_of(headline: Headline) -> str:
-    """What the sentence rests on: its clause, and part by part the definitions."""
+def worked_text(values: list[Value], done: dict[Definition, None]) -> str:
+    """The statements of worked values behind what they are made of, without what was shown before."""
+    new = Reached({one: None for value in values for one in value.statement() if one not in done})
+    done.update(new.definitions)
+    if not new.definitions:
+        return ""
+    names = ", ".join(f"`{value.name()}`" for value in values)
+    texts = "\n\n".join(shown(definitions) for definitions in reversed(by_module(new).values()))
+    return f"Worked, and proved as {names}:\n\n```\n{texts}\n```\n\n"
+
+
+def text_of(headline: Headline, values: Values) -> str:
+    """What the sentence rests on: its clause, and part by part the definitions, with their worked values."""
     found, doubled = [f"```\n{headline.clause.text.strip()}\n```\n\n"], doubled_names(headline.parts)
+    done: dict[Definition, None] = {}
     for part, reached in headline.parts:
         if part:
             found.append(f"## {heading(part)}\n\n{part.says} {count(reached):,} lines.\n\n")
-        found += [section(definitions, doubled) for definitions in by_module(reached).values()]
+        for definitions in by_module(reached).values():
+            found += [section(definitions, doubled), worked_text(values.below(definitions), done)]
     return "".join(found) + types_text(headline.types)
 
 
@@ -292,6 +311,10 @@ they should is for the reader. `docs/PROOF.md` goes through the proof.
 |---|---|
 {parts}| **in all** | **{lines:,}** |
 
+Below a file stand worked values of its definitions, under "Worked": what texts, numbers, expressions, programs, \
+images and runs come to, worked out by hand. Each is a clause of `crates/worked_values`, and holds whatever the code \
+is: the prover computes it from the definitions above it. They add nothing to what is promised, and do not count.
+
 A line that is blank, a comment or a `use` line does not count. Left out are the names of the proved standard library, \
 as `List`, `≡` and `slice_get`,{kit}: `rt lemma NAME` prints one. What the environment's calls do to files is said by \
 the contract of `Desk` (`crates/desk_core`); `D.view desk.old` and `D.view desk.new` are its state before and after \
@@ -324,10 +347,12 @@ def kit_of(specs: Specs, headline: Headline) -> str:
 
 
 def page_text(specs: Specs) -> str:
-    headline = headline_of(specs)
+    headline, values = headline_of(specs), worked_values(specs)
+    values.check([one for _, reached in headline.parts for one in reached.definitions])
     counts = {heading(part) if part else "Where `compile` answers Done": count(reached)
               for part, reached in headline.parts}
     counts["Where `compile` answers Done"] += headline.clause.lines()
     parts = "".join(f"| {title} | {many:,} |\n" for title, many in counts.items())
     introduction = INTRODUCTION.format(lines=sum(counts.values()), parts=parts, kit=kit_of(specs, headline))
-    return introduction + "## Where `compile` answers Done\n\n" + text_of(headline) + COUNTS + promises_table(specs)
+    return (introduction + "## Where `compile` answers Done\n\n" + text_of(headline, values) + COUNTS
+            + promises_table(specs))

@@ -1,0 +1,4 @@
+pub mod Lexing
+pub mod Parsing
+pub mod Valid
+pub mod Clear

@@ -1,0 +1,13 @@
+pub mod Tokens
+pub mod Trees
+pub mod Programs
+pub mod Words
+pub mod Values
+pub mod Solutions
+pub mod Definitions
+pub mod Operations
+pub mod Machine
+pub mod Files
+pub mod Runs
+pub mod Conflicts
+pub mod Paths
