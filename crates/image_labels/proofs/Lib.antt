@@ -6,3 +6,5 @@ pub mod Issues
 pub mod Steps
 pub mod AllRight
 pub mod Clear
+pub mod Latches
+pub mod Runs
