@@ -38,10 +38,10 @@ module _ {g : Graph} {image : Image} {certificate : Certificate} (run : Run g im
       → Says run 0 label (initial micro place)
   start_by place Unknown last is = tt {0}
   start_by place (Signal v s) last is =
-      is.3
-      ∙ sym (run.solves.past v (past - s - 1) is.0 (omega (arith, is.1, is.2))
-      ∙ ap (word_before (node_of g v).inits) (back s is.2))
-      ∙ ap (run.words v) (sym (ap (λ n. pos n -ℤ pos past) none ∙ sample_before s is.2))
+      is.0.is
+      ∙ sym (run.solves.past v (past - s - 1) is.0.there (omega (arith, is.0.some, is.0.early))
+      ∙ ap (word_before (node_of g v).inits) (back s is.0.early))
+      ∙ ap (run.words v) (sym (ap (λ n. pos n -ℤ pos past) none ∙ sample_before s is.0.early))
     where
       back : (s : ℕ) → s < past → past - s - 1 + 1 ≡ past - s
       back s below = omega (arith, below)
@@ -57,7 +57,7 @@ module _ {g : Graph} {image : Image} {certificate : Certificate} (run : Run g im
       → Says run (suc k) label v
   turn_by k place Unknown last v is says = tt {0}
   turn_by k place (Signal w s) last v is says =
-      subst (λ l. Says run k l v) is.4 says ∙ ap (λ n. run.words w (pos n -ℤ pos past)) later
+      subst (λ l. Says run k l v) is.1 says ∙ ap (λ n. run.words w (pos n -ℤ pos past)) later
     where
       one_more : suc k * image.unroll ≡ k * image.unroll + image.unroll
       one_more = grind arith

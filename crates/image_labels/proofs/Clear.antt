@@ -1,6 +1,6 @@
 -- No cycle of the run of a labelled image has a conflict.
-use Rattle.std.proofs.Common.{◌≡◌, ℕ, ◌+◌, ◌-◌, ◌*◌, ◌/◌, ◌%◌, ◌<◌, ◌≤◌, ◌==◌, ◌⊎◌, inl, inr, ⊎_elim, refl, sym, ap, ◌∙◌, arith}
-use Rattle.std.proofs.Common.{[], List, length, ℤ, pos, Option, Some, None, subst, Bool, true, find}
+use Rattle.std.proofs.Common.{◌≡◌, ℕ, ◌+◌, ◌*◌, ◌/◌, ◌%◌, ◌<◌, ◌≤◌, ◌==◌, ⊎_elim, refl, sym, ap, ◌∙◌, arith}
+use Rattle.std.proofs.Common.{length, ℤ, pos, Option, Some, None, subst}
 use Rattle.std.specs.Option.{IsSome, IsNone}
 use Rattle.std.specs.List.{count_by}
 use Rattle.std.proofs.lemmas.Bool.{cases_lt}
@@ -14,16 +14,16 @@ use Rattle.micro_image.specs.declared.image.Image.{Image}
 use Rattle.micro_image.specs.declared.image.Issue.{Issue}
 use Rattle.micro_image.specs.declared.image.Take.{Take}
 use Rattle.micro_image.specs.declared.image.Word.{Word}
-use Rattle.micro_image.specs.Conflict.{IsClear, IsMemory, IsOutside, IsBusy, file_of}
+use Rattle.micro_image.specs.Conflict.{IsClear, IsMemory, IsOutside, file_of}
 use Rattle.micro_image.specs.Fields.{Microprogram, microprogram_of, unit_of, issue_at}
-use Rattle.micro_image.specs.Log.{Log, Entry, Result, operand}
+use Rattle.micro_image.specs.Log.{Log, Result, operand}
 use Rattle.micro_image.proofs.Each.{In, Each-at, Each-from_All}
 use Rattle.plan_soundness.specs.Private.Cells.{cell_in}
-use Rattle.plan_soundness.proofs.Elements.{find_among, find_count, passing}
-use Rattle.plan_soundness.proofs.Samples.{split, one_place}
+use Rattle.plan_soundness.proofs.Elements.{find_count, passing}
+use Rattle.plan_soundness.proofs.Samples.{split}
 use Rattle.image_labels.specs.declared.label.Certificate.{Certificate}
 use Rattle.image_labels.specs.Labels.{turn_of, word_in, delay_on, issued_in, ended_in}
-use Rattle.image_labels.specs.Labelled.{IsFit, IsDrive, IsTaken}
+use Rattle.image_labels.specs.Labelled.{IsDrive, IsTaken}
 use Rattle.image_labels.specs.Run.{Run, rows_of, IsRight}
 use Rattle.image_labels.proofs.Frames.{cell_below}
 use Rattle.image_labels.proofs.Turns.{word_is, issue_is, issued_fit, issued_among, ends_in_turn, some_cycle, same_number}
@@ -56,15 +56,15 @@ module _ {g : Graph} {image : Image} {certificate : Certificate} (run : Run g im
     abbrev t : ℕ
     t = k * turn_of image + c
 
-    drive_at : (enable : Enable) → In enable (micro.word_at t).enables → IsDrive g image certificate c enable
+    drive_at : (enable : Enable) → In enable (micro.word_at t).enables → IsDrive image c enable
     drive_at enable among =
-        Each-at (Each-from_All (IsDrive g image certificate c) (word_in image c).enables
+        Each-at (Each-from_All (IsDrive image c) (word_in image c).enables
         (run.fits.cycles c below).enables) enable
         (subst (λ (w : Word). In enable w.enables) (word_is run k c below) among)
 
-    take_at : (take : Take) → In take (micro.word_at t).takes → IsTaken g image certificate c take
+    take_at : (take : Take) → In take (micro.word_at t).takes → IsTaken image c take
     take_at take among =
-        Each-at (Each-from_All (IsTaken g image certificate c) (word_in image c).takes
+        Each-at (Each-from_All (IsTaken image c) (word_in image c).takes
         (run.fits.cycles c below).takes) take
         (subst (λ (w : Word). In take w.takes) (word_is run k c below) among)
 
@@ -172,7 +172,7 @@ module _ {g : Graph} {image : Image} {certificate : Certificate} (run : Run g im
     some_result u some none =
         let e = passing (λ (e : Enable). e.unit == u) (micro.word_at t).enables some in
         let unit : e.it.unit ≡ u = same_number e.it.unit u e.passes in
-        let drive : IsDrive g image certificate c e.it = drive_at e.it e.among in
+        let drive : IsDrive image c e.it = drive_at e.it e.among in
         let ends : ended_in image c u ≡ Some drive.result.0 =
         subst (λ u. ended_in image c u ≡ Some drive.result.0) unit drive.result.1 in
         not_none (Result micro z u t) _

@@ -169,7 +169,7 @@ module _ {g : Graph} {image : Image} {certificate : Certificate} (run : Run g im
     fit = fit_of run c issue below among
 
     load_says : (label : Label)
-        → IsLoad g image certificate c issue label
+        → IsLoad image certificate c issue label
         → Says run k label (value micro z log t issue)
     unfolding value
     load_says label of =
@@ -188,7 +188,7 @@ module _ {g : Graph} {image : Image} {certificate : Certificate} (run : Run g im
         (of.cell m x ram.2) (right.cells issue.unit x on.there ram.1))
 
     addr_says : (cells x : ℕ)
-        → IsAddress g image certificate c issue cells x
+        → IsAddress image c issue cells x
         → Says run k (Address cells x) (value micro z log t issue)
     unfolding value
     addr_says cells x of =

@@ -4,7 +4,7 @@ use Rattle.std.proofs.Common.{List, length, ℤ, pos, Option, Some, None, subst,
 use Rattle.std.specs.Prelude.{◌-ℤ◌}
 use Rattle.std.proofs.lemmas.Int.{ints}
 use Rattle.std.proofs.lemmas.Nat.{div-mul-add}
-use Rattle.std.proofs.Math.Nat.{mod-lt, add-mul, mul_assoc, mul-le-mul_right}
+use Rattle.std.proofs.Math.Nat.{add-mul, mul_assoc, mul-le-mul_right}
 use Rattle.lists.specs.Rows.{Rows}
 use Rattle.fix_word.specs.declared.operation.Op.TheVariants as op
 use Rattle.operations.specs.Ranges.{to_nat}
@@ -12,7 +12,7 @@ use Rattle.signal_graph.specs.GraphRules.{first_output}
 use Rattle.signal_graph.specs.declared.graph.Graph.{Graph}
 use Rattle.micro_image.specs.declared.image.Image.{Image}
 use Rattle.micro_image.specs.declared.image.Issue.{Issue}
-use Rattle.micro_image.specs.Fields.{Microprogram, microprogram_of, began, ending}
+use Rattle.micro_image.specs.Fields.{Microprogram, microprogram_of, began}
 use Rattle.micro_image.specs.Log.{Place, Latch, Log, Entry, Content, same_place, value, entries_by}
 use Rattle.micro_image.proofs.Each.{In, here, there, Each, none, more}
 use Rattle.micro_image.proofs.LogLaws.{IsElsewhere, content-unwritten}
@@ -22,11 +22,10 @@ use Rattle.plan_soundness.proofs.Elements.{find_among, found}
 use Rattle.plan_soundness.proofs.Samples.{split}
 use Rattle.plan_soundness.proofs.Writes.{same_sound, same_self}
 use Rattle.image_labels.specs.declared.label.Certificate.{Certificate}
-use Rattle.image_labels.specs.declared.label.Label.{Label}
 use Rattle.image_labels.specs.Labels.{turn_of, word_in, delay_on, issued_in, ended_in, issue_label}
 use Rattle.image_labels.specs.Labelled.{IsPut, IsRowWord}
 use Rattle.image_labels.specs.Run.{Run, rows_of, Says, IsRight}
-use Rattle.image_labels.proofs.Turns.{some_period, ending_is, le-true, issued_among, ended_is, fit_of}
+use Rattle.image_labels.proofs.Turns.{ending_is, le-true, issued_among, ended_is, fit_of}
 use Rattle.image_labels.proofs.Entries.{each_write, put_among, put_write}
 use Rattle.image_labels.proofs.Issues.{on_unit}
 use Rattle.image_labels.proofs.Steps.{fits, on_it, value_says}
@@ -204,25 +203,25 @@ module _ {g : Graph} {image : Image} {certificate : Certificate} (run : Run g im
         ((k * image.unroll + m + 1) * image.period)
         ≡ run.words (first_output g + j) (pos (k * image.unroll + m))
     latch_right j in-j =
-        let row : IsRowWord g image certificate m j = run.fits.rows m j in-turn in-j in
+        let row : IsRowWord image m j = run.fits.rows m j in-turn in-j in
         let b : ℕ = row.cycle in
         let u : ℕ = row.unit in
-        let among = issued_among run b u row.issue row.issued in
+        let among = issued_among run b u row.puts.0 row.puts.1 in
         let in-u : u < length image.units =
-        subst (λ u. u < length image.units) among.1 (on_unit run b row.issue row.there among.0).there in
-        let put : IsPut g image certificate b row.issue = (fit_of run b row.issue row.there among.0).put row.op in
+        subst (λ u. u < length image.units) among.1 (on_unit run b row.puts.0 row.there among.0).there in
+        let put : IsPut g image certificate b row.puts.0 = (fit_of run b row.puts.0 row.there among.0).put row.puts.2 in
         let within : b % P + delay_on image u < P =
         subst (λ u. b % P + delay_on image u < P) among.1 put.ends in
         let e : ℕ = b % P + delay_on image u in
         let start : b ≡ m * P + b % P = split b P ∙ ap (λ s. s * P + b % P) row.now in
         let at : cycle e ≡ b + delay_on image u = omega (arith, start) in
         let back : cycle e - delay_on image u ≡ b = omega (arith, at) in
-        let ends : ended_in image (cycle e) u ≡ Some row.issue =
-        ended_of (cycle e) u row.issue (omega (arith, at))
-        (ap (λ b. issued_in (word_in image b) u) back ∙ row.issued) in
+        let ends : ended_in image (cycle e) u ≡ Some row.puts.0 =
+        ended_of (cycle e) u row.puts.0 (omega (arith, at))
+        (ap (λ b. issued_in (word_in image b) u) back ∙ row.puts.1) in
         let first : Content micro z (Latch j) (k * T + cycle (e + 1)) ≡ wanted j =
         ap (Content micro z (Latch j)) (next e)
-        ∙ put_then e u j row.issue within in-u ends row.op row.arg in
+        ∙ put_then e u j row.puts.0 within in-u ends row.puts.2 row.puts.3 in
         ap (Content micro z (Latch j)) (sample_ends ∙ ap (λ n. k * T + cycle n) (rest e within))
         ∙ stays (e + 1) j first (P - (e + 1)) (omega (arith, within))
       where

@@ -8,3 +8,5 @@ pub mod AllRight
 pub mod Clear
 pub mod Latches
 pub mod Runs
+pub mod Scans
+pub mod Whole

@@ -1,11 +1,9 @@
 -- A labelled image runs the solution of the graph.
-use Rattle.std.proofs.Common.{◌≡◌, ℕ, ◌+◌, ◌*◌, ◌/◌, ◌%◌, ◌<◌, ◌≤◌, ⊎_elim, refl, sym, ap, ◌∙◌, arith, length, pos, subst, map}
+use Rattle.std.proofs.Common.{◌≡◌, ℕ, ◌+◌, ◌*◌, ◌/◌, ◌%◌, ◌<◌, ◌≤◌, ⊎_elim, sym, ap, ◌∙◌, arith, length, pos, subst, map}
 use Rattle.std.specs.List.{range_with_len}
 use Rattle.std.proofs.Math.Nat.{mod-lt}
-use Rattle.lists.specs.Rows.{Rows}
 use Rattle.signal_graph.specs.GraphRules.{IsGraph, first_output}
-use Rattle.signal_graph.specs.GraphSolves.{GraphSolves, graph_out}
-use Rattle.signal_graph.specs.Values.{Words}
+use Rattle.signal_graph.specs.GraphSolves.{graph_out}
 use Rattle.signal_graph.specs.declared.graph.Graph.{Graph}
 use Rattle.micro_image.specs.declared.image.Image.{Image}
 use Rattle.micro_image.specs.Fields.{microprogram_of}

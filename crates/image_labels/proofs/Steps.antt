@@ -176,14 +176,14 @@ module _ {g : Graph} {image : Image} {certificate : Certificate} (run : Run g im
           ap (given micro z log (began micro t u)) (ending_is run k c u below ∙ ends)
           ∙ ap (λ b. if b then Some (value micro z log (began micro t u) issue) else None) gives'
 
-    drive_of : (enable : Enable) → In enable (word_in image c).enables → IsDrive g image certificate c enable
+    drive_of : (enable : Enable) → In enable (word_in image c).enables → IsDrive image c enable
     drive_of enable among' =
-        Each-at (Each-from_All (IsDrive g image certificate c) (word_in image c).enables
+        Each-at (Each-from_All (IsDrive image c) (word_in image c).enables
         (run.fits.cycles c below).enables) enable among'
 
-    taken_of : (take : Take) → In take (word_in image c).takes → IsTaken g image certificate c take
+    taken_of : (take : Take) → In take (word_in image c).takes → IsTaken image c take
     taken_of take among' =
-        Each-at (Each-from_All (IsTaken g image certificate c) (word_in image c).takes
+        Each-at (Each-from_All (IsTaken image c) (word_in image c).takes
         (run.fits.cycles c below).takes) take among'
 
     takes_are : (take : Take) → In take (micro.word_at t).takes → In take (word_in image c).takes
@@ -205,7 +205,7 @@ module _ {g : Graph} {image : Image} {certificate : Certificate} (run : Run g im
     written_of take among' =
         let driver = some_of (find (λ (enable : Enable). enable.bus == take.bus) (word_in image c).enables)
         (taken_of take among').driver in
-        let drive : IsDrive g image certificate c driver.0 =
+        let drive : IsDrive image c driver.0 =
         drive_of driver.0
         (find_among (λ (enable : Enable). enable.bus == take.bus) driver.0 (word_in image c).enables driver.1).0 in
         let u : ℕ = driver.0.unit in

@@ -2,6 +2,16 @@
 //! graph's solution, whoever made it.
 #![tactic(auto)]
 
+mod cycles;
+mod fits;
+mod hardware;
 mod label;
+mod labels;
+mod mismatch;
+mod rows;
+mod starts;
+mod validation;
 
 pub use label::{Certificate, Label};
+pub use mismatch::Mismatch;
+pub use validation::validate;
