@@ -3,7 +3,7 @@ use Rattle.image_labels.specs.Labels.{issued_in, word_in}
 use Rattle.image_labels.proofs.fits.is_free.Goals as goal
 
 pub returns : goal.returns
-returns c yes b less near =
+returns c holds b less near =
     let k : ℕ = c.args.cycle - b in
     let some : 0 < k = omega arith in
     let within : k < c.loop-back.back =

@@ -26,5 +26,8 @@ loop-back-preserved c =
           then operand_label c.args.image.now c.args.certificate.now w.saturating_sub-issued.result
           w.in-Some.issue.now 1
           else old) w.if-stores_into.false)
-      | in_default w ↦ ?
+      | in_default w ↦
+          c.loop-back.invariant
+          ∙ cell_kept c.args.image.now c.args.certificate.now c.args.cycle c.loop-back.back before less refl c.args.unit
+          c.args.cell None (sym c.ended_in.ensures ∙ ap option_copied w.in_default.is) refl
     ]
