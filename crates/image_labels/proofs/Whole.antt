@@ -1,9 +1,9 @@
 -- All checks together say that the image is labelled.
-use Rattle.std.proofs.Common.{◌≡◌, ℕ, ◌+◌, ◌*◌, ◌<◌, ◌≤◌, sym, ◌∙◌, arith, [], length, subst, List}
+use Rattle.std.proofs.Common.{◌≡◌, ℕ, ◌*◌, ◌<◌, ◌∙◌, arith, [], length, subst}
 use Rattle.signal_graph.specs.declared.graph.Graph.{Graph}
 use Rattle.operations.proofs.Ports.{few_ports}
 use Rattle.micro_image.specs.declared.image.Image.{Image}
-use Rattle.micro_image.specs.Fields.{microprogram_of, unit_of, nth, no_unit}
+use Rattle.micro_image.specs.Fields.{microprogram_of, unit_of, no_unit}
 use Rattle.micro_image.specs.Valid.{IsValid, IsUnit}
 use Rattle.image_labels.specs.declared.label.Certificate.{Certificate}
 use Rattle.image_labels.specs.Labels.{turn_of}

@@ -1,4 +1,4 @@
-use Rattle.std.proofs.Common.{◌<◌, ℕ, below_more}
+use Rattle.std.proofs.Common.{below_more}
 use Rattle.image_labels.specs.Labelled.{IsFitCycle}
 use Rattle.image_labels.proofs.cycles.check_cycles.Goals as goal
 

@@ -1,4 +1,4 @@
-use Rattle.std.proofs.Common.{◌≡◌, ◌∙◌, ◌-◌, ◌<◌, ℕ, refl, sym, ap, arith, option_copied, Some, None, subst, if◌then◌else◌}
+use Rattle.std.proofs.Common.{◌≡◌, ◌∙◌, ◌-◌, ◌<◌, ℕ, refl, sym, ap, arith, option_copied, Some, None, if◌then◌else◌}
 use Rattle.image_labels.specs.declared.label.Label.{Label}
 use Rattle.image_labels.specs.Labels.{ended_in, delay_on, stored_label, cell_label, operand_label}
 use Rattle.image_labels.proofs.Scans.{cell_kept}

@@ -1,5 +1,4 @@
 use Rattle.std.proofs.Common.{◌≡◌, ◌∙◌, ◌-◌, ◌<◌, ℕ, refl, sym, ap, arith, find, option_copied, Some}
-use Rattle.micro_image.specs.declared.image.Take.{Take}
 use Rattle.micro_image.specs.declared.image.Word.{Word}
 use Rattle.image_labels.specs.Labels.{is_into, word_in}
 use Rattle.image_labels.proofs.Scans.{register_found}

@@ -1,4 +1,4 @@
-use Rattle.std.proofs.Common.{◌≡◌, ◌∙◌, sym, arith, length}
+use Rattle.std.proofs.Common.{arith}
 use Rattle.image_labels.proofs.Runs.{labelled_runs}
 use Rattle.image_labels.proofs.Whole.{labelled}
 use Rattle.image_labels.proofs.validation.validate.Goals as goal
