@@ -1,0 +1,12 @@
+pub mod Frames
+pub mod NodeWords
+pub mod Turns
+pub mod Entries
+pub mod Issues
+pub mod Steps
+pub mod AllRight
+pub mod Clear
+pub mod Latches
+pub mod Runs
+pub mod Scans
+pub mod Whole

@@ -1,0 +1,23 @@
+use Rattle.std.proofs.Common.{arith, subst, ap, ◌∙◌}
+use Rattle.std.specs.List.{All}
+use Rattle.std.proofs.lemmas.List.{take_all}
+use Rattle.std.proofs.lemmas.List.Elements.{All-more}
+use Rattle.micro_image.specs.declared.image.Take.{Take}
+use Rattle.micro_image.specs.declared.image.Word.{Word}
+use Rattle.image_labels.specs.Labelled.{IsTaken}
+use Rattle.image_labels.proofs.cycles.check_takes.Goals as goal
+
+abbrev no_take : Take
+no_take = record { port = record { unit = 0; port = 0 }; bus = 0; reg = 0 }
+
+pub loop-take-preserved : goal.loop-take-preserved
+loop-take-preserved c =
+    All-more (IsTaken c.args.image.now c.args.cycle) c.deref-take-items.result.now c.loop-take.take-index
+    no_take (omega arith) c.loop-take.invariant (c.is_taken.ensures c.if-not-is_taken.false)
+
+pub returns : goal.returns
+returns c =
+    subst (All (IsTaken c.args.image.now c.args.cycle))
+    (take_all c.loop-take.take-index c.deref-take-items.result.now (omega arith)
+    ∙ c.deref-take-items.ensures ∙ ap (λ (w : Word). w.takes) c.word_in.ensures)
+    c.loop-take.invariant

@@ -1,0 +1,26 @@
+//! Labels, and the certificate that says where words are.
+
+use lists::List;
+
+/// What a storage location holds, or a result is. Samples are counted from the turn's first, which has the number 1024.
+#[derive(Clone, Copy, Debug)]
+pub enum Label {
+    /// Nothing is known of it.
+    Unknown,
+    /// The word of the node with this number at the sample with this number.
+    Signal(u32, u32),
+    /// The address of a cell, in a ram of so many cells: how many cells there are, and the cell. Cells are counted so
+    /// that the address of an offset in the turn's first sample is the offset.
+    Address(u32, u32),
+}
+
+/// Where the words of a graph are in a turn of an image: what an image is checked by. Nothing is asked of it.
+#[derive(Drop)]
+pub struct Certificate {
+    /// What the issue of each cycle of the turn and each unit comes to: that of cycle c on unit u is at 32 c + u.
+    pub issues: List<Label>,
+    /// What each register holds when a turn starts: register r of port p of unit u is at 1024 u + 256 p + r.
+    pub registers: List<Label>,
+    /// What each cell of a ram holds when a turn starts: cell x of unit u is at 65536 u + x.
+    pub cells: List<Label>,
+}

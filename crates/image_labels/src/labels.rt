@@ -1,0 +1,160 @@
+//! The labels of registers and cells in a cycle of a turn.
+ghost use Rattle.std.specs.Prelude.{◌≡◌, ◌<◌, ◌≤◌, ◌==◌, ◌+◌, ◌*◌, length, find, IsTrue, Some, if◌then◌else◌};
+ghost use Rattle.image_labels.specs.declared.label.Label.{Label as LabelOf};
+ghost use Rattle.micro_image.specs.Fields.{nth};
+ghost use Rattle.image_labels.specs.declared.label.Label.TheVariants.{Unknown, Signal};
+ghost use Rattle.image_labels.specs.Labels.{issue_label as label_of_issue, driven_label as label_of_bus, register_label as label_of_register, operand_label as label_of_operand, cell_label as label_of_cell, stored_label, word_in as word_of, is_address as is_address_of};
+
+use crate::hardware::{delay_on, driver_of, ended_in, issued_in, register_at, take_into, word_in};
+use crate::label::{Certificate, Label};
+use fix_word::Op;
+use lists::List;
+use micro_image::{Image, Issue};
+
+/// Whether a label is of this word.
+pub fn is_signal(label: Label, node: u32, sample: u32) -> bool
+    ensures { IsTrue result → label ≡ Signal node sample }
+{
+    match label {
+        Label::Signal(v, s) => v == node && s == sample,
+        _ => false,
+    }
+}
+
+fn is_address(label: Label, cell: u32) -> bool
+    ensures { result ≡ is_address_of label cell }
+{
+    match label {
+        Label::Address(_, x) => x == cell,
+        _ => false,
+    }
+}
+
+fn label_at(labels: &List<Label>, index: usize) -> Label
+    ensures { result ≡ nth labels.now index Unknown }
+{
+    if index < labels.len() {
+        labels[index]
+    } else {
+        Label::Unknown
+    }
+}
+
+/// The label of an issue.
+pub fn issue_label(certificate: &Certificate, cycle: u16, unit: u32) -> Label
+    ensures { result ≡ label_of_issue certificate.now cycle unit }
+{
+    label_at(&certificate.issues, usize::from(cycle) * 32 + unit as usize)
+}
+
+/// The label that a register starts a turn with.
+pub fn first_register(certificate: &Certificate, unit: u32, port: u32, reg: u32) -> Label
+    ensures { result ≡ nth certificate.now.registers (unit * 1024 + port * 256 + reg) Unknown }
+{
+    label_at(
+        &certificate.registers,
+        unit as usize * 1024 + port as usize * 256 + reg as usize,
+    )
+}
+
+/// The label that a cell starts a turn with.
+pub fn first_cell(certificate: &Certificate, unit: u32, cell: u32) -> Label
+    ensures { result ≡ nth certificate.now.cells (unit * 65536 + cell) Unknown }
+{
+    label_at(&certificate.cells, unit as usize * 65536 + cell as usize)
+}
+
+/// The label of what a bus carries in a cycle.
+fn driven_label(image: &Image, certificate: &Certificate, cycle: u16, bus: u8) -> Label
+    requires { cycle < length image.now.words }
+    ensures { result ≡ label_of_bus image.now certificate.now cycle
+        (find (λ enable. enable.bus == bus) (word_of image.now cycle).enables) }
+{
+    match driver_of(word_in(image, cycle), bus) {
+        Some(driver) => {
+            let unit = u32::from(driver.unit);
+            let delay = u16::from(delay_on(image, unit));
+            issue_label(certificate, cycle.saturating_sub(delay), unit)
+        }
+        None => Label::Unknown,
+    }
+}
+
+/// The label of a register at the start of a cycle.
+pub fn register_label(
+    image: &Image,
+    certificate: &Certificate,
+    unit: u32,
+    port: u32,
+    reg: u32,
+    cycle: u16,
+) -> Label
+    requires { cycle ≤ length image.now.words }
+    ensures { result ≡ label_of_register image.now certificate.now unit port reg cycle }
+{
+    for back in 0..cycle {
+        let before = cycle - back - 1;
+        if let Some(take) = take_into(word_in(image, before), unit, port, reg) {
+            return driven_label(image, certificate, before, take.bus);
+        }
+    }
+    first_register(certificate, unit, port, reg)
+}
+
+/// The label of what an issue of a cycle reads at a port.
+pub fn operand_label(
+    image: &Image,
+    certificate: &Certificate,
+    cycle: u16,
+    issue: &Issue,
+    port: u32,
+) -> Label
+    requires { cycle ≤ length image.now.words }
+    ensures { result ≡ label_of_operand image.now certificate.now cycle issue.now port }
+{
+    let reg = u32::from(register_at(&issue.regs, port));
+    register_label(image, certificate, u32::from(issue.unit), port, reg, cycle)
+}
+
+/// Whether the issue of a cycle stores into a cell.
+fn stores_into(
+    image: &Image,
+    certificate: &Certificate,
+    cycle: u16,
+    issue: &Issue,
+    cell: u32,
+) -> bool
+    requires { cycle ≤ length image.now.words }
+    ensures { (before : LabelOf)
+        → stored_label image.now certificate.now cycle cell (Some issue.now) before
+        ≡ (if result then label_of_operand image.now certificate.now cycle issue.now 1 else before) }
+{
+    match issue.op {
+        Op::Store => is_address(operand_label(image, certificate, cycle, issue, 0), cell),
+        _ => false,
+    }
+}
+
+/// The label of a cell at the start of a cycle.
+pub fn cell_label(
+    image: &Image,
+    certificate: &Certificate,
+    unit: u32,
+    cell: u32,
+    cycle: u16,
+) -> Label
+    requires { cycle ≤ length image.now.words }
+    ensures { result ≡ label_of_cell image.now certificate.now unit cell cycle }
+{
+    let delay = u16::from(delay_on(image, unit));
+    for back in 0..cycle {
+        let before = cycle - back - 1;
+        if let Some(issue) = ended_in(image, before, unit) {
+            let issued = before.saturating_sub(delay);
+            if stores_into(image, certificate, issued, issue, cell) {
+                return operand_label(image, certificate, issued, issue, 1);
+            }
+        }
+    }
+    first_cell(certificate, unit, cell)
+}

@@ -1,0 +1,17 @@
+//! Labels of an image: which words of a graph its registers and cells hold. An image whose labels fit the graph runs the
+//! graph's solution, whoever made it.
+#![tactic(auto)]
+
+mod cycles;
+mod fits;
+mod hardware;
+mod label;
+mod labels;
+mod mismatch;
+mod rows;
+mod starts;
+mod validation;
+
+pub use label::{Certificate, Label};
+pub use mismatch::Mismatch;
+pub use validation::validate;

@@ -1,0 +1,29 @@
+//! Why the labels of an image do not fit a graph.
+
+use thiserror::Error;
+
+/// The first place at which the labels do not fit. Cycles and samples are those of a turn.
+#[derive(Clone, Copy, Debug, PartialEq, Eq, Error)]
+pub enum Mismatch {
+    /// The image puts another count of words than the graph.
+    #[error("the count of output words differs")]
+    Outs,
+    /// The issue of a cycle on a unit is not what its label says, ends in another turn, or meets a busy unit.
+    #[error("cycle {0}: the issue on unit {1} does not fit its label")]
+    Issue(u16, u8),
+    /// A unit drives a bus in a cycle beside another one, or without a result.
+    #[error("cycle {0}: unit {1} drives a bus that is driven, or has no result")]
+    Drive(u16, u8),
+    /// A take from a bus that no unit drives, or beside another take into its file.
+    #[error("cycle {0}: the take from bus {1} has no driver, or is not alone in its file")]
+    Take(u16, u8),
+    /// What a register of a port of a unit starts with, or holds at the end of a turn, is not what its label says.
+    #[error("register {2} of port {1} of unit {0} does not come round")]
+    Register(u32, u32, u32),
+    /// The same of a cell of a ram.
+    #[error("cell {1} of unit {0} does not come round")]
+    Cell(u32, u32),
+    /// An output word that is not put in a sample.
+    #[error("sample {0}: output word {1} is not put")]
+    Row(u8, u8),
+}

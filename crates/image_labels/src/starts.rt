@@ -1,0 +1,203 @@
+//! Whether what registers and cells hold comes round with each turn.
+ghost use Rattle.std.specs.Prelude.{◌≡◌, ◌<◌, ◌≤◌, ◌+◌, ℕ, length, ℤ, IsTrue, OnOk};
+ghost use Rattle.signal_graph.specs.Rules.{word_before as word_before_in};
+ghost use Rattle.signal_graph.specs.GraphSolves.{node_of};
+ghost use Rattle.micro_image.specs.Fields.{unit_of, microprogram_of};
+ghost use Rattle.micro_image.specs.Log.{Register, Cell, initial};
+ghost use Rattle.micro_image.specs.Valid.{IsValid};
+ghost use Rattle.image_labels.specs.Labels.{register_label as label_of_register, cell_label as label_of_cell};
+ghost use Rattle.image_labels.specs.Labelled.{IsWordBefore, IsRegisterStart, IsCellStart};
+
+use crate::hardware::{cell_in, cells_on, initial_cell, initial_register, word_before};
+use crate::label::{Certificate, Label};
+use crate::labels::{cell_label, first_cell, first_register, is_signal, register_label};
+use crate::mismatch::Mismatch;
+use micro_image::Image;
+use signal_graph::Graph;
+
+/// Whether a word is that of a node before the run.
+fn is_before(graph: &Graph, node: u32, sample: u32, word: i64) -> bool
+    ensures { IsTrue result → IsWordBefore graph.now node sample word }
+{
+    let v = node as usize;
+    if v < graph.nodes.len() && 0 < sample && sample < 1024 {
+        word == word_before(&graph.nodes[v].inits, 1024 - sample)
+    } else {
+        false
+    }
+}
+
+fn later(sample: u32, samples: u8) -> u32
+    ensures { sample < 1024 → result ≡ sample + samples }
+{
+    sample.saturating_add(u32::from(samples))
+}
+
+/// Whether a register comes round.
+fn is_register_start(
+    graph: &Graph,
+    image: &Image,
+    certificate: &Certificate,
+    unit: u32,
+    port: u32,
+    reg: u32,
+    turn: u16,
+) -> bool
+    requires { turn ≡ length image.now.words }
+    ensures { IsTrue result
+        → IsRegisterStart graph.now image.now certificate.now turn unit port reg }
+{
+    match first_register(certificate, unit, port, reg) {
+        Label::Unknown => true,
+        Label::Signal(node, sample) => {
+            is_before(
+                graph,
+                node,
+                sample,
+                initial_register(image, unit, port, reg),
+            ) && is_signal(
+                register_label(image, certificate, unit, port, reg, turn),
+                node,
+                later(sample, image.unroll),
+            )
+        }
+        Label::Address(_, _) => false,
+    }
+}
+
+/// Whether a cell comes round.
+fn is_cell_start(
+    graph: &Graph,
+    image: &Image,
+    certificate: &Certificate,
+    unit: u32,
+    cells: u32,
+    cell: u32,
+    turn: u16,
+) -> bool
+    requires turn { turn ≡ length image.now.words }
+    requires cell { cell < cells }
+    ensures { IsTrue result
+        → IsCellStart graph.now image.now certificate.now turn cells unit cell }
+{
+    match first_cell(certificate, unit, cell) {
+        Label::Unknown => true,
+        Label::Signal(node, sample) => {
+            let last = cell_in(cells, u64::from(cell), u16::from(image.unroll)) as u32;
+            is_before(graph, node, sample, initial_cell(image, unit, cell))
+                && is_signal(
+                    cell_label(image, certificate, unit, last, turn),
+                    node,
+                    later(sample, image.unroll),
+                )
+        }
+        Label::Address(_, _) => false,
+    }
+}
+
+fn check_file(
+    graph: &Graph,
+    image: &Image,
+    certificate: &Certificate,
+    unit: u32,
+    port: u32,
+    turn: u16,
+) -> Result<(), Mismatch>
+    requires { turn ≡ length image.now.words }
+    ensures { OnOk result ((r : ℕ)
+        → r < 256
+        → IsRegisterStart graph.now image.now certificate.now turn unit port r) }
+{
+    for reg in 0..256u32 {
+        if !is_register_start(graph, image, certificate, unit, port, reg, turn) {
+            return Err(Mismatch::Register(unit, port, reg));
+        }
+    }
+    Ok(())
+}
+
+fn check_files(
+    graph: &Graph,
+    image: &Image,
+    certificate: &Certificate,
+    unit: u32,
+    turn: u16,
+) -> Result<(), Mismatch>
+    requires { turn ≡ length image.now.words }
+    ensures { OnOk result ((p : ℕ)
+        → p < 3
+        → (r : ℕ)
+        → r < 256
+        → IsRegisterStart graph.now image.now certificate.now turn unit p r) }
+{
+    for port in 0..3u32 {
+        check_file(graph, image, certificate, unit, port, turn)?;
+    }
+    Ok(())
+}
+
+/// Checks what the registers start with, and hold at the end of a turn.
+pub fn check_registers(
+    graph: &Graph,
+    image: &Image,
+    certificate: &Certificate,
+    turn: u16,
+) -> Result<(), Mismatch>
+    requires { turn ≡ length image.now.words }
+    ensures { OnOk result ((u : ℕ)
+        → u < 32
+        → (p : ℕ)
+        → p < 3
+        → (r : ℕ)
+        → r < 256
+        → IsRegisterStart graph.now image.now certificate.now turn u p r) }
+{
+    for unit in 0..32u32 {
+        check_files(graph, image, certificate, unit, turn)?;
+    }
+    Ok(())
+}
+
+fn check_ram(
+    graph: &Graph,
+    image: &Image,
+    certificate: &Certificate,
+    unit: u32,
+    cells: u32,
+    turn: u16,
+) -> Result<(), Mismatch>
+    requires { turn ≡ length image.now.words }
+    ensures { OnOk result ((x : ℕ)
+        → x < cells
+        → IsCellStart graph.now image.now certificate.now turn cells unit x) }
+{
+    for cell in 0..cells {
+        if !is_cell_start(graph, image, certificate, unit, cells, cell, turn) {
+            return Err(Mismatch::Cell(unit, cell));
+        }
+    }
+    Ok(())
+}
+
+/// Checks the same of the cells.
+pub fn check_cells(
+    graph: &Graph,
+    image: &Image,
+    certificate: &Certificate,
+    turn: u16,
+) -> Result<(), Mismatch>
+    requires valid { IsValid image.now }
+    requires turn { turn ≡ length image.now.words }
+    ensures { OnOk result ((u : ℕ)
+        → u < 32
+        → (x : ℕ)
+        → x < length (unit_of (microprogram_of image.now) u).cells
+        → IsCellStart graph.now image.now certificate.now turn
+        (length (unit_of (microprogram_of image.now) u).cells) u x) }
+{
+    for unit in 0..32u32 {
+        let cells = cells_on(image, unit) as u32;
+        check_ram(graph, image, certificate, unit, cells, turn)?;
+    }
+    Ok(())
+}
