@@ -122,7 +122,7 @@ def told_of(case: Case) -> Report | None:
     except Exception:
         # Whatever is wrong here, the command was refused, and what the refusal means is known.
         report = None
-    return report or (case.refusal.report(about="silc") if case.refusal else None)
+    return report or (case.refusal.report(about="silc") if case.known else None)
 
 
 def renamed(report: Report, names: Mapping[str, str]) -> Report:

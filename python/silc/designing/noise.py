@@ -46,10 +46,10 @@ def scaled(row: Sequence[int], shapes: WordShapes, others: WordShapes, file: str
     """A row of words as words of other shapes, with the same values."""
     made = []
     for word, shape, other in zip(row, shapes, others):
-        places = (other.places if other else 0) - (shape.places if shape else 0)
-        if places < 0:
-            raise BadSamples(f"{file}: an input has {other.places} places, and the samples have {shape.places}")
-        made.append(word << places)
+        wanted, given = (each.places if each else 0 for each in (other, shape))
+        if wanted < given:
+            raise BadSamples(f"{file}: an input has {wanted} places, and the samples have {given}")
+        made.append(word << wanted - given)
     return made
 
 
@@ -146,5 +146,5 @@ def silence_after(source: str, word: int, length: int) -> Silence:
         return Silence(0, 1, rows[1:2], last, False)
     # The first sample is the impulse, and a state reaches back over the longest delay.
     start, period = repetition(columns[1:], longest)
-    words = rows[start + 2 : start + 2 + period] if period else []
+    words = rows[start + 2 : start + 2 + period] if period and start is not None else []
     return Silence(start, period, words, last, True)

@@ -6,6 +6,7 @@ from dataclasses import dataclass, field
 from typing import Any, NoReturn, TypeVar
 
 from silc.explaining.text import Token
+from silc.sure import sure
 
 Thing = TypeVar("Thing")
 
@@ -35,6 +36,14 @@ class Node:
     type: Type | None = None
     value: Any = None
 
+    def cast(self) -> Type:
+        """The type of a cast."""
+        return sure(self.type)
+
+    def by(self) -> Node:
+        """The manifest number of a delay, of a shift or of an initial value."""
+        return sure(self.amount)
+
 
 @dataclass
 class Type:
@@ -47,6 +56,10 @@ class Type:
 
     def shape(self) -> tuple[int | None, int]:
         return self.width, self.places
+
+    def bits(self) -> int:
+        """The width of the words of numbers."""
+        return sure(self.width)
 
 
 @dataclass
