@@ -3,7 +3,7 @@ WORDS`."""
 import importlib
 import os
 import sys
-from collections.abc import Callable
+from collections.abc import Callable, Iterable
 
 STOPPED = 130
 
@@ -25,6 +25,28 @@ def ended(name: str, work: Callable[[], int | None], *known: type[Exception]) ->
     except OSError as fault:
         print(f"{name}: {fault.filename or 'standard output'}: {fault.strerror}", file=sys.stderr, flush=True)
     return 1
+
+
+def measured(name: str, work: Callable[[], int | None], source: str, files: Iterable[str]) -> int:
+    """Does the work of a command on a source, and gives its exit status. A line tells a fault behind the source's name,
+    where it begins with none of the other files."""
+    from silc.designing.programs import Unrun, fall_silent
+    from silc.made_files import NotMade
+
+    def placed() -> int:
+        try:
+            status = work() or 0
+            sys.stdout.flush()
+            return status
+        except NotMade:
+            raise
+        except (ValueError, Unrun) as why:
+            raise ValueError(why if str(why).startswith(tuple(files)) else f"{source}: {why}") from why
+    try:
+        return ended(name, placed, ValueError)
+    except BrokenPipeError:
+        fall_silent()
+        return 0
 
 
 def run(name: str, words: list[str] | None = None) -> None:

@@ -15,14 +15,13 @@ without state, which reads nothing with a delay, is done with the impulse. The r
 """
 import argparse
 import math
-import sys
 from pathlib import Path
 
+from silc.commands import measured
 from silc.designing.noise import Noise, Silence, noises, silence_after
-from silc.designing.programs import Unrun, fall_silent
 from silc.designing.samples import samples_in
 from silc.designing.sources import words_of_main
-from silc.made_files import MadeFiles, NotMade, add_force
+from silc.made_files import MadeFiles, add_force
 from silc.pictures.spectrum import draw_spectra
 
 # As many words of a limit cycle are shown.
@@ -118,19 +117,5 @@ def options_of(words: list[str]) -> argparse.Namespace:
 def main(words: list[str]) -> int:
     options = options_of(words)
     files = [str(file) for file in (options.samples, options.against) if file]
-    try:
-        falls_silent(options) if options.zero_input else compare(options)
-        sys.stdout.flush()
-    except NotMade as why:
-        print(f"noise: {why}", file=sys.stderr)
-        return 1
-    except (ValueError, Unrun) as why:
-        print(f"noise: {why}" if str(why).startswith(tuple(files)) else f"noise: {options.source}: {why}",
-              file=sys.stderr)
-        return 1
-    except BrokenPipeError:
-        fall_silent()
-    except OSError as fault:
-        print(f"noise: {fault.filename}: {fault.strerror}", file=sys.stderr)
-        return 1
-    return 0
+    return measured("noise", lambda: falls_silent(options) if options.zero_input else compare(options),
+                    options.source, files)

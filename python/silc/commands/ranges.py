@@ -35,15 +35,15 @@ With --json the table is a line of JSON (docs/PYTHON.md).
 """
 import argparse
 import json
-import sys
 from pathlib import Path
 
-from silc.designing.programs import Unrun, fall_silent, text_of
+from silc.commands import measured
+from silc.designing.programs import text_of
 from silc.designing.ranges import Range, ranges_in, ranges_on
 from silc.designing.samples import samples_in
 from silc.designing.sources import words_of_main
 from silc.designing.worst import SECONDS, chosen, worst_of
-from silc.made_files import MadeFiles, NotMade, add_force
+from silc.made_files import MadeFiles, add_force
 from silc.pictures.ranges import draw_ranges
 
 HEAD = ("element", "shape", "words", "values", "bits", "left", "range", "")
@@ -150,21 +150,4 @@ def options_of(words: list[str]) -> argparse.Namespace:
 
 def main(words: list[str]) -> int:
     options = options_of(words)
-    try:
-        status = make(options)
-        sys.stdout.flush()
-        return status
-    except NotMade as why:
-        print(f"ranges: {why}", file=sys.stderr)
-        return 1
-    except (ValueError, Unrun) as why:
-        said = str(why)
-        print(f"ranges: {said}" if said.startswith(str(options.samples)) else f"ranges: {options.source}: {said}",
-              file=sys.stderr)
-        return 1
-    except BrokenPipeError:
-        fall_silent()
-    except OSError as fault:
-        print(f"ranges: {fault.filename}: {fault.strerror}", file=sys.stderr)
-        return 1
-    return 0
+    return measured("ranges", lambda: make(options), options.source, [options.samples] if options.samples else [])

@@ -3,6 +3,7 @@ import re
 import tomllib
 from collections.abc import Iterator
 from dataclasses import dataclass
+from pathlib import Path
 from typing import Any, TypeAlias
 
 from silc.micro_file.image import Image
@@ -113,3 +114,13 @@ def names_of(text: str, image: Image) -> Names:
     if fault:
         raise NoCore(f"it is not the datapath of the microcode: {fault}")
     return made
+
+
+def names_of_file(file: str, image: Image) -> Names:
+    """The names of a datapath file for the image; NoCore names the file where it is not that of its hardware."""
+    try:
+        return names_of(Path(file).read_text(), image)
+    except UnicodeDecodeError as why:
+        raise NoCore(f"{file}: it is no text") from why
+    except NoCore as why:
+        raise NoCore(f"{file}: {why}") from why
