@@ -17,7 +17,7 @@ from silc.explaining.program import element_name
 from silc.explaining.text import Text
 from silc.programs import SHOW, SILC
 from silc.refused import ROWS, File, explained
-from silc.running import STDIN, STDOUT, Ended, ran, streamed
+from silc.running import STDIN, STDOUT, Ended, Word, placed, ran, streamed
 from silc.words import Port, Reader, Rows, Type, is_array, pieces_of, quantised, scaled, text_of, tuples
 
 if TYPE_CHECKING:
@@ -29,6 +29,8 @@ if TYPE_CHECKING:
     from silc.response import Response
 
 MODE = re.compile(r",([a-z,]+)>")
+# The number of a row in a line about samples.
+ROW = re.compile(r"(samples line )(\d+)")
 UNNAMED = "source.sil"
 
 
@@ -62,7 +64,7 @@ class Source:
         self.name = os.fspath(file) if file is not None else UNNAMED
         self.silc = SILC.found(silc)
         self._show = show
-        answer = ran(self.silc, ["eval", self.content, STDIN, STDOUT])
+        answer = ran(self.silc, self._eval)
         if answer.status:
             self._refuse("eval", answer.status, answer.said)
         sys.setrecursionlimit(max(DEPTH, sys.getrecursionlimit()))
@@ -88,10 +90,12 @@ class Source:
         given = quantised(x, self._types(self.inputs)) if real else x
         reader = Reader(len(self.outputs), is_array(given))
         try:
-            for piece in streamed(self.silc, ["eval", self.content, STDIN, STDOUT], pieces_of(given, len(self.inputs))):
+            for piece in streamed(self.silc, self._eval, pieces_of(given, len(self.inputs))):
                 reader.add(piece)
         except Ended as why:
-            self._refuse("eval", why.status, why.said, text_of(given, len(self.inputs)))
+            text = text_of(given, len(self.inputs))
+            why = placed(self.silc, self._eval, why, text)
+            self._refuse("eval", why.status, why.said, text)
         rows = reader.rows()
         return scaled(rows, self._types(self.outputs)) if real else rows
 
@@ -99,11 +103,12 @@ class Source:
         """The output rows of each block of rows, before the next block is asked for: one process for all, in memory
         that does not grow. Blocks and `real` are as in `evaluate`, and so are the answers."""
         waiting: queue.SimpleQueue[bytes | None] = queue.SimpleQueue()
-        pieces = streamed(self.silc, ["eval", self.content, STDIN, STDOUT], iter(waiting.get, None))
+        pieces, given, done = streamed(self.silc, self._eval, iter(waiting.get, None)), [], 0
         try:
             for block in blocks:
                 given = quantised(block, self._types(self.inputs)) if real else block
-                waiting.put(text_of(given, len(self.inputs)))
+                for text in pieces_of(given, len(self.inputs)):
+                    waiting.put(text)
                 reader, left = Reader(len(self.outputs), is_array(given)), len(given)
                 while left:
                     piece = next(pieces)
@@ -111,11 +116,13 @@ class Source:
                     left -= piece.count(b"\n")
                 rows = reader.rows()
                 yield scaled(rows, self._types(self.outputs)) if real else rows
+                done += len(given)
             waiting.put(None)
             for _ in pieces:
                 pass
         except Ended as why:
-            self._refuse("eval", why.status, why.said)
+            why = placed(self.silc, self._eval, why, text_of(given, len(self.inputs)))
+            self._refuse("eval", why.status, ROW.sub(lambda found: f"{found[1]}{done + int(found[2])}", why.said))
         finally:
             waiting.put(None)
             pieces.close()
@@ -209,6 +216,11 @@ class Source:
         from silc.exploring.exploration import explored
         return explored(self, template, jobs)
 
+    @property
+    def _eval(self) -> list[Word]:
+        """The words of the command that evaluates it from stream to stream."""
+        return ["eval", self.content, STDIN, STDOUT]
+
     def _types(self, ports: Sequence[Port]) -> list[Type]:
         return [port.type for port in ports]
 
@@ -224,7 +236,7 @@ class Source:
         answer = ran(SHOW.found(self._show), ["values", self.content, text_of(x, len(self.inputs))])
         said = answer.out.decode("latin-1")
         if answer.status or fault_in(said):
-            checked = ran(self.silc, ["eval", self.content, STDIN, STDOUT], text_of(x, len(self.inputs)))
+            checked = ran(self.silc, self._eval, text_of(x, len(self.inputs)))
             self._refuse("eval", checked.status or answer.status, checked.said or said.strip() or answer.said,
                          text_of(x, len(self.inputs)))
         return elements_in(said)
