@@ -15,7 +15,7 @@ Word = str | bytes
 STDIN, STDOUT = "/dev/stdin", "/dev/stdout"
 # As many bytes a pipe holds where the host lets it, and are read at a time.
 PIECE = 1 << 20
-SET_PIPE_SIZE = getattr(fcntl, "F_SETPIPE_SZ", None)
+SET_PIPE_SIZE: int | None = getattr(fcntl, "F_SETPIPE_SZ", None)
 
 
 class Answer(NamedTuple):
@@ -121,9 +121,10 @@ def placed(program: str, words: Sequence[Word], why: Ended, text: bytes) -> Ende
 
 def widen(*pipes: Any) -> None:
     """Lets pipes hold more, so that their ends wait for one another less."""
-    for pipe in pipes if SET_PIPE_SIZE is not None else ():
+    for pipe in pipes:
         try:
-            fcntl.fcntl(pipe, SET_PIPE_SIZE, PIECE)
+            if SET_PIPE_SIZE is not None:
+                fcntl.fcntl(pipe, SET_PIPE_SIZE, PIECE)
         except OSError:
             # The host gives no more to this user.
             pass

@@ -15,6 +15,8 @@ from silc.explaining.grammar import Decl
 from silc.explaining.program import Source as Program
 from silc.explaining.program import element_name
 from silc.explaining.text import Text
+from silc.linking.opening import opened
+from silc.linking.places import Unlinked
 from silc.programs import SHOW, SILC
 from silc.refused import ROWS, File, explained
 from silc.running import STDIN, STDOUT, Ended, Word, placed, ran, streamed
@@ -24,6 +26,7 @@ if TYPE_CHECKING:
     from silc.exploring.exploration import Exploration
     from silc.designing.noise import Noise
     from silc.designing.ranges import Range
+    from silc.linking.told import Told
     from silc.microcode import Microcode
     from silc.plan import Plan
     from silc.response import Response
@@ -50,10 +53,14 @@ class Source:
 
     `file` is the name of one, or `text` its text. It is read once, here, and `Refused` tells its first fault with the
     line, the column and the cure. `silc` and `show` name other programs than those that are found (docs/PYTHON.md).
+
+    One that begins with `use` or `let` is linked first (docs/LIBRARY.md), with blocks of the folders `library` before
+    those of library/. What is said of it is told at its own places, or at those of a block; `text` is what is linked.
     """
 
     def __init__(self, file: str | os.PathLike[str] | None = None, *, text: str | bytes | None = None,
-                 silc: str | os.PathLike[str] | None = None, show: str | os.PathLike[str] | None = None) -> None:
+                 silc: str | os.PathLike[str] | None = None, show: str | os.PathLike[str] | None = None,
+                 library: Iterable[str | os.PathLike[str]] = ()) -> None:
         if (file is None) == (text is None):
             raise TypeError("a source has a file, or a text")
         if file is not None:
@@ -62,7 +69,10 @@ class Source:
         else:
             self.content = text if isinstance(text, bytes) else str(text).encode()
         self.name = os.fspath(file) if file is not None else UNNAMED
-        self.silc = SILC.found(silc)
+        self.told = told_by(self.name, self.content, library)
+        if self.told:
+            self.content = self.told.text.data
+        self.silc: str = SILC.found(silc)
         self._show = show
         answer = ran(self.silc, self._eval)
         if answer.status:
@@ -76,8 +86,13 @@ class Source:
         return f"<Source {self.name}: {', '.join(map(str, self.inputs))} -> {', '.join(map(str, self.outputs))}>"
 
     @property
+    def blocks(self) -> list[str]:
+        """The files of the blocks that are linked into it."""
+        return [block.file.name for block in self.told.linked.blocks] if self.told else []
+
+    @property
     def text(self) -> str:
-        """The text of the source."""
+        """The text of the source, as it is linked."""
         return self.content.decode("latin-1")
 
     def evaluate(self, x: Rows, real: bool = False) -> Rows:
@@ -203,7 +218,11 @@ class Source:
         if isinstance(against, Source):
             reference = against._values_of(rows, self.inputs)
         elif isinstance(against, (str, os.PathLike)):
-            reference = reference_rows(against, rows, inputs, outputs)
+            try:
+                reference = reference_rows(against, rows, inputs, outputs)
+            except Unlinked as fault:
+                from silc.linking.told import refused_unlinked
+                raise refused_unlinked(fault) from None
         else:
             reference = real_rows(against, len(outputs))
         own = values(tuples(self.evaluate(x), len(outputs)), outputs)
@@ -244,7 +263,16 @@ class Source:
     def _refuse(self, command: str, status: int, said: str, samples: bytes = b"") -> NoReturn:
         """Raises why a command on this source was refused."""
         files = {"SRC": File(self.name, self.content), "SAMPLES": File(ROWS, samples)}
-        raise explained(command, files, ["SRC", "SAMPLES", "OUT"], status, said, self.silc) from None
+        raise explained(command, files, ["SRC", "SAMPLES", "OUT"], status, said, self.silc, self.told) from None
+
+
+def told_by(name: str, content: bytes, library: Iterable[str | os.PathLike[str]]) -> Told | None:
+    """A source that is to be linked, as it is told; nothing of a plain one. `Refused` tells what can't be linked."""
+    try:
+        return opened(name, content, [os.fspath(folder) for folder in library])
+    except Unlinked as fault:
+        from silc.linking.told import refused_unlinked
+        raise refused_unlinked(fault) from None
 
 
 def real_rows(rows: Rows, columns: int) -> list[tuple[float, ...]]:

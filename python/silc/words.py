@@ -169,7 +169,7 @@ def aligned_text(words: Any, columns: int) -> bytes:
     width = is_signed + digits + 1
     # What stands before the first row is written to, and is none of it.
     room = module.empty(AT_ONCE - 1 + count * width, dtype=module.uint8)
-    parts = []
+    parts: list[Any] = []
     while digits > AT_ONCE * (len(parts) + 1):
         above = most // 10**AT_ONCE
         parts.append(most - above * 10**AT_ONCE)
@@ -227,7 +227,7 @@ def numbers_in(text: str) -> list[int]:
 
 
 class Reader:
-    """Text of rows that becomes words, as an array or as a list."""
+    """Text of rows that a program writes, which becomes words, as an array or as a list."""
 
     def __init__(self, columns: int, wants_array: bool) -> None:
         self.columns, self.numpy, self.wants_array = columns, numpy(), wants_array
@@ -235,7 +235,7 @@ class Reader:
         self.size = 0
         # The words so far: arrays, or a list.
         self.parts: list[Any] = []
-        self.flat: list[int] = []
+        self.flat: list[Any] = []
 
     def add(self, piece: bytes) -> None:
         """Takes a piece of text, wherever it is cut."""
@@ -251,7 +251,8 @@ class Reader:
         if end and self.wants_array:
             self.parts.append(self.array_of(text[:end]))
         elif end:
-            self.flat += self.array_of(text[:end]).tolist() if self.numpy else numbers_in(text[:end - 1].decode("ascii"))
+            self.flat += self.array_of(text[:end]).tolist() if self.numpy else \
+                numbers_in(text[:end - 1].decode("ascii"))
         self.left, self.size = [text[end:]], len(text) - end
 
     def array_of(self, text: bytes) -> Any:
@@ -271,7 +272,7 @@ class Reader:
 
 
 def rows_of(text: bytes, columns: int, wants_array: bool) -> Rows:
-    """The rows of a text, as an array or as a list."""
+    """The rows of a text that a program has written, as an array or as a list."""
     reader = Reader(columns, wants_array)
     reader.add(text)
     return reader.rows()

@@ -1,5 +1,6 @@
 """The commands over the package, a module each: `tools/NAME WORDS` of the checkout, and `python3 -m silc NAME
 WORDS`."""
+import argparse
 import importlib
 import os
 import sys
@@ -31,6 +32,8 @@ def measured(name: str, work: Callable[[], int | None], source: str, files: Iter
     """Does the work of a command on a source, and gives its exit status. A line tells a fault behind the source's name,
     where it begins with none of the other files."""
     from silc.designing.programs import Unrun, fall_silent
+    from silc.linking.checked import Unable
+    from silc.linking.places import Unlinked
     from silc.made_files import NotMade
 
     def placed() -> int:
@@ -43,10 +46,15 @@ def measured(name: str, work: Callable[[], int | None], source: str, files: Iter
         except (ValueError, Unrun) as why:
             raise ValueError(why if str(why).startswith(tuple(files)) else f"{source}: {why}") from why
     try:
-        return ended(name, placed, ValueError)
+        return ended(name, placed, ValueError, Unlinked, Unable)
     except BrokenPipeError:
         fall_silent()
         return 0
+
+
+def add_library(parser: argparse.ArgumentParser) -> None:
+    """The option that names a folder of blocks, which come before those of library/."""
+    parser.add_argument("--library", metavar="FOLDER", action="append", default=[])
 
 
 def run(name: str, words: list[str] | None = None) -> None:
