@@ -92,7 +92,8 @@ def check_strangers(room: Room) -> None:
     (room.folder / "strange" / "SHA256SUMS").write_text("of the user\n")
     done, made = room.release("strange")
     room.expect(done.returncode == 1 and "--force writes over it" in done.stderr
-                and made == {"SHA256SUMS": b"of the user\n"}, f"a user's file: {done.returncode} {done.stderr!r} {set(made)}")
+                and made == {"SHA256SUMS": b"of the user\n"},
+                f"a user's file: {done.returncode} {done.stderr!r} {set(made)}")
 
 
 def check_bytes(room: Room) -> None:
