@@ -28,7 +28,8 @@ SECONDS = 120
 INPUTS = {"eq.sil": EXAMPLE / "biquads.sil", "dp.toml": EXAMPLE / "one_multiplier.toml",
           "samples": EXAMPLE / "samples.txt", "core.mic": ROOT / "tests" / "increment" / "add-8-1.mic",
           "core.toml": ROOT / "examples" / "increment" / "plain.toml", "eq2.sil": EXAMPLE / "biquads.sil",
-          "voice.sil": ROOT / "examples" / "voice" / "voice.blocks", "impulse.rows": ROOT / "docs" / "pictures" / "biquads.rows"}
+          "voice.sil": ROOT / "examples" / "voice" / "voice.blocks",
+          "impulse.rows": ROOT / "docs" / "pictures" / "biquads.rows"}
 TEXTS = {"taps": "0.25\n0.5\n0.25\n", "few": "0\n1\n2\n", "pairs": "1,2\n-3,4\n"}
 
 
@@ -60,7 +61,8 @@ TOOLS = [
     Tool("link voice.sil -o OUT", ("voice.sil",), ("silc",)),
     Tool("ranges eq.sil samples --picture OUT", ("eq.sil", "samples"), ("silc", "silc_show")),
     Tool("ranges --worst eq.sil --worst-input OUT", ("eq.sil",), ("silc", "silc_show")),
-    Tool("noise eq.sil samples --against eq2.sil --picture OUT", ("eq.sil", "samples", "eq2.sil"), ("silc", "silc_show")),
+    Tool("noise eq.sil samples --against eq2.sil --picture OUT", ("eq.sil", "samples", "eq2.sil"),
+         ("silc", "silc_show")),
     Tool("vcd core.mic core.toml few OUT", ("core.mic", "core.toml", "few"), ("silc_show",)),
 ]
 
