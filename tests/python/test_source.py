@@ -204,7 +204,7 @@ class Refusals(unittest.TestCase):
     def test_the_row_and_the_byte_in_a_stream(self) -> None:
         stream = silc.Source(text=INCREMENT).stream([[1, -100], [3, -4], [100, 5, 1000]])
         self.assertEqual([next(stream), next(stream)], [[2, -99], [4, -3]])
-        self.assertEqual(self.refused(lambda: next(stream)).said, "samples line 7 byte 0")
+        self.assertEqual(self.refused(lambda: next(stream)).said, "samples line 7 byte 3")
 
     def test_rows_of_inner_words(self) -> None:
         self.assertEqual(self.refused(lambda: silc.Source(text=INCREMENT).values([128])).status, 11)
