@@ -77,9 +77,9 @@ _silc_options='explain --datapath=*.toml --edits --json --library=/ --page --pla
 check --all --library=/ --warn
 draw --check --db=- --folder=/ --force --frequencies=- --library=/ --out=*.svg --range=- --rate=-
 design --attenuation=- --band=- --dither=- --edge=- --force --form=df1|df2t|lattice --gains=- --input=- --limit --norm=l1|l2|peak|none --order=up|down|given --out=* --rate=- --ripple=- --rounding=nearest|down|zero --seconds=- --shape=- --signal=- --single --stereo --taps=- --weights=- --width=-
-ranges --all --element=- --force --json --picture=* --seconds=- --worst --worst-input=* --wraps=-
-values --json
-noise --against=* --force --impulse=- --picture=* --zero-input=-
+ranges --all --element=- --force --json --library=/ --picture=* --seconds=- --worst --worst-input=* --wraps=-
+values --json --library=/
+noise --against=* --force --impulse=- --library=/ --picture=* --zero-input=-
 explore --against=* --area=ice40|xilinx|ecp5 --best=- --clock=- --dsp --force --jobs=- --json --library=/ --out=- --pool --samples=* --sshlogin=- --stages=-
 link --check=*.sil --force --library=/ --pages --test --where=-
 rows --bits=16|24|32 --columns=- --force

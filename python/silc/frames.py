@@ -31,6 +31,7 @@ def framed(source: Source, name: str, datapath: bytes, phases: int, down: Collec
     answer = ran(source.silc, ["frame", source.content, datapath, *rates, STDOUT])
     if answer.status:
         files = {"SRC": File(source.name, source.content), "DP": File(name, datapath)}
-        raise explained("frame", files, ["SRC", "DP", *rates, "OUT"], answer.status, answer.said, source.silc) from None
+        raise explained("frame", files, ["SRC", "DP", *rates, "OUT"], answer.status, answer.said, source.silc,
+                        source.told) from None
     origin = Origin(frame_ports(source.inputs, phases, up), frame_ports(source.outputs, phases, down), datapath)
     return Microcode(answer.out, origin=origin, silc=source.silc)

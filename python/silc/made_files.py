@@ -99,9 +99,10 @@ def mask() -> int:
     return own
 
 
-def put_whole(target: Path, content: bytes) -> None:
-    with whole(target) as file:
-        file.write(content)
+def put_whole(target: Path, content: str | bytes) -> None:
+    """Makes a file that a tool keeps, as a page of the docs, whoever wrote what is there."""
+    with whole(Path(os.path.realpath(target))) as file:
+        file.write(content.encode() if isinstance(content, str) else content)
 
 
 class MadeFiles:

@@ -16,7 +16,7 @@ from silc.micro_file import image_of
 from silc.micro_file.image import MOST_WORDS, Image
 from silc.programs import PACKAGE, SILC
 from silc.refused import ROWS, File, explained
-from silc.running import STDIN, STDOUT, Ended, ran, streamed
+from silc.running import STDIN, STDOUT, Ended, Word, placed, ran, streamed
 from silc.words import Port, Reader, Rows, Type, is_array, pieces_of, quantised, scaled, text_of
 
 if TYPE_CHECKING:
@@ -73,11 +73,14 @@ class Microcode:
             raise TypeError("values are known of microcode that a plan or a source has made")
         given = quantised(x, self._types("inputs")) if real else x
         columns, reader = len(self.image.inputs), Reader(self.image.outputs, is_array(given))
+        command: list[Word] = ["sim", self.data, STDIN, STDOUT]
         try:
-            for piece in streamed(self.silc, ["sim", self.data, STDIN, STDOUT], pieces_of(given, columns)):
+            for piece in streamed(self.silc, command, pieces_of(given, columns)):
                 reader.add(piece)
         except Ended as why:
-            self._refuse("sim", ["MIC", "SAMPLES", "OUT"], why.status, why.said, text_of(given, columns))
+            text = text_of(given, columns)
+            why = placed(self.silc, command, why, text)
+            self._refuse("sim", ["MIC", "SAMPLES", "OUT"], why.status, why.said, text)
         rows = reader.rows()
         return scaled(rows, self._types("outputs")) if real else rows
 

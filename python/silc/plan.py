@@ -124,11 +124,12 @@ class Plan:
         if not SHOW.is_there():
             return None
         nodes = nodes_of(ran(SHOW.place(), ["origins", self.source.content, self.content]).out.decode("latin-1"))
-        return {node.number: node for node in nodes} or None
+        told = self.source.told
+        return {node.number: told.node(node) if told else node for node in nodes} or None
 
     def _refuse(self, command: str, words: list[str], status: int, said: str) -> NoReturn:
         files = {"SRC": File(self.source.name, self.source.content), "DP": File(self.name, self.content)}
-        raise explained(command, files, words, status, said, self.source.silc) from None
+        raise explained(command, files, words, status, said, self.source.silc, self.source.told) from None
 
 
 def plan_as_json(plan: Any) -> dict[str, Any]:

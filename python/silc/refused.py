@@ -7,11 +7,14 @@ import tempfile
 from collections.abc import Callable, Mapping, Sequence
 from dataclasses import asdict, dataclass, replace
 from functools import cached_property
-from typing import Any
+from typing import TYPE_CHECKING, Any
 
 from silc.explaining.command import DEPTH, Case, report_of
 from silc.explaining.report import Report, lines_of
 from silc.explaining.text import Edit, Span
+
+if TYPE_CHECKING:
+    from silc.linking.told import Told
 
 PREFIX = "silc: "
 # What rows are called that no file has.
@@ -94,9 +97,13 @@ class Refused(Exception):
 
 
 def explained(command: str, files: Mapping[str, File], words: Sequence[str], status: int, said: str,
-              silc: str) -> Refused:
-    """The refusal of a command, whose words `words` are, with a role of `files` in the place of each file."""
-    return Refused(status, said, lambda: report_on(command, files, words, status, said, silc))
+              silc: str, told: Told | None = None) -> Refused:
+    """The refusal of a command, whose words `words` are, with a role of `files` in the place of each file. Of a source
+    that is linked, which `told` is, places are those of the files that it is made of."""
+    def look() -> Report | None:
+        report = report_on(command, files, words, status, said, silc)
+        return told.reported(status, report) if told else report
+    return Refused(status, told.said(PREFIX + said.removeprefix(PREFIX)) if told else said, look)
 
 
 def report_on(command: str, files: Mapping[str, File], words: Sequence[str], status: int, said: str,
@@ -122,7 +129,7 @@ def told_of(case: Case) -> Report | None:
     except Exception:
         # Whatever is wrong here, the command was refused, and what the refusal means is known.
         report = None
-    return report or (case.refusal.report(about="silc") if case.refusal else None)
+    return report or (case.refusal.report(about="silc") if case.known else None)
 
 
 def renamed(report: Report, names: Mapping[str, str]) -> Report:

@@ -2,6 +2,7 @@
 memory."""
 from __future__ import annotations
 
+import fcntl
 import os
 import subprocess
 import threading
@@ -12,7 +13,9 @@ from typing import IO, Any, NamedTuple
 # A word of a command, or the content of a file that stands in its place.
 Word = str | bytes
 STDIN, STDOUT = "/dev/stdin", "/dev/stdout"
+# As many bytes a pipe holds where the host lets it, and are read at a time.
 PIECE = 1 << 20
+SET_PIPE_SIZE: int | None = getattr(fcntl, "F_SETPIPE_SZ", None)
 
 
 class Answer(NamedTuple):
@@ -88,6 +91,7 @@ def streamed(program: str, words: Sequence[Word], pieces: Iterable[bytes]) -> Ge
                                                             stdout=subprocess.PIPE,
                                                             stderr=subprocess.PIPE, pass_fds=held)
     to, out, said = pipes_of(process)
+    widen(to, out)
     feeder = Feeder(to, pieces)
     feeder.start()
     try:
@@ -106,6 +110,24 @@ def streamed(program: str, words: Sequence[Word], pieces: Iterable[bytes]) -> Ge
     feeder.join()
     if feeder.fault:
         raise feeder.fault
+
+
+def placed(program: str, words: Sequence[Word], why: Ended, text: bytes) -> Ended:
+    """How a program ends on rows in the form of a file that is written, so that the bytes it tells are those of this
+    text; `why` where it takes them."""
+    again = ran(program, words, text)
+    return Ended(again.status, again.said) if again.status else why
+
+
+def widen(*pipes: Any) -> None:
+    """Lets pipes hold more, so that their ends wait for one another less."""
+    for pipe in pipes:
+        try:
+            if SET_PIPE_SIZE is not None:
+                fcntl.fcntl(pipe, SET_PIPE_SIZE, PIECE)
+        except OSError:
+            # The host gives no more to this user.
+            pass
 
 
 def pipes_of(process: subprocess.Popen[bytes]) -> tuple[IO[bytes], Any, IO[bytes]]:

@@ -15,20 +15,25 @@ from silc.explaining.grammar import Decl
 from silc.explaining.program import Source as Program
 from silc.explaining.program import element_name
 from silc.explaining.text import Text
+from silc.linking.opening import opened
+from silc.linking.places import Unlinked
 from silc.programs import SHOW, SILC
 from silc.refused import ROWS, File, explained
-from silc.running import STDIN, STDOUT, Ended, ran, streamed
+from silc.running import STDIN, STDOUT, Ended, Word, placed, ran, streamed
 from silc.words import Port, Reader, Rows, Type, is_array, pieces_of, quantised, scaled, text_of, tuples
 
 if TYPE_CHECKING:
     from silc.exploring.exploration import Exploration
     from silc.designing.noise import Noise
     from silc.designing.ranges import Range
+    from silc.linking.told import Told
     from silc.microcode import Microcode
     from silc.plan import Plan
     from silc.response import Response
 
 MODE = re.compile(r",([a-z,]+)>")
+# The number of a row in a line about samples.
+ROW = re.compile(r"(samples line )(\d+)")
 UNNAMED = "source.sil"
 
 
@@ -48,10 +53,14 @@ class Source:
 
     `file` is the name of one, or `text` its text. It is read once, here, and `Refused` tells its first fault with the
     line, the column and the cure. `silc` and `show` name other programs than those that are found (docs/PYTHON.md).
+
+    One that begins with `use` or `let` is linked first (docs/LIBRARY.md), with blocks of the folders `library` before
+    those of library/. What is said of it is told at its own places, or at those of a block; `text` is what is linked.
     """
 
     def __init__(self, file: str | os.PathLike[str] | None = None, *, text: str | bytes | None = None,
-                 silc: str | os.PathLike[str] | None = None, show: str | os.PathLike[str] | None = None) -> None:
+                 silc: str | os.PathLike[str] | None = None, show: str | os.PathLike[str] | None = None,
+                 library: Iterable[str | os.PathLike[str]] = ()) -> None:
         if (file is None) == (text is None):
             raise TypeError("a source has a file, or a text")
         if file is not None:
@@ -60,9 +69,12 @@ class Source:
         else:
             self.content = text if isinstance(text, bytes) else str(text).encode()
         self.name = os.fspath(file) if file is not None else UNNAMED
-        self.silc = SILC.found(silc)
+        self.told = told_by(self.name, self.content, library)
+        if self.told:
+            self.content = self.told.text.data
+        self.silc: str = SILC.found(silc)
         self._show = show
-        answer = ran(self.silc, ["eval", self.content, STDIN, STDOUT])
+        answer = ran(self.silc, self._eval)
         if answer.status:
             self._refuse("eval", answer.status, answer.said)
         sys.setrecursionlimit(max(DEPTH, sys.getrecursionlimit()))
@@ -74,8 +86,13 @@ class Source:
         return f"<Source {self.name}: {', '.join(map(str, self.inputs))} -> {', '.join(map(str, self.outputs))}>"
 
     @property
+    def blocks(self) -> list[str]:
+        """The files of the blocks that are linked into it."""
+        return [block.file.name for block in self.told.linked.blocks] if self.told else []
+
+    @property
     def text(self) -> str:
-        """The text of the source."""
+        """The text of the source, as it is linked."""
         return self.content.decode("latin-1")
 
     def evaluate(self, x: Rows, real: bool = False) -> Rows:
@@ -88,10 +105,12 @@ class Source:
         given = quantised(x, self._types(self.inputs)) if real else x
         reader = Reader(len(self.outputs), is_array(given))
         try:
-            for piece in streamed(self.silc, ["eval", self.content, STDIN, STDOUT], pieces_of(given, len(self.inputs))):
+            for piece in streamed(self.silc, self._eval, pieces_of(given, len(self.inputs))):
                 reader.add(piece)
         except Ended as why:
-            self._refuse("eval", why.status, why.said, text_of(given, len(self.inputs)))
+            text = text_of(given, len(self.inputs))
+            why = placed(self.silc, self._eval, why, text)
+            self._refuse("eval", why.status, why.said, text)
         rows = reader.rows()
         return scaled(rows, self._types(self.outputs)) if real else rows
 
@@ -99,11 +118,12 @@ class Source:
         """The output rows of each block of rows, before the next block is asked for: one process for all, in memory
         that does not grow. Blocks and `real` are as in `evaluate`, and so are the answers."""
         waiting: queue.SimpleQueue[bytes | None] = queue.SimpleQueue()
-        pieces = streamed(self.silc, ["eval", self.content, STDIN, STDOUT], iter(waiting.get, None))
+        pieces, given, done = streamed(self.silc, self._eval, iter(waiting.get, None)), [], 0
         try:
             for block in blocks:
                 given = quantised(block, self._types(self.inputs)) if real else block
-                waiting.put(text_of(given, len(self.inputs)))
+                for text in pieces_of(given, len(self.inputs)):
+                    waiting.put(text)
                 reader, left = Reader(len(self.outputs), is_array(given)), len(given)
                 while left:
                     piece = next(pieces)
@@ -111,11 +131,13 @@ class Source:
                     left -= piece.count(b"\n")
                 rows = reader.rows()
                 yield scaled(rows, self._types(self.outputs)) if real else rows
+                done += len(given)
             waiting.put(None)
             for _ in pieces:
                 pass
         except Ended as why:
-            self._refuse("eval", why.status, why.said)
+            why = placed(self.silc, self._eval, why, text_of(given, len(self.inputs)))
+            self._refuse("eval", why.status, ROW.sub(lambda found: f"{found[1]}{done + int(found[2])}", why.said))
         finally:
             waiting.put(None)
             pieces.close()
@@ -196,7 +218,11 @@ class Source:
         if isinstance(against, Source):
             reference = against._values_of(rows, self.inputs)
         elif isinstance(against, (str, os.PathLike)):
-            reference = reference_rows(against, rows, inputs, outputs)
+            try:
+                reference = reference_rows(against, rows, inputs, outputs)
+            except Unlinked as fault:
+                from silc.linking.told import refused_unlinked
+                raise refused_unlinked(fault) from None
         else:
             reference = real_rows(against, len(outputs))
         own = values(tuples(self.evaluate(x), len(outputs)), outputs)
@@ -208,6 +234,11 @@ class Source:
         hardware, or why it is refused."""
         from silc.exploring.exploration import explored
         return explored(self, template, jobs)
+
+    @property
+    def _eval(self) -> list[Word]:
+        """The words of the command that evaluates it from stream to stream."""
+        return ["eval", self.content, STDIN, STDOUT]
 
     def _types(self, ports: Sequence[Port]) -> list[Type]:
         return [port.type for port in ports]
@@ -224,7 +255,7 @@ class Source:
         answer = ran(SHOW.found(self._show), ["values", self.content, text_of(x, len(self.inputs))])
         said = answer.out.decode("latin-1")
         if answer.status or fault_in(said):
-            checked = ran(self.silc, ["eval", self.content, STDIN, STDOUT], text_of(x, len(self.inputs)))
+            checked = ran(self.silc, self._eval, text_of(x, len(self.inputs)))
             self._refuse("eval", checked.status or answer.status, checked.said or said.strip() or answer.said,
                          text_of(x, len(self.inputs)))
         return elements_in(said)
@@ -232,7 +263,16 @@ class Source:
     def _refuse(self, command: str, status: int, said: str, samples: bytes = b"") -> NoReturn:
         """Raises why a command on this source was refused."""
         files = {"SRC": File(self.name, self.content), "SAMPLES": File(ROWS, samples)}
-        raise explained(command, files, ["SRC", "SAMPLES", "OUT"], status, said, self.silc) from None
+        raise explained(command, files, ["SRC", "SAMPLES", "OUT"], status, said, self.silc, self.told) from None
+
+
+def told_by(name: str, content: bytes, library: Iterable[str | os.PathLike[str]]) -> Told | None:
+    """A source that is to be linked, as it is told; nothing of a plain one. `Refused` tells what can't be linked."""
+    try:
+        return opened(name, content, [os.fspath(folder) for folder in library])
+    except Unlinked as fault:
+        from silc.linking.told import refused_unlinked
+        raise refused_unlinked(fault) from None
 
 
 def real_rows(rows: Rows, columns: int) -> list[tuple[float, ...]]:

@@ -10,9 +10,10 @@ from __future__ import annotations
 import json
 import math
 import operator
+from array import array
 from collections.abc import Iterable, Iterator, Sequence
 from dataclasses import dataclass
-from functools import cached_property
+from functools import cache, cached_property
 from itertools import chain
 from typing import Any
 
@@ -20,8 +21,12 @@ from silc.designing.shapes import Shape
 
 # A NumPy array or a list of rows.
 Rows = Any
-# As many rows become text at a time, and so many bytes of text become rows.
-ROWS_AT_A_TIME, BYTES_AT_A_TIME = 1 << 15, 1 << 20
+# As many rows become text at a time, and so many bytes of text become rows. The steps of NumPy are long enough that
+# their beginnings do not count, and short enough that a thread that waits for the interpreter has it soon.
+ROWS_AT_A_TIME, BYTES_AT_A_TIME = 1 << 15, 1 << 17
+# So many digits of a number are written at once. A row of fewer than three digits would have others under them.
+AT_ONCE, FEWEST = 4, 3
+LEAST = -(1 << 63)
 
 
 @dataclass(frozen=True, repr=False)
@@ -130,28 +135,87 @@ def flat_list(rows: Iterable[Any], columns: int) -> list[int]:
     return list(map(operator.index, listed))
 
 
+def array_of_list(rows: Sequence[Any], columns: int) -> Any | None:
+    """The words of a list of rows in order as an array; nothing where NumPy is not there, or these are no such rows or
+    have a word that 64 bits do not hold, which `flat_list` judges."""
+    module = numpy()
+    if module is None or columns != 1 and set(map(len, rows)) != {columns}:
+        return None
+    try:
+        return module.frombuffer(array("q", rows if columns == 1 else chain.from_iterable(rows)), dtype=module.int64)
+    except (TypeError, OverflowError):
+        return None
+
+
 def text_of_words(words: Sequence[int], columns: int) -> bytes:
     """Words in order as the text of rows."""
     line = ",".join(["%d"] * columns) + "\n"
     return (line * (len(words) // columns) % tuple(words)).encode("ascii")
 
 
-def pieces_of(rows: Rows, columns: int) -> Iterator[bytes]:
-    """The text of rows of so many words, some rows at a time. `TypeError` where a word is no whole number."""
-    if is_array(rows):
-        array = check_columns(rows, columns)
-        if array.dtype.kind not in "iub":
-            raise TypeError(f"rows of {array.dtype} are given, and raw words are whole numbers; real=True takes others")
-        for start in range(0, len(array), ROWS_AT_A_TIME):
-            yield text_of_words(array[start:start + ROWS_AT_A_TIME].ravel().tolist(), columns)
+@cache
+def digits_of_numbers() -> Any:
+    """The digits of each number of `AT_ONCE` of them, as a word of 32 bits."""
+    text = "".join(f"{number:0{AT_ONCE}d}" for number in range(10**AT_ONCE))
+    return numpy().frombuffer(text.encode("ascii"), dtype=numpy().uint32).copy()
+
+
+def aligned_text(words: Any, columns: int) -> bytes:
+    """The words of an array of int64 as the text of rows, all with as many digits: leading zeros are digits, and one
+    stands in the place of a sign."""
+    module, count = numpy(), len(words)
+    most, is_signed = module.abs(words), bool((words < 0).any())
+    digits = max(len(str(most.max())), FEWEST)
+    width = is_signed + digits + 1
+    # What stands before the first row is written to, and is none of it.
+    room = module.empty(AT_ONCE - 1 + count * width, dtype=module.uint8)
+    parts: list[Any] = []
+    while digits > AT_ONCE * (len(parts) + 1):
+        above = most // 10**AT_ONCE
+        parts.append(most - above * 10**AT_ONCE)
+        most = above
+    # The highest digits come first, since what they write beside them is written again.
+    for place, part in reversed([*enumerate([*parts, most])]):
+        end = AT_ONCE - 1 + width - 1 - AT_ONCE * place
+        module.ndarray(count, module.uint32, room, end - AT_ONCE, (width,))[...] = digits_of_numbers()[part]
+    lines = room[AT_ONCE - 1:].reshape(count // columns, columns, width)
+    if is_signed:
+        lines[:, :, 0] = module.where(words < 0, ord("-"), ord("0")).reshape(-1, columns)
+    lines[:, :, -1] = ord(",")
+    lines[:, -1, -1] = ord("\n")
+    return lines.tobytes()
+
+
+def words_at(rows: Rows, columns: int) -> Iterator[Any]:
+    """The words of rows in order, some rows at a time, as an array of int64 where one holds them, else as a list.
+    `TypeError` where a word is no whole number."""
+    if not is_array(rows):
+        for start in range(0, len(rows), ROWS_AT_A_TIME):
+            some = rows[start:start + ROWS_AT_A_TIME]
+            held = array_of_list(some, columns)
+            yield flat_list(some, columns) if held is None else held
         return
-    for start in range(0, len(rows), ROWS_AT_A_TIME):
-        yield text_of_words(flat_list(rows[start:start + ROWS_AT_A_TIME], columns), columns)
+    whole = check_columns(rows, columns)
+    if whole.dtype.kind not in "iub":
+        raise TypeError(f"rows of {whole.dtype} are given, and raw words are whole numbers; real=True takes others")
+    for start in range(0, len(whole), ROWS_AT_A_TIME):
+        some = whole[start:start + ROWS_AT_A_TIME].ravel()
+        yield some.tolist() if some.dtype == numpy().uint64 else some.astype(numpy().int64, copy=False)
+
+
+def pieces_of(rows: Rows, columns: int) -> Iterator[bytes]:
+    """A text of rows of so many words, some rows at a time, in which words may have leading zeros."""
+    for words in words_at(rows, columns):
+        if is_array(words) and words.min() > LEAST:
+            yield aligned_text(words, columns)
+        else:
+            yield text_of_words(words, columns)
 
 
 def text_of(rows: Rows, columns: int) -> bytes:
-    """The whole text of rows of so many words."""
-    return b"".join(pieces_of(rows, columns))
+    """The text of rows of so many words, as a sample file has them that is written."""
+    return b"".join(text_of_words(words.tolist() if is_array(words) else words, columns)
+                    for words in words_at(rows, columns))
 
 
 def numbers_in(text: str) -> list[int]:
@@ -163,13 +227,15 @@ def numbers_in(text: str) -> list[int]:
 
 
 class Reader:
-    """Text of rows that becomes words, as an array or as a list."""
+    """Text of rows that a program writes, which becomes words, as an array or as a list."""
 
     def __init__(self, columns: int, wants_array: bool) -> None:
-        self.columns, self.numpy = columns, numpy() if wants_array else None
+        self.columns, self.numpy, self.wants_array = columns, numpy(), wants_array
         self.left: list[bytes] = []
         self.size = 0
+        # The words so far: arrays, or a list.
         self.parts: list[Any] = []
+        self.flat: list[Any] = []
 
     def add(self, piece: bytes) -> None:
         """Takes a piece of text, wherever it is cut."""
@@ -182,28 +248,31 @@ class Reader:
         """Turns the whole lines so far into words."""
         text = b"".join(self.left)
         end = text.rfind(b"\n") + 1
-        if end:
-            self.parts.append(self.words_of(text[:end]))
+        if end and self.wants_array:
+            self.parts.append(self.array_of(text[:end]))
+        elif end:
+            self.flat += self.array_of(text[:end]).tolist() if self.numpy else \
+                numbers_in(text[:end - 1].decode("ascii"))
         self.left, self.size = [text[end:]], len(text) - end
 
-    def words_of(self, text: bytes) -> Any:
-        if self.numpy is not None:
-            return self.numpy.fromstring(text[:-1].replace(b"\n", b","), dtype=self.numpy.int64, sep=",")
-        return numbers_in(text[:-1].decode("ascii"))
+    def array_of(self, text: bytes) -> Any:
+        """The words of whole lines. A blank between two of them is any white space."""
+        return self.numpy.fromstring(text if self.columns == 1 else text.replace(b",", b" "), dtype=self.numpy.int64,
+                                     sep=" ")
 
     def rows(self) -> Rows:
         """All rows so far; the text has to end with a whole line."""
         self.turn()
-        parts, self.parts = self.parts, []
-        if self.numpy is not None:
-            flat = self.numpy.concatenate(parts) if parts else self.numpy.empty(0, dtype=self.numpy.int64)
-            return flat if self.columns == 1 else flat.reshape(-1, self.columns)
-        flat = list(chain.from_iterable(parts))
+        if self.wants_array:
+            parts, self.parts = self.parts, []
+            whole = self.numpy.concatenate(parts) if parts else self.numpy.empty(0, dtype=self.numpy.int64)
+            return whole if self.columns == 1 else whole.reshape(-1, self.columns)
+        flat, self.flat = self.flat, []
         return flat if self.columns == 1 else list(zip(*[iter(flat)] * self.columns))
 
 
 def rows_of(text: bytes, columns: int, wants_array: bool) -> Rows:
-    """The rows of a text, as an array or as a list."""
+    """The rows of a text that a program has written, as an array or as a list."""
     reader = Reader(columns, wants_array)
     reader.add(text)
     return reader.rows()

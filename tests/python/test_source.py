@@ -1,12 +1,17 @@
 """Sources from Python: rows as lists and arrays, streams, inner words, and what is refused. Expected rows are worked
 out by hand, or stand in the examples."""
+import contextlib
+import io
 import math
+import tempfile
 import unittest
 from collections.abc import Callable, Iterator
 from pathlib import Path
+from types import ModuleType
 
 import silc
 from silc import words
+from silc.commands import noise, ranges, values
 
 TOP = Path(__file__).resolve().parent.parent.parent
 DATA = Path(__file__).resolve().parent / "data"
@@ -110,6 +115,30 @@ class Arrays(unittest.TestCase):
         self.assertEqual(source.values(numpy.array([1, 2]), "y")["y"].tolist(), [2, 3])
 
 
+class Texts(unittest.TestCase):
+    """What goes to the program, which may have leading zeros, and what comes back."""
+
+    def test_words_of_all_widths(self) -> None:
+        for width in (1, 2, 4, 5, 8, 13, 14, 16, 17, 27, 28, 32, 40, 53, 54, 64):
+            least, greatest = -(1 << width - 1), (1 << width - 1) - 1
+            near = list(range(max(least, -1100), greatest)[:2500])
+            for some in ([least, greatest, 0], [greatest, 0], [0], [least], near):
+                for columns in (1, 2, 3):
+                    self.expect([number for number in some for _ in range(columns)], columns)
+
+    def expect(self, numbers: list[int], columns: int) -> None:
+        rows = numbers if columns == 1 else list(zip(*[iter(numbers)] * columns))
+        expected = "".join(",".join(map(str, numbers[start:start + columns])) + "\n"
+                           for start in range(0, len(numbers), columns)).encode()
+        self.assertEqual(words.text_of(rows, columns), expected)
+        self.assertEqual(words.rows_of(expected, columns, False), rows)
+        given = [rows, words.numpy().array(rows, dtype="int64")] if words.numpy() else [rows]
+        for one in given:
+            text = b"".join(words.pieces_of(one, columns)).decode()
+            self.assertEqual([[int(word) for word in line.split(",")] for line in text.splitlines()],
+                             [numbers[start:start + columns] for start in range(0, len(numbers), columns)])
+
+
 class Inner(unittest.TestCase):
     def test_names(self) -> None:
         found = silc.Source(DATA / "eq.sil").values([16384, 0], ["w[*]", "e"])
@@ -172,6 +201,11 @@ class Refusals(unittest.TestCase):
         self.assertEqual(next(stream), [2])
         self.assertEqual(self.refused(lambda: next(stream)).status, 11)
 
+    def test_the_row_and_the_byte_in_a_stream(self) -> None:
+        stream = silc.Source(text=INCREMENT).stream([[1, -100], [3, -4], [100, 5, 1000]])
+        self.assertEqual([next(stream), next(stream)], [[2, -99], [4, -3]])
+        self.assertEqual(self.refused(lambda: next(stream)).said, "samples line 7 byte 3")
+
     def test_rows_of_inner_words(self) -> None:
         self.assertEqual(self.refused(lambda: silc.Source(text=INCREMENT).values([128])).status, 11)
 
@@ -188,6 +222,105 @@ class Refusals(unittest.TestCase):
     def test_no_program(self) -> None:
         with self.assertRaises(silc.NoProgram):
             silc.Source(text=INCREMENT, silc="/nowhere/silc")
+
+
+HALF = """/* Half of it. */
+let W = 8 in 2 .. 24;     /* bits */
+func half(x : fix<{W},0>) y : fix<{W},0> =
+begin
+  y = x >> 1;
+end;
+"""
+LINKED = """use half<W=16> as low;
+let N = 3;
+func main(x : fix<16,0>) y : fix<16,0> =
+begin
+  var t : fix<16,0>;
+  t = low(x@{N - 2});
+  y = t + x; /* wraps */
+end;
+"""
+
+
+class Linked(unittest.TestCase):
+    """A source with `use` and `let` lines, and the block that it uses, told at the places of their files."""
+
+    def setUp(self) -> None:
+        room = tempfile.TemporaryDirectory(prefix="silc-linked-")
+        self.addCleanup(room.cleanup)
+        self.room = Path(room.name).resolve()
+        self.main, self.block = self.room / "main.sil", self.room / "blocks" / "half.sil"
+        self.block.parent.mkdir()
+        self.block.write_text(HALF)
+        self.main.write_text(LINKED)
+        (self.room / "samples").write_text("4\n8\n-5\n")
+
+    def source(self) -> silc.Source:
+        return silc.Source(self.main, library=[self.block.parent])
+
+    def refused(self) -> silc.Refused:
+        with self.assertRaises(silc.Refused) as caught:
+            self.source()
+        return caught.exception
+
+    def put(self, tool: ModuleType, *more: str) -> tuple[int, str, str]:
+        """What a tool prints, and says, of the source."""
+        out, said = io.StringIO(), io.StringIO()
+        with contextlib.redirect_stdout(out), contextlib.redirect_stderr(said):
+            status = tool.main(["--library", str(self.block.parent), str(self.main), str(self.room / "samples"),
+                                *more])
+        return status, out.getvalue(), said.getvalue()
+
+    def test_rows(self) -> None:
+        source = self.source()
+        self.assertEqual((str(source.inputs[0]), source.blocks), ("x : fix<16,0>", [str(self.block)]))
+        self.assertEqual(source.evaluate([4, 8, -5]), [4, 10, -1])
+        self.assertEqual(source.values([4, 8, -5], "y"), {"y": [4, 10, -1]})
+        smooth = silc.Source(text="use onepole<W=16, F=15>;\nfunc main(x : fix<16,15>) y : fix<16,15> = begin\n"
+                                  "y = onepole(x); end;\n")
+        self.assertEqual(smooth.evaluate([0, 0]), [0, 0])
+
+    def test_a_fault_of_its_own(self) -> None:
+        self.main.write_text(LINKED.replace("+ x;", "+ x"))
+        why = self.refused()
+        self.assertEqual((why.status, why.file, why.line), (4, str(self.main), 7))
+        self.assertEqual(why.text, "a `;` is missing after `x`")
+        self.assertEqual([(edit.file, edit.line, edit.text) for edit in why.edits], [(str(self.main), 7, ";")])
+
+    def test_a_fault_of_a_block(self) -> None:
+        self.block.write_text(HALF.replace(">> 1;", ">> 1"))
+        why = self.refused()
+        self.assertEqual((why.status, why.file, why.line), (4, str(self.block), 5))
+        self.assertEqual((why.text, why.cure), ("a `;` is missing after `1`", "write `;` after `1`."))
+        self.assertEqual(why.edits, [])
+        self.assertIn(f"{self.main}:1", why.explanation())
+
+    def test_a_fault_of_the_linker(self) -> None:
+        self.main.write_text(LINKED.replace("half<W=16>", "halve<W=16>"))
+        why = self.refused()
+        self.assertEqual((why.status, why.file, why.line), (4, str(self.main), 1))
+        self.assertIn("there is no block halve", why.text)
+
+    def test_a_plan(self) -> None:
+        text = (DATA / "processor.toml").read_text().replace("period = 27", "period = 2")
+        with self.assertRaises(silc.Refused) as caught:
+            self.source().plan(text=text)
+        self.assertIn(caught.exception.status, (6, 7, 8, 9))
+        self.assertNotIn("silc-link-", caught.exception.explanation())
+
+    def test_tools(self) -> None:
+        self.assertEqual(self.put(values, "y"), (0, "y\n4\n10\n-1\n", ""))
+        status, table, _ = self.put(ranges)
+        self.assertEqual((status, table.splitlines()[0].split()[0]), (0, "element"))
+        self.assertIn("-5 .. 8", table)
+        self.assertEqual(self.put(noise, "--against", str(self.main))[:2][0], 0)
+
+    def test_faults_in_tools(self) -> None:
+        self.main.write_text(LINKED.replace("+ x;", "+ zz;"))
+        place = f"{self.main}:7:11: nothing here is called `zz`"
+        self.assertEqual(self.put(values, "y"), (4, "", f"values: {place} (line 7: unknown name)\n"))
+        self.assertEqual(self.put(ranges), (1, "", f"ranges: {place}\n"))
+        self.assertEqual(self.put(noise, "--against", str(self.main)), (1, "", f"noise: {place}\n"))
 
 
 if __name__ == "__main__":

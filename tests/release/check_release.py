@@ -86,6 +86,16 @@ def check_refusals(room: Room) -> None:
     shutil.copy2(room.programs["silc_main"], kept / "silc_main")
 
 
+def check_strangers(room: Room) -> None:
+    """A file that no tool made stays, and then nothing is packed."""
+    (room.folder / "strange").mkdir()
+    (room.folder / "strange" / "SHA256SUMS").write_text("of the user\n")
+    done, made = room.release("strange")
+    room.expect(done.returncode == 1 and "--force writes over it" in done.stderr
+                and made == {"SHA256SUMS": b"of the user\n"},
+                f"a user's file: {done.returncode} {done.stderr!r} {set(made)}")
+
+
 def check_bytes(room: Room) -> None:
     """The same inputs, with other times, rights and places in their folders, and read under another mask and zone."""
     first, made = room.release("first")
@@ -194,7 +204,7 @@ def main() -> int:
     began = time.monotonic()
     with tempfile.TemporaryDirectory(prefix="silc-release-test-") as folder:
         room = Room(Path(folder).resolve())
-        checks = [check_refusals, check_bytes, check_tarball, check_package]
+        checks = [check_refusals, check_strangers, check_bytes, check_tarball, check_package]
         checks += [check_git] if shutil.which("git") else []
         for check in checks:
             check(room)

@@ -11,6 +11,7 @@ from silc.explaining.program import Source, manifest, offset, turns_of
 from silc.explaining.typing_rules import BOOL, Typing
 
 from silc.checking.numbers import raw_of
+from silc.sure import sure
 
 # What gives the value of an element with a delay.
 Read: TypeAlias = "Callable[[int, int], Value]"
@@ -47,6 +48,10 @@ class Element:
     # The elements that it reads, each with its delay.
     reads: list[tuple[int, int]] = field(default_factory=list)
 
+    def expression(self) -> tuple[Node, Scope]:
+        """The expression that defines it, and where that stands."""
+        return sure(self.node), sure(self.scope)
+
 
 @dataclass(frozen=True)
 class Value:
@@ -70,7 +75,7 @@ def saturates(of: Type) -> bool:
 
 def fitted(exact: int, of: Type) -> int:
     """A whole number brought to the width of a type by its overflow mode."""
-    half = 1 << (of.width - 1)
+    half = 1 << (of.bits() - 1)
     if saturates(of):
         return min(max(exact, -half), half - 1)
     return (exact + half) % (2 * half) - half
@@ -96,7 +101,7 @@ class Elements:
         self.expand(main, self.main.signals)
         for element in self.elements:
             if element.kind == VALUE:
-                element.reads = [*self.reads(element.node, element.scope)]
+                element.reads = [*self.reads(*element.expression())]
             elif element.kind == SAME:
                 element.reads = [(element.other, 0)]
         self.order = self.in_order()
@@ -152,7 +157,7 @@ class Elements:
         self.expand(callee, inner)
 
     def place(self, node: Node, scope: Scope) -> int:
-        decl = self.source.decl(scope.func, node.name)
+        decl = self.source.declared(scope.func, node.name)
         return scope.signals[node.name][offset(decl.dims, node.subs, scope.indices)]
 
     def table(self, name: str) -> list[int]:
@@ -205,12 +210,13 @@ class Elements:
     def sides(self, node: Node, scope: Scope) -> list[Type]:
         """The types of the factors of a product, or of the sides of a comparison."""
         left, right = (self.own(part, scope) for part in node.parts)
-        return [left or right, right or left] if node.kind == "product" else [left or right] * 2
+        either = sure(left or right)
+        return [left or either, right or either] if node.kind == "product" else [either] * 2
 
     def is_kept(self, own: Type, cast: Type) -> bool:
         """Whether a cast has no more bits before the point than what it converts, so that it takes a wrapped word as it
         is."""
-        return not saturates(cast) and cast.width - cast.places <= own.width - own.places
+        return not saturates(cast) and cast.bits() - cast.places <= own.bits() - own.places
 
     def parts(self, node: Node, wanted: Type, scope: Scope, use: str) -> list[tuple]:
         """The parts of an expression, each with the type against which it is valued, and how its value is used."""
@@ -224,7 +230,8 @@ class Elements:
             return [(part, of, LOST) for part, of in zip(node.parts, self.sides(node, scope))]
         if node.kind == "cast":
             own = self.own(node.parts[0], scope)
-            return [(node.parts[0], own or node.type, use if not own or self.is_kept(own, node.type) else LOST)]
+            of = node.cast()
+            return [(node.parts[0], own or of, use if not own or self.is_kept(own, of) else LOST)]
         if node.kind == "choice":
             return [(part, BOOL if at % 2 == 0 and at < len(node.parts) - 1 else wanted,
                      LOST if at % 2 == 0 and at < len(node.parts) - 1 else use) for at, part in enumerate(node.parts)]
@@ -244,7 +251,7 @@ class Elements:
         self.spend()
         if node.kind == "read":
             if node.name not in scope.signals:
-                decl = self.source.decl(scope.func, node.name)
+                decl = self.source.declared(scope.func, node.name)
                 raw = self.table(node.name)[offset(decl.dims, node.subs, scope.indices)]
                 return Value(raw, raw)
             return read(self.place(node, scope), manifest(node.amount, scope.indices) if node.amount else 0)
@@ -280,7 +287,7 @@ class Elements:
 
     def summed(self, node: Node, wanted: Type, scope: Scope, values: list[Value]) -> Value:
         """The value of a sum, a difference, a negation or a shift."""
-        amount = manifest(node.amount, scope.indices) if node.kind == "shift" else 0
+        amount = manifest(node.by(), scope.indices) if node.kind == "shift" else 0
         if node.name == ">>":
             word = dropped(values[0].word, amount, wanted)
             return Value(word, word, values[0].taken())
@@ -299,11 +306,13 @@ class Elements:
         own = self.own(node.parts[0], scope)
         if not own:
             return value
-        exact, bits = dropped(value.word, own.places - node.type.places, node.type), own.places - node.type.places
-        word = fitted(exact, node.type)
-        if self.is_kept(own, node.type):
-            return Value(word, dropped(value.exact, bits, node.type), value.is_lost)
-        return Value(word, word if saturates(node.type) else exact, value.taken())
+        of = node.cast()
+        bits = own.places - of.places
+        exact = dropped(value.word, bits, of)
+        word = fitted(exact, of)
+        if self.is_kept(own, of):
+            return Value(word, dropped(value.exact, bits, of), value.is_lost)
+        return Value(word, word if saturates(of) else exact, value.taken())
 
     # Where an expression reads back to
 
@@ -346,7 +355,8 @@ class Elements:
                 elif element.kind == SAME:
                     values[number, age] = values[element.other, age]
                 else:
-                    values[number, age] = self.value(element.node, element.type, element.scope, before(age))
+                    node, scope = element.expression()
+                    values[number, age] = self.value(node, element.type, scope, before(age))
         return values
 
 

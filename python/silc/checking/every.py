@@ -13,6 +13,7 @@ from silc.explaining.text import Edit, Span, Text
 from silc.checking.findings import Finding, finding_of
 from silc.checking.first import Fault, first_fault
 from silc.checking.left_out import IN_TEXT, TOPS, Omission, omission
+from silc.sure import sure
 
 MOST_FAULTS, MOST_SECONDS, MOST_BYTES = 20, 3.0, 1 << 16
 NOWHERE = -1
@@ -105,7 +106,7 @@ class Search:
         if fault.place is None:
             return False
         if fault.kind == "NotDefined":
-            return self.text.origin(source.function_at(fault.place).at) in self.open
+            return self.text.origin(source.function(fault.place).at) in self.open
         return not self.text.is_there(fault.place) or source.line(fault.place) in self.lines
 
     def is_about(self, text: str) -> bool:
@@ -124,13 +125,14 @@ class Search:
 
     def unknowns(self, source: Source, fault: Fault) -> list[Finding]:
         """The unknown names of an item, each once in its function."""
-        func = source.function_at(fault.place)
+        at = sure(fault.place)
+        func = source.function(at)
         contexts = {context.node.at: context for context in source.contexts(func) if is_unknown(source, context)
-                    and any(other.node.at == fault.place and other.item is context.item
+                    and any(other.node.at == at and other.item is context.item
                             for other in source.contexts(func))}
         made = []
-        for place in sorted({*contexts, fault.place}):
-            name = source.token_at(place).text
+        for place in sorted({*contexts, at}):
+            name = sure(source.token_at(place)).text
             is_call = place in contexts and contexts[place].role == "call"
             # What is left out may have declared it.
             is_lost = not self.text.is_there(place) or ("func" if is_call
@@ -145,16 +147,16 @@ class Search:
 
 def every_fault(text: Text, is_stale: Callable[[], bool] = lambda: False) -> list[Finding]:
     """The faults of a source by their places. It ends early where nobody wants them any more."""
-    fault = first_fault(text)
-    if fault is None:
+    fault = first = first_fault(text)
+    if first is None:
         return []
-    if len(text.data) > MOST_BYTES or fault.kind is None:
-        return [fault.finding()]
+    if len(text.data) > MOST_BYTES or first.kind is None:
+        return [first.finding()]
     search, until = Search(text), time.monotonic() + MOST_SECONDS
     while fault and search.take(fault) and len(
             search.found) < MOST_FAULTS and time.monotonic() < until and not is_stale():
         fault = next_fault(search.text)
-    found = search.found or [fault.finding()]
+    found = search.found or [first.finding()]
     return sorted(dict.fromkeys(found), key=lambda one: (one.line, one.column))[:MOST_FAULTS]
 
 

@@ -63,8 +63,8 @@ def first_fault(text: Text) -> Fault | None:
         if done.returncode != BAD_SOURCE:
             raise Unchecked(said or f"{silc} ended with {done.returncode}")
         shown = ran(SHOW.found(), "graph", "source", room=room) if SHOW.is_there() else None
-    said, has_answer = said.removeprefix("silc: "), shown is not None and shown.returncode == 0
-    return placed_fault(text, said, shown.stdout if has_answer else None, shown is not None)
+    answer = shown.stdout if shown is not None and shown.returncode == 0 else None
+    return placed_fault(text, said.removeprefix("silc: "), answer, shown is not None)
 
 
 def placed_fault(text: Text, said: str, answer: str | None, has_show: bool) -> Fault:

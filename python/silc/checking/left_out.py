@@ -7,6 +7,7 @@ from dataclasses import dataclass
 from silc.explaining.grammar import Decl, Func, Node
 from silc.explaining.program import Expansion, Overflow, Source, definitions, element_name, every_item, targets_of
 from silc.explaining.text import Token, tokens_of
+from silc.sure import sure
 
 IN_TEXT = ("BadByte", "BadNumber", "OpenComment", "Syntax", "Deep")
 STRUCTURE, TOPS = ("begin", "end", "func", "const", "var"), ("func", "const")
@@ -52,7 +53,7 @@ def lenient_tokens(chars: str) -> list[Token]:
         made += tokens
         if bad is None or chars.startswith("/*", bad):
             break
-        found = re.match(r"//[^\n]*|\d[\w.]*|.", chars[bad:], re.A | re.S)
+        found = sure(re.match(r"//[^\n]*|\d[\w.]*|.", chars[bad:], re.A | re.S))
         place = bad + found.end()
         made.append(Token("bad", found[0], bad, place))
     return made
@@ -66,9 +67,10 @@ def of_tokens(source: Source, kind: str, place: int) -> Omission | None:
     if at < len(tokens) and tokens[at].text.startswith("//"):
         return Omission(tokens[at].start, tokens[at].end)
     item, top = item_at(tokens, at), top_at(tokens, at)
-    if not item and not top:
+    found = item or top
+    if not found:
         return None
-    first, last = item or top
+    first, last = found
     start, end = tokens[first].start, tokens[last - 1].end
     if not item:
         return Omission(start, end, top=tokens[first].text,
@@ -123,15 +125,15 @@ def of_item(source: Source, kind: str, place: int) -> Omission | None:
     """An item with a fault, with constants in the place of what it gives."""
     func = source.function_at(place)
     items = [item for item, _ in every_item(func.items) if item.start <= place < item.end] if func else []
-    if not items or items[-1].kind == "loop":
+    if not func or not items or items[-1].kind == "loop":
         return None
     item = items[-1]
     targets = targets_of(item)
     if item.kind == "initial":
         return Omission(item.start, item.end)
     is_target = kind != "Loop" and any(target.start <= place < target.end for target in targets)
-    given = [constants(source, func, target) for target in targets]
-    if is_target or None in given:
+    given = [text for target in targets if (text := constants(source, func, target)) is not None]
+    if is_target or len(given) < len(targets):
         # The target may be meant for another one.
         return Omission(item.start, item.end, func=func.at)
     return Omission(item.start, item.end, " ".join(given))
@@ -155,11 +157,11 @@ def of_missing(source: Source, place: int) -> Omission | None:
     """Equations for the elements of a signal that have none, at the end of its function."""
     func = source.function_at(place)
     decl = next((decl for decl in func.decls() if decl.at == place), None) if func else None
-    try:
-        given = {spot for other, spot, *_ in definitions(source, func) if other is decl} if decl else set()
-    except (Overflow, KeyError):
+    if func is None or decl is None:
         return None
-    if decl is None:
+    try:
+        given = {spot for other, spot, *_ in definitions(source, func) if other is decl}
+    except (Overflow, KeyError):
         return None
     tokens = [token for token in source.tokens if token.start > func.at]
     last = next((k for k, token in enumerate(tokens) if token.text in TOPS), len(tokens))

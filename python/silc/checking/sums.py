@@ -8,8 +8,9 @@ from silc.explaining.refusals import language
 from silc.explaining.report import Report
 from silc.explaining.typing_rules import decimal, range_of
 
-from silc.checking.elements import (INPUT, LOST, ROOT, SAME, VALUE, Cone, Elements, Scope, TooLong, Value, Words,
-                                    saturates)
+from silc.checking.elements import (INPUT, LOST, ROOT, SAME, VALUE, Cone, Element, Elements, Scope, TooLong, Value,
+                                    Words, saturates)
+from silc.sure import NotThere, sure
 
 # A comment with which a wrap is meant.
 MEANT = re.compile(r"/\*\s*wraps\b.*?\*/", re.S)
@@ -37,9 +38,10 @@ class Sums:
             if element.kind == SAME:
                 named.setdefault(number, []).append(element.other)
             elif element.kind == VALUE:
-                for node, _, use in self.elements.uses(element.node, element.type, element.scope, ROOT):
-                    if node.kind == "read" and node.name in element.scope.signals and use in (LOST, ROOT):
-                        other = self.elements.place(node, element.scope)
+                whole, scope = element.expression()
+                for node, _, use in self.elements.uses(whole, element.type, scope, ROOT):
+                    if node.kind == "read" and node.name in scope.signals and use in (LOST, ROOT):
+                        other = self.elements.place(node, scope)
                         lost.add(other) if use == LOST else named.setdefault(number, []).append(other)
         waiting = [*lost]
         while waiting:
@@ -51,12 +53,13 @@ class Sums:
 
     def reports(self) -> list[Report]:
         for number, element in enumerate(self.elements.elements):
-            if element.kind == VALUE and not self.is_meant(element.item):
-                for node, wanted, use in self.elements.uses(element.node, element.type, element.scope, ROOT):
+            if element.kind == VALUE and not self.is_meant(item := sure(element.item)):
+                whole, scope = element.expression()
+                for node, wanted, use in self.elements.uses(whole, element.type, scope, ROOT):
                     is_lost = use == LOST or use == ROOT and number in self.lost
                     if is_lost and node.kind in ("sum",
                                                  "product") and node.start not in self.found and not saturates(wanted):
-                        self.judge(node, wanted, element.scope, element.item)
+                        self.judge(node, wanted, scope, item)
         return [*self.found.values()]
 
     def is_meant(self, item: Node) -> bool:
@@ -71,7 +74,7 @@ class Sums:
         weights = self.weights(node, wanted, scope, cone)
         if not self.is_doubtful(node, wanted, scope, weights):
             return
-        half = 1 << (wanted.width - 1)
+        half = 1 << (wanted.bits() - 1)
         reached = [value.exact for words in self.trials(cone, weights)
                    if not (value := self.with_inputs(node, wanted, scope, cone, words)).is_lost
                    and abs(value.exact) > half]
@@ -122,12 +125,20 @@ class Sums:
             for age in ages:
                 weight = made.pop((number, age), 0)
                 if number not in forms:
-                    forms[number] = self.form(element.node, element.type, element.scope) if element.kind == VALUE else \
-                        {(element.other, 0): 1.0} if element.kind == SAME else {}
+                    forms[number] = self.form_of(element)
                 for (other, delay), factor in forms[number].items() if weight else ():
                     self.elements.spend()
                     made[other, age + delay] = made.get((other, age + delay), 0) + weight * factor
         return made
+
+    def form_of(self, element: Element) -> Weights:
+        """An element as a sum of elements with factors."""
+        if element.kind == SAME:
+            return {(element.other, 0): 1.0}
+        if element.kind != VALUE:
+            return {}
+        node, scope = element.expression()
+        return self.form(node, element.type, scope)
 
     def form(self, node: Node, wanted: Type, scope: Scope) -> Weights:
         """An expression as a sum of elements with factors, by element and delay; what is none is left out."""
@@ -143,7 +154,7 @@ class Sums:
         elif node.kind == "product":
             for part, other, of, other_of in self.factors(node, scope):
                 if not [*self.elements.reads(other, scope)]:
-                    factor = self.elements.value(other, other_of, scope, None).word / 2**other_of.places
+                    factor = self.elements.value(other, other_of, scope, nothing_read).word / 2**other_of.places
                     yield from self.terms(part, of, scope, weight * factor)
         elif node.kind in ("sum", "negation", "shift", "cast"):
             for at, (part, of, _) in enumerate(self.elements.parts(node, wanted, scope, LOST)):
@@ -159,7 +170,7 @@ class Sums:
     def shift_of(self, node: Node, scope: Scope) -> float:
         if node.kind != "shift":
             return 1.0
-        amount = manifest(node.amount, scope.indices)
+        amount = manifest(node.by(), scope.indices)
         return 2.0 ** (amount if node.name == "<<" else -amount)
 
     # What is told
@@ -176,6 +187,11 @@ class Sums:
                       "point, or one that saturates.", language("Widths, points and rounding"),
                       self.source.node_span(node)) \
             .by(self.source.text.edit(item.end, item.end, " /* wraps */"))
+
+
+def nothing_read(number: int, age: int) -> Value:
+    """The value of an element where an expression reads none."""
+    raise NotThere(f"the element {number} is read, {age} samples ago")
 
 
 def flattened(node: Node) -> list[Node]:

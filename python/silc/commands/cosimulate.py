@@ -32,7 +32,7 @@ from itertools import zip_longest
 from pathlib import Path
 
 from silc.commands import ended
-from silc.commands.verilog import guarded_in
+from silc.commands.verilog import check_inputs, guarded_in
 from silc.hardware.datapath import names_of, numbered
 from silc.hardware.netlist import NoCore
 from silc.made_files import MadeFiles, NotMade, add_force
@@ -285,16 +285,9 @@ def options_of(words: list[str]) -> argparse.Namespace:
     add_force(parser)
     options = parser.parse_intermixed_args(words)
     *options.inputs, options.samples = options.inputs
-    if len(options.inputs) != (2 if options.stages else 1):
-        parser.error("--stages is with SRC DP SAMPLES" if options.stages else "there are MIC and SAMPLES")
-    if options.stages and (options.datapath or options.full):
-        parser.error("--stages has its datapath and its program")
-    options.microcode = options.inputs[0]
+    check_inputs(parser, options, "SAMPLES")
     if options.force and options.vcd is None:
         parser.error("--force is for --vcd")
-    if is_net(options.microcode) and (options.datapath is not None or options.full):
-        parser.error(
-            "--datapath and --full are for microcode: a net file names the datapaths, and its cores have one program")
     return options
 
 

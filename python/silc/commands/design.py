@@ -37,6 +37,7 @@ import math
 import sys
 from pathlib import Path
 
+from silc.commands import ended
 from silc.designing import ordered, scipy_designs
 from silc.designing.coefficients import sections_in, taps_in
 from silc.designing.filters import Section
@@ -249,27 +250,25 @@ def files_of(options: argparse.Namespace) -> list[str]:
     return options.words if are_files else []
 
 
+def make(options: argparse.Namespace) -> int:
+    files = MadeFiles(files_of(options), options.force)
+    files.look_at(options.out)
+    source, is_certified = source_of(options)
+    if options.out:
+        files.write(options.out, source)
+    else:
+        sys.stdout.write(source)
+        sys.stdout.flush()
+    if is_certified:
+        return 0
+    print(f"design: no bound was found within {options.seconds:g} s; --seconds gives more time", file=sys.stderr)
+    return UNCERTIFIED
+
+
 def main(words: list[str]) -> int:
     options = options_of(words)
-    files = MadeFiles(files_of(options), options.force)
     try:
-        files.look_at(options.out)
-        source, is_certified = source_of(options)
-        if options.out:
-            files.write(options.out, source)
-        else:
-            sys.stdout.write(source)
-            sys.stdout.flush()
-        if not is_certified:
-            print(f"design: no bound was found within {options.seconds:g} s; --seconds gives more time",
-                  file=sys.stderr)
-            return UNCERTIFIED
-    except (ValueError, Lacking) as why:
-        print(f"design: {why}", file=sys.stderr)
-        return 1
+        return ended("design", lambda: make(options), ValueError, Lacking)
     except BrokenPipeError:
         fall_silent()
-    except OSError as fault:
-        print(f"design: {fault.filename}: {fault.strerror}", file=sys.stderr)
-        return 1
-    return 0
+        return 0

@@ -100,15 +100,13 @@ def ran(command: "Given") -> tuple[int, str]:
 def unlinked(fault: "Unlinked", is_json: bool) -> int:
     """Says why a source can't be linked. Gives the exit status."""
     from silc.explaining.report import lines_of
-    from silc.linking.told import report_unlinked
-    from silc.linking.words import BAD_SOURCE
-    report = report_unlinked(fault)
-    print("\n".join(lines_of(report)), file=sys.stderr, flush=True)
+    from silc.linking.told import refused_unlinked, report_unlinked
+    print("\n".join(lines_of(report_unlinked(fault))), file=sys.stderr, flush=True)
+    refused = refused_unlinked(fault)
     if is_json:
         from silc.as_json import put
-        from silc.refused import Refused
-        put(Refused(BAD_SOURCE, str(fault), lambda: report).as_json())
-    return BAD_SOURCE
+        put(refused.as_json())
+    return refused.status
 
 
 def main(words: list[str]) -> int:

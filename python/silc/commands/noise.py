@@ -1,7 +1,7 @@
 """Says how far the output of a source is from what it should be, and whether it falls silent.
 
-usage: tools/noise SRC SAMPLES --against REFERENCE [--picture FILE [--force]]
-       tools/noise SRC --zero-input N [--impulse WORD]
+usage: tools/noise [--library FOLDER ..] SRC SAMPLES --against REFERENCE [--picture FILE [--force]]
+       tools/noise [--library FOLDER ..] SRC --zero-input N [--impulse WORD]
 
 REFERENCE has a row of real numbers for each sample, or is a second source (its name ends with .sil), with finer shapes
 say, so that the noise of one `round` is seen by itself. For each output word: signal to noise in decibels, and the
@@ -12,25 +12,23 @@ With --zero-input the first input has an impulse, WORD or its greatest word, and
 output dies out, and with what period it does not. A state of the program that comes back says what it does forever. One
 without state, which reads nothing with a delay, is done with the impulse. The rows are those of `silc eval`, and of
 `silc_show values`.
+
+A source that begins with `use` or `let` is linked first, as tools/link does it, with blocks of each FOLDER before those
+of library/, and so is REFERENCE; faults are told at the places of its own file or of a block's.
 """
 import argparse
 import math
-import sys
-from pathlib import Path
 
+from silc.commands import add_library, measured
 from silc.designing.noise import Noise, Silence, noises, silence_after
-from silc.designing.programs import Unrun, fall_silent
 from silc.designing.samples import samples_in
 from silc.designing.sources import words_of_main
-from silc.made_files import MadeFiles, NotMade, add_force
+from silc.linking.opening import plain
+from silc.made_files import MadeFiles, add_force
 from silc.pictures.spectrum import draw_spectra
 
 # As many words of a limit cycle are shown.
 SHOWN = 16
-
-
-def text_in(file: str) -> str:
-    return Path(file).read_text(encoding="latin-1")
 
 
 def decibels(number: float) -> str:
@@ -49,11 +47,11 @@ def show(noise: Noise, number: int, count: int) -> None:
 
 
 def compare(options: argparse.Namespace) -> None:
-    files = MadeFiles([options.source, options.samples, options.against], options.force)
+    source, blocks = plain(options.source, options.library)
+    files = MadeFiles([options.source, *blocks, options.samples, options.against], options.force)
     files.look_at(options.picture)
-    source = text_in(options.source)
     rows = samples_in(options.samples, words_of_main(source)[0])
-    found = noises(source, rows, options.against)
+    found = noises(source, rows, options.against, options.library)
     if not found:
         raise ValueError("no output is a number")
     for number, noise in enumerate(found):
@@ -66,7 +64,7 @@ def compare(options: argparse.Namespace) -> None:
 
 
 def falls_silent(options: argparse.Namespace) -> None:
-    source = text_in(options.source)
+    source, _ = plain(options.source, options.library)
     shape = words_of_main(source)[0][0]
     word = options.impulse if options.impulse is not None else shape.greatest if shape else 1
     if not (shape.has(word) if shape else word in (0, 1)):
@@ -106,6 +104,7 @@ def options_of(words: list[str]) -> argparse.Namespace:
     parser.add_argument("--picture", metavar="FILE")
     parser.add_argument("--zero-input", metavar="N", type=positive)
     parser.add_argument("--impulse", metavar="WORD", type=int)
+    add_library(parser)
     add_force(parser)
     options = parser.parse_args(words)
     if bool(options.samples) != bool(options.against) or bool(options.samples) == bool(options.zero_input):
@@ -118,19 +117,5 @@ def options_of(words: list[str]) -> argparse.Namespace:
 def main(words: list[str]) -> int:
     options = options_of(words)
     files = [str(file) for file in (options.samples, options.against) if file]
-    try:
-        falls_silent(options) if options.zero_input else compare(options)
-        sys.stdout.flush()
-    except NotMade as why:
-        print(f"noise: {why}", file=sys.stderr)
-        return 1
-    except (ValueError, Unrun) as why:
-        print(f"noise: {why}" if str(why).startswith(tuple(files)) else f"noise: {options.source}: {why}",
-              file=sys.stderr)
-        return 1
-    except BrokenPipeError:
-        fall_silent()
-    except OSError as fault:
-        print(f"noise: {fault.filename}: {fault.strerror}", file=sys.stderr)
-        return 1
-    return 0
+    return measured("noise", lambda: falls_silent(options) if options.zero_input else compare(options),
+                    options.source, files)

@@ -1,8 +1,8 @@
 """Says how much of its range each element of a source uses, and where it wraps or saturates.
 
-usage: tools/ranges [--all] [--json] [--wraps NAME ..] [--picture FILE] [--force] SRC SAMPLES
-       tools/ranges --worst [--seconds S] [--all] [--json] [--picture FILE] [--worst-input FILE [--element NAME]]
-       [--force] SRC
+usage: tools/ranges [--all] [--json] [--wraps NAME ..] [--library FOLDER ..] [--picture FILE] [--force] SRC SAMPLES
+       tools/ranges --worst [--seconds S] [--all] [--json] [--library FOLDER ..] [--picture FILE]
+       [--worst-input FILE [--element NAME]] [--force] SRC
 
 A line for each element, the tightest first: its shape, the least and the greatest of its words and of their values, the
 bits that these words need and how many are left, the share of the range, and the first sample, from 1, at which it
@@ -32,18 +32,22 @@ for the tightest linear element or the one that is named, to such a length that 
 its last bit.
 
 With --json the table is a line of JSON (docs/PYTHON.md).
+
+A source that begins with `use` or `let` is linked first, as tools/link does it, with blocks of each FOLDER before those
+of library/. Its elements have the names of the linked source, and faults are told at the places of its own file or of a
+block's.
 """
 import argparse
 import json
-import sys
-from pathlib import Path
 
-from silc.designing.programs import Unrun, fall_silent, text_of
+from silc.commands import add_library, measured
+from silc.designing.programs import text_of
 from silc.designing.ranges import Range, ranges_in, ranges_on
 from silc.designing.samples import samples_in
 from silc.designing.sources import words_of_main
 from silc.designing.worst import SECONDS, chosen, worst_of
-from silc.made_files import MadeFiles, NotMade, add_force
+from silc.linking.opening import plain
+from silc.made_files import MadeFiles, add_force
 from silc.pictures.ranges import draw_ranges
 
 HEAD = ("element", "shape", "words", "values", "bits", "left", "range", "")
@@ -57,9 +61,10 @@ class Unranged(ValueError):
     """Why there is no table."""
 
 
-def text_in(file: str) -> str:
+def text_in(options: argparse.Namespace) -> tuple[str, list[str]]:
+    """The text of the source, and the files of the blocks in it."""
     try:
-        return Path(file).read_text(encoding="latin-1")
+        return plain(options.source, options.library)
     except OSError as fault:
         raise Unranged(fault.strerror) from fault
 
@@ -100,10 +105,10 @@ def picture_of(ranges: list[Range]) -> str:
 
 def make(options: argparse.Namespace) -> int:
     """Prints the table and makes the files; returns the exit status."""
-    files = MadeFiles([options.source, options.samples], options.force)
+    (source, blocks), status = text_in(options), 0
+    files = MadeFiles([options.source, *blocks, options.samples], options.force)
     for name in (options.picture, options.worst_input):
         files.look_at(name)
-    source, status = text_in(options.source), 0
     if options.worst:
         ranges, notes, status = bounds_of(options, source, files)
     else:
@@ -132,6 +137,7 @@ def options_of(words: list[str]) -> argparse.Namespace:
     parser.add_argument("--wraps", metavar="NAME", action="append", default=[])
     parser.add_argument("--all", action="store_true")
     parser.add_argument("--json", action="store_true")
+    add_library(parser)
     add_force(parser)
     options = parser.parse_args(words)
     if options.worst == bool(options.samples):
@@ -150,21 +156,4 @@ def options_of(words: list[str]) -> argparse.Namespace:
 
 def main(words: list[str]) -> int:
     options = options_of(words)
-    try:
-        status = make(options)
-        sys.stdout.flush()
-        return status
-    except NotMade as why:
-        print(f"ranges: {why}", file=sys.stderr)
-        return 1
-    except (ValueError, Unrun) as why:
-        said = str(why)
-        print(f"ranges: {said}" if said.startswith(str(options.samples)) else f"ranges: {options.source}: {said}",
-              file=sys.stderr)
-        return 1
-    except BrokenPipeError:
-        fall_silent()
-    except OSError as fault:
-        print(f"ranges: {fault.filename}: {fault.strerror}", file=sys.stderr)
-        return 1
-    return 0
+    return measured("ranges", lambda: make(options), options.source, [options.samples] if options.samples else [])

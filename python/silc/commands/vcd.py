@@ -27,7 +27,7 @@ from pathlib import Path
 from typing import cast
 
 from silc.commands import ended
-from silc.hardware.datapath import Names, names_of
+from silc.hardware.datapath import names_of_file
 from silc.hardware.netlist import NoCore
 from silc.made_files import MadeFiles, NotMade, add_force
 from silc.micro_file import BadImage, image_of
@@ -48,15 +48,6 @@ def image_in(file: str) -> Image:
     try:
         return image_of(Path(file).read_bytes())
     except BadImage as why:
-        raise NoTrace(f"{file}: {why}") from why
-
-
-def names_in(file: str, image: Image) -> Names:
-    try:
-        return names_of(Path(file).read_text(), image)
-    except UnicodeDecodeError as why:
-        raise NoTrace(f"{file}: it is no text") from why
-    except NoCore as why:
         raise NoTrace(f"{file}: {why}") from why
 
 
@@ -125,7 +116,7 @@ def make(options: argparse.Namespace) -> str:
     """Makes the waveform, and says what it holds."""
     files = MadeFiles([options.microcode, options.datapath, options.samples], options.force)
     image = image_in(options.microcode)
-    names = names_in(options.datapath, image)
+    names = names_of_file(options.datapath, image)
     count, first = rows_in(options.samples) * image.period, options.first or 0
     words = ["trace", options.microcode, options.samples, *([] if options.to is None else ["0", str(options.to)])]
     files.look_at(options.out)
@@ -167,4 +158,4 @@ def put(options: argparse.Namespace) -> None:
 
 def main(words: list[str]) -> int:
     options = options_of(words)
-    return ended("vcd", lambda: put(options), NoTrace, NotMade)
+    return ended("vcd", lambda: put(options), NoCore, NoTrace, NotMade)

@@ -29,7 +29,7 @@ from pathlib import Path
 
 from silc.commands import ended
 from silc.hardware.core_files import files_of
-from silc.hardware.datapath import Names, names_of, numbered
+from silc.hardware.datapath import Names, names_of_file, numbered
 from silc.hardware.hazards import lasting_hazard
 from silc.hardware.net_files import net_texts
 from silc.hardware.netlist import Core, NoCore, core_for_datapath, core_for_image
@@ -58,14 +58,7 @@ def checked_in(file: str) -> Image:
 
 
 def names_in(file: str | None, image: Image) -> Names:
-    if file is None:
-        return numbered(image)
-    try:
-        return names_of(Path(file).read_text(), image)
-    except UnicodeDecodeError as why:
-        raise NoCore(f"{file}: it is no text") from why
-    except NoCore as why:
-        raise NoCore(f"{file}: {why}") from why
+    return numbered(image) if file is None else names_of_file(file, image)
 
 
 def guarded_in(source: str, datapath: str, stages: int) -> Guarded:
@@ -134,15 +127,21 @@ def options_of(words: list[str]) -> argparse.Namespace:
     add_force(parser)
     options = parser.parse_intermixed_args(words)
     *options.inputs, options.folder = options.inputs
+    check_inputs(parser, options, "FOLDER")
+    return options
+
+
+def check_inputs(parser: argparse.ArgumentParser, options: argparse.Namespace, last: str) -> None:
+    """Refuses inputs, and options for them, that do not go together; `last` is the word that stands behind them."""
     if len(options.inputs) != (2 if options.stages else 1):
-        parser.error("--stages is with SRC DP FOLDER" if options.stages else "there are MIC and FOLDER")
+        parser.error(f"--stages is with SRC DP {last}" if options.stages else f"there are MIC and {last}")
     if options.stages and (options.datapath or options.full):
         parser.error("--stages has its datapath and its program")
     options.microcode = options.inputs[0]
-    if is_net(options.microcode) and (options.datapath is not None or options.full is not None):
+    # --full is true alone, or a text.
+    if is_net(options.microcode) and (options.datapath is not None or options.full not in (None, False)):
         parser.error(
             "--datapath and --full are for microcode: a net file names the datapaths, and its cores have one program")
-    return options
 
 
 def make_net(options: argparse.Namespace) -> None:

@@ -281,9 +281,9 @@ class Certified:
         made, rank, length = [Source(self.system, kicks, self.passing) for kicks in sources], self.system.rank[node], 1
         while True:
             in_time = all([source.bring(length, self.clock) for source in made])
-            rests = [None if rank in source.unbounded else value_of(source.rest.get(rank, NOTHING).total)
-                     for source in made]
-            left = None if None in rests else sum((rest * weight for rest, weight in zip(rests, weights)), Fraction(0))
+            rests = [value_of(source.rest.get(rank, NOTHING).total) for source in made if rank not in source.unbounded]
+            left = sum((rest * weight for rest, weight in zip(rests, weights)), Fraction(0)) \
+                if len(rests) == len(made) else None
             if not in_time or left is not None and left <= most:
                 return max(source.response.time for source in made), left
             length += 1 + length // 4

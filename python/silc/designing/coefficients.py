@@ -5,6 +5,7 @@ from collections.abc import Iterator
 from pathlib import Path
 
 from silc.designing.filters import Section
+from silc.designing.samples import lines_of
 
 SECTION_NAMES = "b0 b1 b2 a0 a1 a2"
 SECTION_WORDS = len(SECTION_NAMES.split())
@@ -17,15 +18,6 @@ ENDING = re.compile(r"\]\s*\)?\s*;?\s*$")
 
 class BadFile(ValueError):
     """What is wrong with a file, and where."""
-
-
-def lines_of(file: str | Path) -> list[str]:
-    try:
-        return Path(file).read_text().splitlines()
-    except OSError as fault:
-        raise BadFile(f"{file}: {fault.strerror}") from fault
-    except UnicodeDecodeError as fault:
-        raise BadFile(f"{file}: it is no text") from fault
 
 
 def number_of(word: str, place: str) -> float:
@@ -42,7 +34,7 @@ def rows_in(file: str | Path) -> Iterator[tuple[str, list[float]]]:
     """The rows of numbers of a file, each with its place. A row in brackets may go over several lines."""
     factor = 1.0
     open_row: tuple[str, list[float]] | None = None
-    for number, line in enumerate(lines_of(file), 1):
+    for number, line in enumerate(lines_of(file, BadFile), 1):
         place = f"{file}:{number}"
         if scaled := FACTOR.fullmatch(line):
             factor = number_of(scaled[1], place)

@@ -5,6 +5,7 @@ from dataclasses import dataclass, field, replace
 
 from silc.designing.programs import in_room, ran
 from silc.designing.shapes import Shape
+from silc.sure import sure
 
 DECLARED = re.compile(r"  (parameter|result|local) (\w+)((?:\[\d+\])*) at \d+ : (?:fix<(\d+),(\d+),([\w,]+)>|bool)")
 TABLE = re.compile(r"const (\w+)((?:\[\d+\])*) : \S+ = (.*)")
@@ -30,7 +31,7 @@ def manifest_at(text: str, place: int) -> tuple[Manifest, int]:
         inside, place = manifest_at(text, place + 1)
         return ("-", 0, inside), place
     if text[place] != "(":
-        found = WHOLE_OR_INDEX.match(text, place)
+        found = sure(WHOLE_OR_INDEX.match(text, place))
         return (int(found[0]) if found[0].isdigit() else found[0]), found.end()
     left, place = manifest_at(text, place + 1)
     right, end = manifest_at(text, place + 1)
@@ -76,7 +77,7 @@ Part = int | Read | Operation
 
 def place_at(text: str, place: int) -> tuple[str, tuple[Manifest, ...], int]:
     """A name with its subscripts, and the place behind it."""
-    name, subscripts = NAME.match(text, place), []
+    name, subscripts = sure(NAME.match(text, place)), []
     place = name.end()
     while text[place : place + 1] == "[":
         subscript, place = manifest_at(text, place + 1)
@@ -105,7 +106,7 @@ def operation_at(text: str, place: int) -> tuple[Operation | None, int]:
     place = found.end()
     if found[3]:
         amount, place = manifest_at(text, place)
-    ended = FORMAT_END.match(text, place)
+    ended = sure(FORMAT_END.match(text, place))
     return Operation(found[1], int(found[2]), amount, ended[1], int(ended[2])), ended.end()
 
 
@@ -222,6 +223,11 @@ class FlatElement:
     shape: Shape | None
     body: int | list[FlatPart] | None = None
     initials: dict[int, int] = field(default_factory=dict)
+
+    def parts(self) -> list[FlatPart]:
+        """The body of an element that is no input word."""
+        assert isinstance(self.body, list)
+        return self.body
 
     def reads(self) -> list[tuple[int, int]]:
         """The elements that it reads, each with the delay."""

@@ -126,10 +126,9 @@ class Linear:
 
     def enter(self, number: int) -> None:
         """Makes the node of an element."""
-        body = self.elements[number].body
-        if isinstance(body, int):
+        if isinstance(self.elements[number].body, int):
             return
-        self.number = 0
+        body, self.number = self.elements[number].parts(), 0
         if len(body) == 1 and isinstance(body[0], tuple) and self.is_alias(number, *body[0]):
             self.node_of[number] = self.node_of[body[0][0]]
             self.constants[number] = self.constants[body[0][0]]
@@ -163,8 +162,9 @@ class Linear:
         if isinstance(part, int):
             return Form(constant=Fraction(part))
         number, delay = part
-        if not delay and self.constants[number] is not None:
-            return Form(constant=Fraction(self.constants[number]))
+        constant = self.constants[number]
+        if not delay and constant is not None:
+            return Form(constant=Fraction(constant))
         return Form({part: Fraction(1)})
 
     def made(self, element: int, operation: Operation, parts: list[Form], is_last: bool) -> Form:

@@ -125,7 +125,7 @@ def gains_of(ranks: list[int], sums: Gains, left: Gains) -> Gains | None:
     total = solved(system(lambda w: w.total), right(lambda s: s[0] + s[1], 2 * slack))
     apart = solved(system(lambda w: w[0] - w[1] + w[2]), right(lambda s: s[0] - s[1], 0)) if total else None
     either = solved(system(lambda w: w.total), right(lambda s: s[2], slack)) if total else None
-    if not apart or not either:
+    if not total or not apart or not either:
         return None
     made = {h: {k: Sums(a + b >> finer + 1, a - b >> finer + 1, c >> finer) for k, a, b, c in zip(ranks, *rows)}
             for h, rows in zip(ranks, zip(total, apart, either))}

@@ -10,6 +10,7 @@ from silc.designing.samples import BadSamples, reals_in
 from silc.designing.shapes import Shape
 from silc.designing.sources import words_of_main
 from silc.designing.spectra import welch
+from silc.linking.opening import plain
 
 
 # Shapes of words, `None` for a truth value.
@@ -19,15 +20,15 @@ SOURCE_ENDING, WINDOW, BANDS = ".sil", 1024, 8
 
 
 def reference_rows(file: str | os.PathLike[str], rows: Sequence[Sequence[int]], inputs: WordShapes,
-                   outputs: WordShapes) -> list[tuple[float, ...]]:
-    """The rows of a reference in real numbers: of a file, or of a source over the same samples."""
+                   outputs: WordShapes, folders: Sequence[str] = ()) -> list[tuple[float, ...]]:
+    """The rows of a reference in real numbers: of a file, or of a source over the same samples, which is linked with
+    blocks of these folders where it is to be. Raises `Unlinked` where it can't be."""
     if not str(file).endswith(SOURCE_ENDING):
         made = reals_in(file, len(outputs))
         if len(made) != len(rows):
             raise BadSamples(f"{file}: it has {len(made)} rows, and there are {len(rows)} samples")
         return made
-    with open(file, encoding="latin-1") as text:
-        source = text.read()
+    source, _ = plain(os.fspath(file), folders)
     try:
         own_inputs, own_outputs = words_of_main(source)
     except ValueError as why:
@@ -46,10 +47,10 @@ def scaled(row: Sequence[int], shapes: WordShapes, others: WordShapes, file: str
     """A row of words as words of other shapes, with the same values."""
     made = []
     for word, shape, other in zip(row, shapes, others):
-        places = (other.places if other else 0) - (shape.places if shape else 0)
-        if places < 0:
-            raise BadSamples(f"{file}: an input has {other.places} places, and the samples have {shape.places}")
-        made.append(word << places)
+        wanted, given = (each.places if each else 0 for each in (other, shape))
+        if wanted < given:
+            raise BadSamples(f"{file}: an input has {wanted} places, and the samples have {given}")
+        made.append(word << wanted - given)
     return made
 
 
@@ -97,10 +98,11 @@ def noise_of(own: Sequence[float], reference: Sequence[float], shape: Shape) -> 
                  sum(errors) / len(errors), errors[peak_at], peak_at, welch(reference, WINDOW), welch(errors, WINDOW))
 
 
-def noises(source: str, rows: Sequence[Sequence[int]], file: str | os.PathLike[str]) -> list[Noise]:
-    """The noise of each output of a source over the samples, against a reference."""
+def noises(source: str, rows: Sequence[Sequence[int]], file: str | os.PathLike[str],
+           folders: Sequence[str] = ()) -> list[Noise]:
+    """The noise of each output of a source over the samples, against a reference as in `reference_rows`."""
     inputs, outputs = words_of_main(source)
-    reference = reference_rows(file, rows, inputs, outputs)
+    reference = reference_rows(file, rows, inputs, outputs, folders)
     made = values(evaluated(source, rows), outputs)
     return [noise_of(own, wanted, shape) for own, wanted, shape in zip(zip(*made), zip(*reference), outputs) if shape]
 
@@ -146,5 +148,5 @@ def silence_after(source: str, word: int, length: int) -> Silence:
         return Silence(0, 1, rows[1:2], last, False)
     # The first sample is the impulse, and a state reaches back over the longest delay.
     start, period = repetition(columns[1:], longest)
-    words = rows[start + 2 : start + 2 + period] if period else []
+    words = rows[start + 2 : start + 2 + period] if period and start is not None else []
     return Silence(start, period, words, last, True)

@@ -8,6 +8,7 @@ from collections.abc import Iterable, Sequence
 from silc.designing.flat import FlatElement, flat_of
 from silc.designing.programs import Unrun, evaluated
 from silc.designing.unbounded import Passed, Run, own_run, unbounded_run
+from silc.sure import sure
 
 WRAPS, SATURATES, FOLLOWS, INSIDE, MEANT = "wraps", "saturates", "follows", "overflows inside", "meant to wrap"
 # As many samples are gone over at a time.
@@ -70,12 +71,12 @@ class Tally:
         if words != others:
             self.differ(words, others, own, exact, start)
         if before := exact.exact.get(self.number):
-            self.meant.add(start, [n for n, word in enumerate(before) if not self.shape.has(word)])
+            self.meant.add(start, [n for n, word in enumerate(before) if not sure(self.shape).has(word)])
 
     def differ(self, words: list[int], others: list[int], own: Run, exact: Run, start: int) -> None:
         places = [n for n, (word, other) in enumerate(zip(words, others)) if word != other]
         passing = [n for n in places if self.shape and not self.shape.has(words[n])]
-        if passing and self.passing.first is None:
+        if self.shape and passing and self.passing.first is None:
             nearest = max(self.shape.least, min(self.shape.greatest, words[passing[0]]))
             self.kind = SATURATES if others[passing[0]] == nearest else WRAPS
         self.passing.add(start, passing)

@@ -10,13 +10,14 @@ class BadSamples(ValueError):
     """What is wrong with a file of samples, and where."""
 
 
-def lines_of(file: str | os.PathLike[str]) -> list[str]:
+def lines_of(file: str | os.PathLike[str], wrong: type[ValueError] = BadSamples) -> list[str]:
+    """The lines of a file, or a fault that names it."""
     try:
         return Path(file).read_text().splitlines()
     except OSError as fault:
-        raise BadSamples(f"{file}: {fault.strerror}") from fault
+        raise wrong(f"{file}: {fault.strerror}") from fault
     except UnicodeDecodeError as fault:
-        raise BadSamples(f"{file}: it is no text") from fault
+        raise wrong(f"{file}: it is no text") from fault
 
 
 def range_of(shape: Shape | None) -> tuple[int, int]:

@@ -64,8 +64,8 @@ def decimal(number: int, digits: int) -> str:
     return ("-" if number < 0 else "") + f"{text[:-digits]}.{text[-digits:]}"
 
 
-def shape_of(words: str) -> Shape:
-    """The shape that `W,F` names."""
+def numbers_of(words: str) -> tuple[int, int]:
+    """The bits of a word, and those after its point, that `W,F` names."""
     found = re.fullmatch(r"(\d{1,2}),(\d{1,2})", words)
     if not found:
         raise ValueError(f"{words} is no shape W,F")
@@ -73,7 +73,12 @@ def shape_of(words: str) -> Shape:
     if not 1 <= width <= WIDEST or places > width:
         raise ValueError(
             f"fix<{width},{places}> is no type: it has 1 to {WIDEST} bits, and at most all after the point")
-    return Shape(width, places)
+    return width, places
+
+
+def shape_of(words: str) -> Shape:
+    """The shape that `W,F` names."""
+    return Shape(*numbers_of(words))
 
 
 def bits_of(least: int, greatest: int) -> int:

@@ -5,6 +5,7 @@ from typing import Any
 
 from silc.designing.flat import FlatElement, Operation
 from silc.micro_file.operations import FORMATTED
+from silc.sure import sure
 
 # An expression of a line is at most so deep, since Python has a limit.
 DEEPEST = 40
@@ -93,7 +94,7 @@ class Writer:
         body, stack = self.elements[number].body, []
         if isinstance(body, int):
             return f"row[{body}]"
-        for part in body:
+        for part in self.elements[number].parts():
             if not isinstance(part, Operation):
                 stack.append((self.read(part), 0))
                 continue
@@ -114,7 +115,7 @@ class Writer:
             self.lines.append(f"e{number}({self.value(number, False)})")
         text = self.value(number, is_bounded)
         if number in self.told_ones:
-            text = bounded(text, each.shape.width, False)
+            text = bounded(text, sure(each.shape).width, False)
         self.lines.append(f"v{number} = {text}")
         if not is_bounded and each.shape:
             self.lines.append(f"if not {-LARGEST} < v{number} < {LARGEST}: passed({number}, n)")

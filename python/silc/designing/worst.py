@@ -17,6 +17,7 @@ from silc.designing.programs import Unrun, evaluated
 from silc.designing.shapes import Shape
 from silc.designing.sources import words_of_main
 from silc.designing.unbounded import Passed, Run, order_of, own_run, unbounded_run
+from silc.sure import sure
 
 # How often the ranges of what is not linear are made smaller by those of what goes in.
 PASSES = 4
@@ -67,8 +68,7 @@ class Reaches:
         self.linear = linear
         self.certified = Certified(System(linear.terms()), seconds)
         self.ranges = {node: self.input_range(node) for node in linear.inputs}
-        self.ranges |= {node: range_of(linear.widths[node]) if linear.widths[node] else TRUTH
-                        for node in linear.choices}
+        self.ranges |= {node: range_of(width) if (width := linear.widths[node]) else TRUTH for node in linear.choices}
         self.norms = dict(zip(self.ranges, self.certified.norms([unit(node) for node in self.ranges], INPUT_SHARE)))
         self.fixed = [(Fraction(0), Fraction(0))] * len(linear.forms)
         self.unbounded: set[int] = set()
@@ -156,7 +156,7 @@ class Reaches:
             return made, made
         if operation.name == "mul":
             ends = [shifted(a * b, operation) for a in parts[0] for b in parts[1]]
-            free = min(ends), max(ends)
+            free: Range | None = (min(ends), max(ends))
         else:
             free = self.reaches[self.canonical(choice.operands[0][1])]
         if "sat" in operation.mode and free:
@@ -248,18 +248,19 @@ class Worst:
 
     def bound(self, number: int, followers: set[int], tried: dict[int, Range]) -> Bound:
         element, node = self.flat.elements[number], self.shown(number)
+        shape = sure(element.shape)
         reach, choice = self.reaches.reaches[node], self.linear.choices.get(node)
         if choice and choice.operation.name == "mul":
             reach = self.reaches.chosen(choice)[1]
         is_bound = reach is not None
-        least, greatest = reach if is_bound else tried[number]
+        least, greatest = tried[number] if reach is None else reach
         said = self.said.get(self.linear.node_of[number], "")
         if not is_bound and said in (PASSES_RANGE, ""):
-            said = "" if is_within((least, greatest), range_of(element.shape.width)) else PASSED
+            said = "" if is_within((least, greatest), range_of(shape.width)) else PASSED
         said = said or (FOLLOWS if number in followers else "")
         is_linear = not any(node in self.reaches.norms[source] for source in self.linear.choices)
         marks = [AT_LEAST] * (not is_bound) + [said] * bool(said) + [UNLINEAR] * (not is_linear)
-        return Bound(element.name, element.shape, least, greatest, ", ".join(marks), is_bound,
+        return Bound(element.name, shape, least, greatest, ", ".join(marks), is_bound,
                      self.linear.constants[number] is None, number, is_linear)
 
     # Inputs
@@ -309,7 +310,7 @@ class Worst:
             for sign in (1, -1) if clock.left > 0 else ():
                 run = self.run_on(node, sign)
                 for number, (least, greatest) in made.items() if run else ():
-                    words = run.block(number)
+                    words = sure(run).block(number)
                     made[number] = min(least, *words), max(greatest, *words)
         return made
 

@@ -147,11 +147,13 @@ def told(changes: Sequence[Change], tree: Tree) -> str:
 
 def edits_of(changes: Iterable[Change], tree: Tree, text: Text, places: Places) -> list[Edit]:
     """The changes as edits of the file; none where its tables are written in another way than a key a line."""
-    found = [change.edits(tree, text, places) for change in changes]
-    if None in found:
-        return []
+    edits: list[Edit] = []
+    for change in changes:
+        found = change.edits(tree, text, places)
+        if found is None:
+            return []
+        edits += found
     # What is added at the end of the file is one edit, since several at one place have no order.
-    edits = [edit for part in found for edit in part]
     last = [edit for edit in edits if edit.length == 0 and edit.text.lstrip("\n").startswith("[[")]
     rest = [edit for edit in edits if edit not in last]
     if not last:

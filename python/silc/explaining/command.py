@@ -8,10 +8,11 @@ from pathlib import Path
 from typing import TYPE_CHECKING
 
 from silc.explaining.outputs import named
-from silc.explaining.refusals import refusal_of
+from silc.explaining.refusals import Refusal, refusal_of
 from silc.explaining.report import Report, edit_line, lines_of
 from silc.explaining.text import Text
 from silc.programs import SHOW
+from silc.sure import sure
 
 if TYPE_CHECKING:
     from silc.linking.words import Given
@@ -31,8 +32,14 @@ class Case:
         self.words, self.status, self.silc, self.datapath, self.is_quiet = words, status, silc, datapath, is_quiet
         self.files = named(words) or {}
         found = next(filter(None, map(refusal_of, said.splitlines())), None)
-        self.refusal, self.values = found or (None, {})
+        self.known: Refusal | None = found[0] if found else None
+        self.values: dict[str, str] = found[1] if found else {}
         self.said = said
+
+    @property
+    def refusal(self) -> Refusal:
+        """What is known of the refusal, where something is."""
+        return sure(self.known)
 
     def text(self, what: str) -> Text:
         """The file that a word names. What a pipe has given is gone."""
@@ -130,7 +137,7 @@ def explain(command: Given, status: int, said: str, silc: str | Path, datapath: 
         # Whatever is wrong here, the command was refused, and what the refusal means is known.
         say(f"the place is not known: {fault!r}")
         report = None
-    if report is None and case.refusal:
+    if report is None and case.known:
         report = case.refusal.report(about="silc")
     if report:
         print("\n".join([*lines_of(report), *(map(edit_line, report.edits) if is_edited else ())]), file=sys.stderr,

@@ -91,9 +91,9 @@ def misspelt(window: list[Token], at: int) -> Iterator[Trial]:
     """The words of the language that a name there, or the one before it, is like."""
     for place in (at - 1, at):
         token = window[place] if 0 <= place < len(window) else None
-        words = difflib.get_close_matches(token.text.lower(), WORDS, 4,
-                                          ALIKE) if token and token.kind in ("name", "reserved") else ()
-        for word in words:
+        if token is None or token.kind not in ("name", "reserved"):
+            continue
+        for word in difflib.get_close_matches(token.text.lower(), WORDS, 4, ALIKE):
             made, _ = tokens_of(word)
             yield Trial(f"write `{word}` in the place of `{token.text}`.", window[:place] + made + window[place + 1:],
                         word, 1, 1,

@@ -6,6 +6,7 @@ from dataclasses import dataclass, field
 from typing import Any, NoReturn, TypeVar
 
 from silc.explaining.text import Token
+from silc.sure import sure
 
 Thing = TypeVar("Thing")
 
@@ -35,6 +36,14 @@ class Node:
     type: Type | None = None
     value: Any = None
 
+    def cast(self) -> Type:
+        """The type of a cast."""
+        return sure(self.type)
+
+    def by(self) -> Node:
+        """The manifest number of a delay, of a shift or of an initial value."""
+        return sure(self.amount)
+
 
 @dataclass
 class Type:
@@ -47,6 +56,10 @@ class Type:
 
     def shape(self) -> tuple[int | None, int]:
         return self.width, self.places
+
+    def bits(self) -> int:
+        """The width of the words of numbers."""
+        return sure(self.width)
 
 
 @dataclass
@@ -303,16 +316,10 @@ class Parser:
     # manifest numbers
 
     def manifest(self) -> Node:
-        left = self.term()
-        while self.is_next("+") or self.is_next("-"):
-            left = self.joined("manifest", left, self.term)
-        return left
+        return self.chain("manifest", self.term, "+", "-")
 
     def term(self) -> Node:
-        left = self.factor()
-        while self.is_next("*"):
-            left = self.joined("manifest", left, self.factor)
-        return left
+        return self.chain("manifest", self.factor, "*")
 
     def factor(self) -> Node:
         start = self.token().start
@@ -341,17 +348,18 @@ class Parser:
         right = part()
         return Node(kind, operator.start, left.start, self.last(), operator.text, [left, right])
 
-    def expression(self) -> Node:
-        left = self.conjunction()
-        while self.is_next("|"):
-            left = self.joined("logic", left, self.conjunction)
+    def chain(self, kind: str, part: Callable[[], Node], *operators: str) -> Node:
+        """Parts that some operators join, from the left."""
+        left = part()
+        while any(map(self.is_next, operators)):
+            left = self.joined(kind, left, part)
         return left
 
+    def expression(self) -> Node:
+        return self.chain("logic", self.conjunction, "|")
+
     def conjunction(self) -> Node:
-        left = self.comparison()
-        while self.is_next("&"):
-            left = self.joined("logic", left, self.comparison)
-        return left
+        return self.chain("logic", self.comparison, "&")
 
     def comparison(self) -> Node:
         left = self.sum()
@@ -360,16 +368,10 @@ class Parser:
         return left
 
     def sum(self) -> Node:
-        left = self.product()
-        while self.is_next("+") or self.is_next("-"):
-            left = self.joined("sum", left, self.product)
-        return left
+        return self.chain("sum", self.product, "+", "-")
 
     def product(self) -> Node:
-        left = self.shift()
-        while self.is_next("*"):
-            left = self.joined("product", left, self.shift)
-        return left
+        return self.chain("product", self.shift, "*")
 
     def shift(self) -> Node:
         left = self.unary()

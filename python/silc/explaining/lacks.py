@@ -145,10 +145,13 @@ def longest_chain(plan: Plan) -> tuple[list[int], int]:
         after[node.number] = best
         height[node.number] = plan.latency[node.unit] + (height[best.number] if best else 0)
     first = max(plan.nodes, key=lambda node: (height[node.number], -node.number))
-    chain, node = [], first
-    while node is not None:
-        chain.append(node.number)
-        node = after[node.number]
+    chain, number = list[int](), first.number
+    while True:
+        chain.append(number)
+        following = after[number]
+        if following is None:
+            break
+        number = following.number
     return chain, height[first.number]
 
 

@@ -7,6 +7,7 @@ from silc.explaining.refusals import language
 from silc.explaining.report import Report
 from silc.explaining.table_words import in_words, words_of_table
 from silc.explaining.text import RESERVED, Text
+from silc.sure import sure
 
 TEXT = language("Text")
 LONGEST_NUMBER = 18
@@ -114,7 +115,7 @@ def division(source: Source, at: int) -> Report:
     """A division, with the shift or the product that does it where the divisor is a number."""
     found = re.match(r"/\s*(\d{1,6}(?:\.\d{1,6})?)(?![\w.])", source.text.chars[at:at + 40])
     by = float(found[1]) if found else 0
-    if by <= 1:
+    if found is None or by <= 1:
         short, cure, section = CURES["/"]
         return Report(short, cure, language(section), source.text.span(at))
     power = int(by).bit_length() - 1
@@ -160,8 +161,8 @@ def byte_name(text: Text, at: int) -> str:
 
 
 def bad_number(source: Source, at: int) -> Report:
-    found = re.match(r"\d+(\.\d+)?", source.text.chars[at:])
-    word = re.match(r"[\w.]+", source.text.chars[at:], re.A)[0]
+    found = sure(re.match(r"\d+(\.\d+)?", source.text.chars[at:]))
+    word = sure(re.match(r"[\w.]+", source.text.chars[at:], re.A))[0]
     rest = word[found.end():]
     span = source.text.span(at, at + len(word))
     if sum(char.isdigit() for char in found[0]) > LONGEST_NUMBER:

@@ -12,9 +12,12 @@ from silc.explaining.refusals import datapath
 from silc.explaining.report import Report, counted, listed
 from silc.explaining.text import Edit, Span, Text
 from silc.explaining.toml_places import Extent, Item, Places, TablePlace, Tree
+from silc.sure import sure
 
 MOST_BYTES, MOST_TABLES, MOST_ENTRIES = 1 << 20, 32, 256
-TOP = {"period": (1, 4096), "word": (8, 40), "hold": (0, 3), "unit": None, "bus": None}
+# The least and the greatest number of each key of the top table that has one.
+TOP = {"period": (1, 4096), "word": (8, 40), "hold": (0, 3)}
+TABLES = ("unit", "bus")
 UNIT = ("name", "kind", "latency", "gap", "files", "cells", "ram")
 BUS = ("name", "from", "to")
 SECTION = {"top": datapath("The top table"), "unit": datapath("A unit"), "bus": datapath("A bus")}
@@ -137,6 +140,11 @@ def kind_of(unit: Tree) -> str | None:
     return unit["kind"] if isinstance(unit.get("kind"), str) else None
 
 
+def ports_of(unit: Tree) -> int | None:
+    """How many ports a unit has by the kind in its table, or nothing where that is none."""
+    return PORTS.get(kind_of(unit) or "")
+
+
 class Judge:
     """A datapath file in which a table has a fault."""
 
@@ -147,9 +155,9 @@ class Judge:
         kind, _, number = case.values["table"].partition(" ")
         self.place = (kind, int(number or 0))
         self.table = tree if kind == "top" else tree[kind][self.place[1]]
-        units = tree.get("unit") if isinstance(tree.get("unit"), list) else []
-        self.units = {unit["name"]: unit for unit in units if isinstance(unit, dict)
-                      and isinstance(unit.get("name"), str)}
+        units = tree.get("unit")
+        self.units = {unit["name"]: unit for unit in (units if isinstance(units, list) else [])
+                      if isinstance(unit, dict) and isinstance(unit.get("name"), str)}
 
     def title(self) -> str:
         kind, number = self.place
@@ -186,14 +194,14 @@ class Judge:
         return [self.text.edit(start, end + 1, "")] if is_alone else []
 
     def report(self) -> Report:
-        return {"unknown key": self.unknown_key, "missing key": self.missing_key, "wrong kind": self.wrong_kind,
-                "out of range": self.out_of_range, "unknown unit": self.unknown_unit, "unknown port": self.unknown_port,
-                "named twice": self.named_twice}[self.fault]()
+        return sure({"unknown key": self.unknown_key, "missing key": self.missing_key, "wrong kind": self.wrong_kind,
+                     "out of range": self.out_of_range, "unknown unit": self.unknown_unit,
+                     "unknown port": self.unknown_port, "named twice": self.named_twice}[self.fault]())
 
     def keys(self) -> list[str]:
         kind = self.place[0]
         if kind == "top":
-            return list(TOP)
+            return [*TOP, *TABLES]
         if kind == "bus":
             return list(BUS)
         own = kind_of(self.table)
@@ -211,7 +219,7 @@ class Judge:
                 .by(*self.without(key))
         if self.place[0] == "top" and key in (*UNIT, *BUS):
             return self.made(f"`{key}` belongs to a unit or a bus", "write it after `[[unit]]` or `[[bus]]`.", place)
-        if self.place[0] != "top" and key in TOP:
+        if self.place[0] != "top" and key in (*TOP, *TABLES):
             return self.made(f"`{key}` belongs to the top table, and stands in {self.title()}",
                              "write it before the first `[[unit]]`.", place)
         # A key that is there already can't be the one that was meant.
@@ -244,7 +252,7 @@ class Judge:
             return list(BUS)
         own = kind_of(self.table)
         made = ["name", "kind"]
-        if PORTS.get(own, 0):
+        if ports_of(self.table):
             made.append("files")
         return made + (["cells"] if own == "ram" else ["ram"] if own == "acu" else [])
 
@@ -262,7 +270,7 @@ class Judge:
                         if (name := f"{self.place[0]}{number}") not in taken)
         if key == "from" and self.unit_names():
             return f'from = ["{self.unit_names()[0]}"]'
-        ports = [name for name in self.unit_names() if PORTS.get(kind_of(self.units[name]), 0)]
+        ports = [name for name in self.unit_names() if ports_of(self.units[name])]
         return f'to = ["{ports[0]}.0"]' if key == "to" and ports else EXAMPLE[key]
 
     def lacking_name(self) -> str | None:
@@ -477,7 +485,7 @@ class Judge:
 
     def ports(self) -> list[str]:
         """The ports of all units, as `add.0`."""
-        return [f"{name}.{port}" for name, unit in self.units.items() for port in range(PORTS.get(kind_of(unit), 0))]
+        return [f"{name}.{port}" for name, unit in self.units.items() for port in range(ports_of(unit) or 0)]
 
     def no_unit(self, key: str, number: int, end: str, name: str) -> Report:
         item = (self.table[key][:number].count(end), end)
@@ -498,7 +506,7 @@ class Judge:
     def unknown_port(self) -> Report | None:
         for number, end in enumerate(self.table["to"]):
             name, dot, port = end.rpartition(".")
-            ports = PORTS.get(kind_of(self.units.get(name, {})), 0)
+            ports = ports_of(self.units.get(name, {})) or 0
             if not dot or not (len(port) == 1 and port.isdecimal() and int(port) < ports):
                 place = self.places.value(self.place, "to", (self.table["to"][:number].count(end), end))
                 return self.no_port(end, name, dot, ports, place)
@@ -506,7 +514,7 @@ class Judge:
 
     def no_port(self, end: str, name: str, dot: str, ports: int, place: Extent | None) -> Report:
         if not dot:
-            count = PORTS.get(kind_of(self.units.get(end, {})))
+            count = ports_of(self.units.get(end, {}))
             cure = "write UNIT.PORT, as `add.0`."
             if count:
                 cure = f"write {listed([f'`{end}.{port}`' for port in range(count)], 'or')}."

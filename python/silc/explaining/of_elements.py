@@ -9,6 +9,7 @@ from silc.explaining.program import (LOAD, WHERE, Context, Element, Expansion, I
 from silc.explaining.refusals import language
 from silc.explaining.report import Report, counted, listed
 from silc.explaining.text import Edit
+from silc.sure import sure
 
 # The elements whose lines are shown; of more, the lines' numbers are told.
 MOST_SHOWN = 12
@@ -45,9 +46,9 @@ def turn_note(report: Report, indices: Indices, value: int | None, source: Sourc
 
 
 def bad_index(source: Source, at: int) -> Report:
-    context = source.at(at, *WHERE)
+    context = source.there(at, *WHERE)
     try:
-        indices, value, _ = first_turn(source, source.function_at(at), at, lambda *_: False)
+        indices, value, _ = first_turn(source, source.function(at), at, lambda *_: False)
     except Overflow as overflow:
         indices, value = {}, overflow.value
     shown = source.shown(context.node)
@@ -60,22 +61,23 @@ def bad_index(source: Source, at: int) -> Report:
 
 
 def out_of_bounds(source: Source, at: int) -> Report:
-    func = source.function_at(at)
+    func = source.function(at)
 
     def dim_of(context: Context) -> tuple[Decl, int]:
         owner = context.parent or next(target for target in targets_of(context.item)
                                        if any(sub.at == context.node.at for sub in target.subs))
-        decl = source.decl(func, owner.name)
+        decl = source.declared(func, owner.name)
         return decl, decl.dims[next(k for k, sub in enumerate(owner.subs) if sub.at == context.node.at)]
 
-    indices, value, context = first_turn(
+    indices, value, found = first_turn(
         source, func, at, lambda c, v: c.role == "subscript" and not 0 <= v < dim_of(c)[1])
+    context = sure(found)
     decl, dim = dim_of(context)
     report = Report(f"the subscript is {value}, and `{decl.name}` has {counted(dim, 'element')} there, 0 to {dim - 1}",
                     "", language("Declarations"), source.node_span(context.node))
     turn_note(report, indices, value, source, context.node)
     report.note(f"`{decl.name}` is declared here.", source.name_span(decl))
-    good = good_turns(source.at(at, "subscript"), indices, dim)
+    good = good_turns(source.there(at, "subscript"), indices, dim)
     report.cure = f"write a subscript from 0 to {dim - 1}, or declare more elements of `{decl.name}`."
     if good:
         report.cure = f"let the loop of `{good[0]}` go from {good[1]} to {good[2]}, or write another subscript."
@@ -108,22 +110,24 @@ def value_of(node: Node, indices: Indices) -> int:
 
 
 def bad_delay(source: Source, at: int) -> Report:
-    func = source.function_at(at)
-    context = source.at(at, "delay", "initial")
-    if context.role == "delay" and context.parent.name in source.tables:
-        table = source.tables[context.parent.name]
-        written = plain(source, context.parent)
+    func = source.function(at)
+    context = source.there(at, "delay", "initial")
+    parent = sure(context.parent)
+    if context.role == "delay" and parent.name in source.tables:
+        table = source.tables[parent.name]
+        written = plain(source, parent)
         return Report(f"`{table.name}` is a table, and has no past", f"take the delay away: write `{written}`.",
-                      language("Delays and initial values"), source.node_span(context.parent)) \
+                      language("Delays and initial values"), source.node_span(parent)) \
             .note("This is the table.", source.name_span(table)) \
-            .by(source.text.edit(context.parent.start, context.parent.end, written))
+            .by(source.text.edit(parent.start, parent.end, written))
     least = 1 if context.role == "initial" else 0
-    indices, value, context = first_turn(source, func, at, lambda c, v: c.role in ("delay", "initial")
-                                         and not least <= v <= MOST_DELAY)
+    indices, value, found = first_turn(source, func, at, lambda c, v: c.role in ("delay", "initial")
+                                       and not least <= v <= MOST_DELAY)
+    context = sure(found)
     what = "an initial value is 1 to 1023 samples before the first" if least else "a delay is 0 to 1023 samples"
     cure = f"write a number from {least} to {MOST_DELAY}."
     if value is not None and value > MOST_DELAY and not least:
-        cure = f"write a number from 0 to {MOST_DELAY}; {longer_delay(plain(source, context.parent), value)}"
+        cure = f"write a number from 0 to {MOST_DELAY}; {longer_delay(plain(source, sure(context.parent)), value)}"
     report = Report(f"{what}, and this is {value}", cure, language("Delays and initial values"),
                     source.node_span(context.node))
     return turn_note(report, indices, value, source, context.node)
@@ -139,27 +143,28 @@ def longer_delay(shown: str, value: int) -> str:
 
 
 def plain(source: Source, read: Node) -> str:
-    return source.text.chars[read.start:read.amount.start].split("@")[0].strip()
+    return source.text.chars[read.start:read.by().start].split("@")[0].strip()
 
 
 def bad_shift(source: Source, at: int) -> Report:
-    indices, value, context = first_turn(source, source.function_at(at), at,
-                                         lambda c, v: c.role == "amount" and not 0 <= v <= MOST_SHIFT)
+    indices, value, found = first_turn(source, source.function(at), at,
+                                       lambda c, v: c.role == "amount" and not 0 <= v <= MOST_SHIFT)
+    context = sure(found)
     report = Report(f"a shift is by 0 to {MOST_SHIFT} bits, and this is {value}",
                     f"write a number from 0 to {MOST_SHIFT}"
-                    + (", and the other shift for a negative one." if value < 0 else "."), language("Equations"),
+                    + (", and the other shift for a negative one." if sure(value) < 0 else "."), language("Equations"),
                     source.node_span(context.node))
     return turn_note(report, indices, value, source, context.node)
 
 
 def defined_twice(source: Source, at: int) -> Report:
-    func = source.function_at(at)
-    context = source.at(at, "target")
+    func = source.function(at)
+    context = source.there(at, "target")
     if context.item.kind == "initial":
         return initial_twice(source, func, at)
     params = {decl.name for decl in func.params}
     if context.node.name in params:
-        decl = source.decl(func, context.node.name)
+        decl = source.declared(func, context.node.name)
         return Report(f"`{decl.name}` is a parameter, and has its word by the call or from outside",
                       "define a result, or a signal that is declared by `var`.", language("Equations"),
                       source.node_span(context.node)).note(f"`{decl.name}` is declared here.", source.name_span(decl))
@@ -194,8 +199,8 @@ def initial_twice(source: Source, func: Func, at: int) -> Report:
     for item, indices in turns_of(func.items):
         if item.kind == "initial":
             target = item.parts[0]
-            decl = source.decl(func, target.name)
-            key = element_name(decl, offset(decl.dims, target.subs, indices)), manifest(item.amount, indices)
+            decl = source.declared(func, target.name)
+            key = element_name(decl, offset(decl.dims, target.subs, indices)), manifest(item.by(), indices)
             if key in seen and target.at == at:
                 return Report(f"`{key[0]}` has two initial values for the sample {key[1]} before the first",
                               "take one of the two away.", language("Delays and initial values"),
@@ -207,7 +212,7 @@ def initial_twice(source: Source, func: Func, at: int) -> Report:
 
 
 def not_defined(source: Source, at: int) -> Report:
-    func = source.function_at(at)
+    func = source.function(at)
     decl = next(decl for decl in func.decls() if decl.at == at)
     made: dict[int, tuple[Node, list[int]]] = {}
     defined: set[int] = set()

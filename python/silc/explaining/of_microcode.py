@@ -12,6 +12,7 @@ from silc.explaining.text import Text
 from silc.hardware.datapath import called, unit_faults
 from silc.micro_file import FIELD, MAGIC, SHORT, TRAILING, BadImage, image_of
 from silc.micro_file.image import Image, Issue, Word
+from silc.sure import sure
 
 MOST_BYTES = 1 << 26
 # The version, in which fields have bits and no whole bytes. Bit 0 of a byte is its most significant.
@@ -153,6 +154,10 @@ class Conflict:
             return None
         return self.at(cycle).issues.get(unit)
 
+    def shown(self, cycle: int) -> str:
+        """The text of the issue on the unit of the conflict in a cycle that has one."""
+        return sure(self.issue(cycle, self.place)).text()
+
     def begun(self, unit: int) -> Issue | None:
         """The issue whose result a unit has in the cycle of the conflict, or nothing."""
         return self.issue(self.cycle - self.image.units[unit].latency + 1, unit)
@@ -184,8 +189,8 @@ class Conflict:
                         f"gap is {unit.gap}",
                         f"issue one of the two in another cycle: {unit.gap} after the other, or more.",
                         CONFLICTS)
-        report.note(f"In cycle {earlier} it begins `{self.issue(earlier, self.place).text()}`.")
-        return report.note(f"In cycle {self.cycle} it begins `{self.issue(self.cycle, self.place).text()}`.")
+        report.note(f"In cycle {earlier} it begins `{self.shown(earlier)}`.")
+        return report.note(f"In cycle {self.cycle} it begins `{self.shown(self.cycle)}`.")
 
     def two_drivers(self) -> Report:
         units = self.at(self.cycle).drivers(self.place)
@@ -244,13 +249,13 @@ class Conflict:
         near = [cycle for cycle in range(max(0, self.cycle - self.image.period), self.cycle + 1)
                 if self.issue(cycle, self.place)]
         if near:
-            report.note(f"It begins `{self.issue(near[-1], self.place).text()}` in cycle {near[-1]}, with the result "
+            report.note(f"It begins `{self.shown(near[-1])}` in cycle {near[-1]}, with the result "
                         f"in cycle "
                         f"{near[-1] + unit.latency - 1}.")
         return report
 
     def address(self) -> Report:
-        unit, issue = self.image.units[self.place], self.issue(self.cycle, self.place)
+        unit, issue = self.image.units[self.place], sure(self.issue(self.cycle, self.place))
         register = issue.registers[0]
         last = len(unit.cells) - 1
         port = self.called.port(self.place, 0)

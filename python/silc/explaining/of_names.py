@@ -10,6 +10,7 @@ from silc.explaining.refusals import language
 from silc.explaining.report import Report, counted, listed
 from silc.explaining.text import Span
 from silc.explaining.typing_rules import MOST_BITS, Typing
+from silc.sure import sure
 
 # How much alike two names are, from 0 to 1, of which one may be meant by the other.
 ALIKE = 0.6
@@ -28,7 +29,7 @@ def near(name: str, names: Iterable[str]) -> str | None:
 
 
 def unknown_name(source: Source, at: int) -> Report:
-    context = source.at(at, "expression", "target", "call", *WHERE)
+    context = source.there(at, "expression", "target", "call", *WHERE)
     if context.role in WHERE:
         return unknown_index(source, context)
     reports = {"expression": unknown_read, "target": unknown_target, "call": unknown_function}
@@ -101,7 +102,7 @@ def numbered(source: Source, context: Context) -> Report | None:
     node, func = context.node, context.func
     found = re.fullmatch(r"(\w*?[A-Za-z_])(\d+)", node.name)
     decl = source.decl(func, found[1]) if found else None
-    if decl is None or decl.role == "table" and not decl.dims:
+    if found is None or decl is None or decl.role == "table" and not decl.dims:
         return None
     number = int(found[2])
     written = f"{decl.name}[{number}]" if decl.dims else f"{decl.name}@{number}"
@@ -137,7 +138,7 @@ def misspelt(source: Source, context: Context, known: list[str], short: str) -> 
             if context.item.kind == "initial" or not uses_of(source, func, decl.name)[0]]
     like = near(name, known if not targets else [] if reads else free)
     if like:
-        decl = source.decl(func, like)
+        decl = source.declared(func, like)
         return Report(short, f"write `{like}`.", language("Declarations")) \
             .note(f"`{like}` is declared here.", source.name_span(decl)) \
             .by(source.text.edit(node.at, node.at + len(name), like))
@@ -152,7 +153,7 @@ def misspelt(source: Source, context: Context, known: list[str], short: str) -> 
 
 def misdeclared(source: Source, func: Func, like: str, name: str, short: str) -> Report:
     """The report on a name that is declared by another one, which nothing uses."""
-    decl = source.decl(func, like)
+    decl = source.declared(func, like)
     return Report(f"{short}, and nothing uses `{like}`", f"write `{name}` where `{like}` is declared.",
                   language("Declarations")) \
         .note(f"`{like}` is declared here.", source.name_span(decl)).by(source.text.edit(decl.at, decl.end, name))
@@ -190,7 +191,8 @@ def dims_of(source: Source, func: Func, nodes: Sequence[Node]) -> list[int | str
 
 
 def max_of(values: Sequence[int | None]) -> int | str:
-    return ".." if None in values or max(values) >= MOST_DIM else max(values) + 1
+    known = [value for value in values if value is not None]
+    return ".." if len(known) < len(values) or max(known) >= MOST_DIM else max(known) + 1
 
 
 def greatest(source: Source, func: Func, node: Node, sub: Node) -> int | None:
@@ -329,7 +331,7 @@ def wrong_count(source: Source, at: int) -> Report:
     context = source.at(at, "call")
     if context:
         return wrong_call(source, context)
-    context = source.at(at, "expression", "target")
+    context = source.there(at, "expression", "target")
     decl = source.decl(context.func, context.node.name) if context.node.name else None
     subs = len(context.node.subs)
     if decl is None or subs == len(decl.dims) or (decl.dims and context.parent and context.parent.kind == "call"):
@@ -417,13 +419,14 @@ def not_bare(source: Source, context: Context) -> Report:
     return Report(f"an array `{size}` is handed on as its bare name, and this is none of this size", cure,
                   language("Functions"),
                   source.node_span(context.node)) \
-        .note(f"`{decl.name}` of `{callee.name}` is declared here.", source.name_span(decl))
+        .note(f"`{sure(decl).name}` of `{callee.name}` is declared here.", source.name_span(sure(decl)))
 
 
 def bad_size(source: Source, at: int) -> Report:
     context = source.at(at, "expression")
     if context and context.node.kind == "cast":
-        return bad_type(source, context.node.type, source.text.span(context.node.type.start, context.node.type.end))
+        of = context.node.cast()
+        return bad_type(source, of, source.text.span(of.start, of.end))
     decls = [top.decl for top in source.tops if not isinstance(top, Func)]
     decls += [decl for top in source.tops if isinstance(top, Func) for decl in top.decls()]
     decl = next(decl for decl in decls if decl.at == at)
@@ -439,14 +442,14 @@ def bad_size(source: Source, at: int) -> Report:
 
 
 def bad_type(source: Source, of: Type, span: Span) -> Report:
-    if not 1 <= of.width <= MOST_BITS:
+    if not 1 <= of.bits() <= MOST_BITS:
         return Report(f"a word has 1 to {MOST_BITS} bits, and `{of.text}` has {of.width}",
                       f"write a first number from 1 to {MOST_BITS}.", language("Words and types"), span)
-    return Report(f"of the {counted(of.width, 'bit')} of `{of.text}` at most {of.width} are after the point, and not "
+    return Report(f"of the {counted(of.bits(), 'bit')} of `{of.text}` at most {of.width} are after the point, and not "
                   f"{of.places}", f"write a second number from 0 to {of.width}.", language("Words and types"), span)
 
 
-def no_main(source: Source, _: object) -> Report:
+def no_main(source: Source) -> Report:
     called = {call.name for func in source.funcs.values() for call in calls_of(func)}
     free = [func.name for func in source.tops if isinstance(func, Func) and func.name not in called]
     like = near("main", free) or next(iter(reversed(free)), None)

@@ -38,7 +38,7 @@ def processor_case(case: Case) -> Case | None:
 
 
 def report_of(case: Case) -> Report | None:
-    text, what = case.text("NET"), case.refusal.text if case.refusal else ""
+    text, what = case.text("NET"), case.known.text if case.known else ""
     if what == "net too long":
         return Report(f"the file has {len(text.data)} bytes, and at most {MOST_BYTES} are read", "take out comments.",
                       FILE, about=text.name)

@@ -147,7 +147,7 @@ class Refused:
         if not found or found[0] is not self.node or not found[1] or found[1][2] != port:
             return Report(f"no bus leads to {port} from the unit whose word is wanted there",
                           f"add `\"{port}\"` to `to` of a bus that this unit drives.", planning("Units"))
-        _, (word, unit, _) = found
+        word, unit, _ = found[1]
         name = self.tree["unit"][unit]["name"]
         report = Report(f"{words_of(self.nodes, word)} comes from `{name}`, and no bus leads from there to `{port}`",
                         "", planning("Units"))
@@ -339,8 +339,8 @@ class Refused:
         if length > given or not full:
             report.note(f"The longest chain of operations that wait for one another takes {counted(length, 'cycle')}"
                         + (f": {self.chain(chain)}." if self.nodes else "."))
-        fullest = max(buses, key=buses.get)
-        most = max(units, key=units.get)
+        fullest = max(buses, key=lambda name: buses[name])
+        most = max(units, key=lambda name: units[name])
         report.note(f"In a period of {least}, `{fullest}` carries a word in {counted(buses[fullest], 'cycle')}, more "
                     f"than any other "
                     f"bus; of the units `{most}` is taken most, for {counted(units[most], 'cycle')}.")

@@ -12,6 +12,7 @@ from silc.explaining.refusals import Refusal, language
 from silc.explaining.report import Report
 from silc.explaining.text import Text
 from silc.explaining.typing_rules import LITERAL, MISMATCH, NEEDS_CAST, NOT_BOOL
+from silc.sure import sure
 
 BY_FAULT = {
     "Unknown": unknown_name, "Twice": declared_twice, "Recursive": recursive_function, "Arity": wrong_count,
@@ -43,10 +44,11 @@ def report_found(text: Text, refusal: Refusal, values: dict[str, str]) -> Report
 
 def report_at(source: Source, kind: str, at: int | None) -> Report:
     """The report on a fault at its place: a byte, a token, or an element of a loop."""
+    if kind == "NoMain":
+        return no_main(source)
+    at = sure(at)
     if kind in ("BadByte", "BadNumber", "OpenComment", "Syntax", "Deep"):
         return of_syntax.report_of(source, kind, at)
-    if kind == "NoMain":
-        return no_main(source, at)
     if kind == "Loop":
         return delayless_loop(source, at)
     if kind in (MISMATCH, NEEDS_CAST, LITERAL, NOT_BOOL):

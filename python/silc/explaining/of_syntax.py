@@ -12,6 +12,7 @@ from silc.explaining.refusals import language
 from silc.explaining.report import Report, counted
 from silc.explaining.table_words import in_words, words_of_table
 from silc.explaining.text import KEPT_FOR_LATER, Edit, Span, Token
+from silc.sure import sure
 
 TEXT, GRAMMAR, DECLARATIONS = language("Text"), language("Grammar"), language("Declarations")
 DELAYS, CONDITIONALS = language("Delays and initial values"), language("Conditionals")
@@ -59,6 +60,14 @@ class Stop:
     token: Token | None
     before: Token | None
     wanted: str
+
+    def here(self) -> Token:
+        """The token, where the source does not end."""
+        return sure(self.token)
+
+    def last(self) -> Token:
+        """The one before it, where it is not the first."""
+        return sure(self.before)
 
     def tokens(self) -> list[Token]:
         return self.source.tokens
@@ -135,11 +144,11 @@ def type_first(stop: Stop) -> Report | None:
     """A type before the name that it is for: `fix<16,15> x`."""
     if not (stop.is_at("fix", "bool") and stop.wanted == "a name"):
         return None
-    last = 0 if stop.is_at("bool") else next((k for k in range(1, 9) if stop.ahead(k) == ">"), None)
+    last = next((k for k in range(9) if stop.is_at("bool") or stop.ahead(k) == ">"), None)
     position = stop.position + (last or 0) + 1
     if last is None or position >= len(stop.tokens()) or stop.tokens()[position].kind != "name":
         return None
-    of = stop.source.text.chars[stop.token.start:stop.tokens()[position - 1].end]
+    of = stop.source.text.chars[stop.here().start:stop.tokens()[position - 1].end]
     written = f"{stop.tokens()[position].text} : {of}"
     return Report("a name comes before its type", f"write `{written}`.", DECLARATIONS, stop.span(0, last + 1)) \
         .by(stop.edit(0, last + 1, written))
@@ -198,7 +207,7 @@ def two_modes(stop: Stop) -> Report | None:
     """Two modes in a type that are not `round,sat`."""
     if not (stop.is_at(",") and stop.is_after("trunc", "sat") and stop.ahead() in ("trunc", "round", "sat")):
         return None
-    given = f"{stop.before.text},{stop.ahead()}"
+    given = f"{stop.last().text},{stop.ahead()}"
     right = "round,sat" if given == "sat,round" else "sat" if "sat" in given else stop.ahead()
     return Report(f"`{given}` is no mode: the modes are `trunc`, `round`, `sat` and `round,sat`",
                   f"write `{right}` in the place of `{given}`.", language("Words and types"), stop.span(-1, 1)) \
@@ -251,25 +260,25 @@ def moved_begin(stop: Stop) -> list[Edit]:
     if begin is None or begin.text != "begin":
         return []
     text = stop.source.text
-    return [text.edit(stop.token.start, stop.token.start, "begin\n"), text.edit(begin.start, begin.end, "")]
+    return [text.edit(stop.here().start, stop.here().start, "begin\n"), text.edit(begin.start, begin.end, "")]
 
 
 def moved(stop: Stop, to: int, shape: str) -> list[Edit]:
     """The edits by which what begins with a token and ends with `;` stands elsewhere; none where it has no end."""
     end = next((token.end for token in stop.tokens()[stop.position:] if token.text in (";", "end")), None)
-    said = stop.source.text.chars[stop.token.start:end]
+    said = stop.source.text.chars[stop.here().start:end]
     if end is None or not said.endswith(";"):
         return []
     text = stop.source.text
-    return [text.edit(to, to, shape.format(text.data[stop.token.start:end].decode(errors="replace"))),
-            text.edit(stop.token.start, end, "")]
+    return [text.edit(to, to, shape.format(text.data[stop.here().start:end].decode(errors="replace"))),
+            text.edit(stop.here().start, end, "")]
 
 
 def other_declaration(stop: Stop) -> Report | None:
     """A declaration without `var`, or with the type of another language: `int t : ..`; an equation after a word too
     many."""
     token, before = stop.token, stop.before
-    if not (stop.is_equals() and token and before.kind == "name" and stop.ahead(-2) in (";", "begin")):
+    if not (stop.is_equals() and token and before and before.kind == "name" and stop.ahead(-2) in (";", "begin")):
         return None
     if stop.is_at(":") and stop.ahead() in ("fix", "bool"):
         return Report("a declaration begins with `var`", f"write `var` before `{before.text}`.", DECLARATIONS,
@@ -306,7 +315,7 @@ def valued_var(stop: Stop) -> Report | None:
         return None
     if stop.wanted != "`;`":
         return Report("`var` declares signals with their type, and an equation defines one",
-                      f"write `: fix<16,15>;` here, and below the declarations the equation `{stop.before.text} = "
+                      f"write `: fix<16,15>;` here, and below the declarations the equation `{stop.last().text} = "
                       f"..;`.", DECLARATIONS)
     name = tokens[head + 2].text
     return Report("`var` declares signals, and an equation defines one",
@@ -322,7 +331,7 @@ def table_words(stop: Stop) -> Report | None:
 
 def untyped_table(stop: Stop) -> Report | None:
     if stop.is_at("=") and stop.wanted == "`:`" and stop.ahead(-2) == "const":
-        name = stop.before.text
+        name = stop.last().text
         return Report(f"a table has a type, and `{name}` has none",
                       f"write it after the name, as `{name} : fix<16,15> = ..;`.",
                       DECLARATIONS)
@@ -361,7 +370,7 @@ def other_type_part(stop: Stop) -> Report | None:
                       rule).by(stop.edit(0, 0, written))
     if stop.is_at("-") and stop.wanted in ("the bits of a word", "the bits after the point"):
         return Report("the numbers of a type have no sign", "write a number from 0 to the bits of the word.", rule)
-    if stop.is_at("round", "sat", "trunc") and stop.wanted == "an expression":
+    if token and stop.is_at("round", "sat", "trunc") and stop.wanted == "an expression":
         return Report(f"`{token.text}` is a mode, and stands in a type",
                       f"write a cast, as `fix<16,15,{token.text}>(x)`.", rule)
     if stop.wanted != "`(`" or not stop.is_after(">") or token is None:
@@ -381,7 +390,7 @@ def decimal_comma(stop: Stop) -> Report | None:
     after = stop.tokens()[position] if position < len(stop.tokens()) else None
     if after is None or not after.text.isdecimal():
         return None
-    if (stop.before.end, stop.token.end) != (stop.token.start, after.start):
+    if (stop.before.end, stop.here().end) != (stop.here().start, after.start):
         return None
     written = f"{stop.before.text}.{after.text}"
     return Report("a number has a point, and no comma", f"write `{written}`.", TEXT,
@@ -396,7 +405,7 @@ def other_head(stop: Stop) -> Report | None:
     is_head = stop.wanted == "`const` or `func`" and stop.token and stop.token.kind == "name"
     position = stop.position + 1
     if is_head and stop.ahead(2) == "(" and stop.tokens()[position].kind == "name":
-        return Report("a function begins with `func`", f"write `func` in the place of `{stop.token.text}`.",
+        return Report("a function begins with `func`", f"write `func` in the place of `{stop.here().text}`.",
                       language("Functions")) \
             .by(stop.edit(0, 0, "func"))
     return None
@@ -429,7 +438,7 @@ def signed_amount(stop: Stop) -> Report | None:
                       f"write `@{number}` for the word of {counted(int(number), 'sample')} ago.", DELAYS,
                       stop.span(0, 1)).by(stop.edit(0, 1, number))
     if stop.is_after("<<", ">>"):
-        other = "<<" if stop.before.text == ">>" else ">>"
+        other = "<<" if stop.is_after(">>") else ">>"
         return Report("a shift is by 0 or more bits", f"write the other shift, `{other} {number}`.",
                       language("Equations"), stop.span(-1, 1)).by(stop.edit(-1, 1, f"{other} {number}"))
     return None
@@ -468,8 +477,8 @@ def doubled(stop: Stop) -> Report | None:
     if stop.is_at("&") and stop.is_after("&"):
         return Report("`and` is `&`", "write `&` in the place of `&&`.", GRAMMAR,
                       stop.span(-1, 0)).by(stop.edit(-1, 0, "&"))
-    if stop.is_at(">", "<") and stop.is_after(stop.token.text * 2) and "whole number" in stop.wanted:
-        shift = stop.before.text
+    if stop.is_at(">", "<") and stop.is_after(stop.here().text * 2) and "whole number" in stop.wanted:
+        shift = stop.last().text
         return Report(f"a shift is `{shift}`, which keeps the sign" if shift == ">>" else f"a shift is `{shift}`",
                       f"write `{shift}`.",
                       language("Equations"), stop.span(-1, 0)).by(stop.edit(-1, 0, shift))
@@ -480,7 +489,7 @@ def doubled(stop: Stop) -> Report | None:
                       GRAMMAR) \
             .by(stop.edit(0, 0, "|"))
     if stop.is_at("-") and stop.ahead() == "-" and stop.is_item():
-        return line_comment(stop.source.text, stop.token.start, "--", "a comment begins with `/*` and ends with `*/`")
+        return line_comment(stop.source.text, stop.here().start, "--", "a comment begins with `/*` and ends with `*/`")
     return None
 
 
@@ -490,7 +499,7 @@ def updated(stop: Stop) -> Report | None:
         return None
     first = next(k for k in range(-1, -stop.position - 1, -1) if stop.ahead(k - 1) in (";", "begin", ""))
     start = stop.tokens()[stop.position + first].start
-    name, sign = " ".join(stop.source.text.chars[start:stop.before.end].split()), stop.token.text
+    name, sign = " ".join(stop.source.text.chars[start:stop.last().end].split()), stop.token.text
     report = Report(f"there is no `{sign}=`: an equation says what a signal is in each sample",
                     f"write `{name} = {name}@1 {sign} ..;` for the word of one sample ago and more.",
                     language("Equations"), stop.span(0, 1))
@@ -514,7 +523,7 @@ def choice_as_item(stop: Stop) -> Report | None:
 
 
 def bare_results(stop: Stop) -> Report | None:
-    if stop.wanted == "`(`" and [stop.ahead(k) for k in (-3, -2)] == [")", "="] and stop.before.kind == "name":
+    if stop.wanted == "`(`" and [stop.ahead(k) for k in (-3, -2)] == [")", "="] and stop.last().kind == "name":
         return Report("several places are defined by a call",
                       "write `(p, q) = f(..);`, or an equation for each, as `p = ..;`.",
                       language("Functions"))

@@ -8,6 +8,7 @@ from silc.explaining.refusals import language
 from silc.explaining.report import Report
 from silc.explaining.typing_rules import (LITERAL, MISMATCH, MOST_BITS, NEEDS_CAST, NOT_BOOL, Fault, Typing, fits,
                                           range_of)
+from silc.sure import sure
 
 
 MOST_DIGITS = 18
@@ -58,27 +59,28 @@ def mismatch(source: Source, fault: Fault) -> Report:
         return truth_for_number(source, fault, shown)
     bare = bare_type(fault.wanted.type)
     if fault.node.kind == "cast":
-        of = fault.node.type
+        of = fault.node.cast()
         written = bare[:-1] + of.text[len(bare_type(of)) - 1:]
         return Report(f"the cast gives {type_text(fault.found)}, and {type_text(fault.wanted.type)} is wanted",
-                      f"write `{written}` in the place of `{fault.found.text}`.",
+                      f"write `{written}` in the place of `{sure(fault.found).text}`.",
                       rule).by(source.text.edit(of.start, of.end, written))
     report = Report(f"`{shown}` is {type_text(fault.found)}, and {type_text(fault.wanted.type)} is wanted",
                     f"write the cast `{bare}({shown})`.", rule) \
         .by(source.text.edit(fault.node.start, fault.node.end, f"{bare}({shown})"))
-    decl = source.decl(source.function_at(fault.node.at), fault.node.name) if fault.node.kind == "read" else None
+    decl = source.decl(source.function(fault.node.at), fault.node.name) if fault.node.kind == "read" else None
     return report.note(f"`{decl.name}` is declared `{decl.type.text}` here.",
                        source.name_span(decl)) if decl else report
 
 
 def other_result(source: Source, fault: Fault, shown: str) -> Report:
     """The report on a place of a call's result that has another type."""
-    own, wanted = (of.text if of.width is None else bare_type(of) for of in (fault.found, fault.wanted.type))
-    decl = source.decl(source.function_at(fault.node.at), fault.node.name)
-    below = f"{own}(t)" if fault.found.width and fault.wanted.type.width else \
-        "t != 0" if fault.found.width is None else number_for("t", fault.found)
-    verb = "is" if fault.wanted.type.width is None else "has"
-    return Report(f"`{shown}` is {type_text(fault.found)}, and the result {verb} {type_text(fault.wanted.type)}",
+    found, of_result = sure(fault.found), fault.asked().type
+    own, wanted = (of.text if of.width is None else bare_type(of) for of in (found, of_result))
+    decl = source.declared(source.function(fault.node.at), fault.node.name)
+    below = f"{own}(t)" if found.width and of_result.width else \
+        "t != 0" if found.width is None else number_for("t", found)
+    verb = "is" if of_result.width is None else "has"
+    return Report(f"`{shown}` is {type_text(found)}, and the result {verb} {type_text(of_result)}",
                   f"declare `{fault.node.name}` as `{wanted}`; or declare a signal of this type, as `t`, write it "
                   f"here, and below "
                   f"`{shown} = {below};`.", language("The typing table")) \
@@ -87,7 +89,7 @@ def other_result(source: Source, fault: Fault, shown: str) -> Report:
 
 def truth_for_number(source: Source, fault: Fault, shown: str) -> Report:
     """The report on a truth value where a number is wanted."""
-    of, node, rule = fault.wanted.type, fault.node, language("The typing table")
+    of, node, rule = fault.asked().type, fault.node, language("The typing table")
     short = f"`{shown}` is a truth value, and a number of {type_text(of)} is wanted"
     if node.kind == "logic" and any(is_number(source, part) for part in node.parts):
         return Report(f"`{node.name}` joins truth values, and there are no operations on the bits of a word",
@@ -164,7 +166,8 @@ def numbers_of(source: Source, node: Node) -> str | None:
 
 def some_number(of: Type) -> str:
     """A number of a type that is near 1."""
-    return "1" if of.width - of.places > 1 else "0.5" if of.places and of.width - of.places == 1 else "0"
+    before = of.bits() - of.places
+    return "1" if before > 1 else "0.5" if of.places and before == 1 else "0"
 
 
 def number_for(truth: str, of: Type) -> str:
@@ -235,7 +238,7 @@ def needs_cast(source: Source, fault: Fault) -> Report:
 
 
 def literal(source: Source, fault: Fault) -> Report:
-    of = fault.wanted.type
+    of = fault.asked().type
     least, most = range_of(of)
     value = float(fault.node.value)
     nearest = most if value > 0 else least
@@ -245,7 +248,7 @@ def literal(source: Source, fault: Fault) -> Report:
         return Report(short, f"write a number in this range: no type has {fault.node.value}, since a word has at most "
                       f"{MOST_BITS} bits.", language("Words and types"))
     wider = bare_type(found)
-    more = f"as a factor it may be `{wider}({fault.node.value})`." if fault.wanted.why.startswith(
+    more = f"as a factor it may be `{wider}({fault.node.value})`." if fault.asked().why.startswith(
         "the factors of") else \
         f"declare a type with more bits before the point, as `{wider}`."
     return Report(short, f"write {nearest}; or {more}", language("Words and types"))

@@ -6,6 +6,7 @@ from typing import Literal, TypeAlias
 
 from silc.explaining.grammar import Decl, Func, Node, Table, Unexpected, parsed
 from silc.explaining.text import Span, Text, Token, tokens_of
+from silc.sure import sure
 
 # The values of the indices of the loops around a place.
 Indices: TypeAlias = dict[str, int]
@@ -25,9 +26,9 @@ class Context:
     """A node of the tree, what it is there, and what is around it."""
     node: Node
     role: str
-    func: Func | None
+    func: Func
     loops: list[Node]
-    item: Node | None
+    item: Node
     parent: Node | None = None
 
 
@@ -75,15 +76,24 @@ class Source:
                 return decl
         return self.tables[name].decl if name in self.tables else None
 
+    def declared(self, func: Func, name: str) -> Decl:
+        """What the name of a signal or a table means in a function, where it means something."""
+        return sure(self.decl(func, name))
+
     def function_at(self, place: int) -> Func | None:
         """The function in whose text a place is; nothing before the first one."""
-        return max((top for top in self.tops if isinstance(top, Func) and top.at <= place), key=lambda func: func.at,
-                   default=None)
+        before = [top for top in self.tops if isinstance(top, Func) and top.at <= place]
+        return max(before, key=lambda func: func.at) if before else None
+
+    def function(self, place: int) -> Func:
+        """The function in whose text a place is."""
+        return sure(self.function_at(place))
 
     def contexts(self, func: Func | None) -> Iterator[Context]:
         """All nodes of a function, each before its parts."""
-        for item in func.items if func else ():
-            yield from contexts_of(item, func, [])
+        if func:
+            for item in func.items:
+                yield from contexts_of(item, func, [])
 
     def at(self, place: int, *roles: str) -> Context | None:
         """What stands at a place of the source, in one of these roles."""
@@ -91,6 +101,10 @@ class Source:
             if context.node.at == place and context.role in roles and context.node.kind != "initial":
                 return context
         return None
+
+    def there(self, place: int, *roles: str) -> Context:
+        """What stands at a place of the source, where something does in one of these roles."""
+        return sure(self.at(place, *roles))
 
 
 def contexts_of(item: Node, func: Func, loops: list[Node]) -> Iterator[Context]:
@@ -121,7 +135,7 @@ def contexts_of(item: Node, func: Func, loops: list[Node]) -> Iterator[Context]:
             yield from contexts_of(inner, func, [*loops, item])
     elif item.kind == "initial":
         yield from target(item.parts[0])
-        yield from manifest(item.amount, "initial", item)
+        yield from manifest(item.by(), "initial", item)
         yield Context(item.value, "expression", func, loops, item, item)
     elif item.kind == "equation":
         yield from target(item.parts[0])
@@ -282,7 +296,7 @@ class Expansion:
         for item, indices in turns_of(func.items):
             if item.kind == "equation":
                 target, value = item.parts
-                dims = self.source.decl(func, target.name).dims
+                dims = self.source.declared(func, target.name).dims
                 self.define(signals[target.name][offset(dims, target.subs, indices)], target.at,
                             list(self.reads(func, signals, value, indices)), True)
             elif item.kind == "call":
@@ -302,7 +316,7 @@ class Expansion:
                     list(self.reads(func, signals, argument, indices))
                 self.define(number, item.at, reads, not bare)
         for decl, target in zip(callee.results, item.subs):
-            own = self.source.decl(func, target.name)
+            own = self.source.declared(func, target.name)
             for place, number in enumerate(inner[decl.name]):
                 to = place if decl.dims else offset(own.dims, target.subs, indices)
                 self.define(signals[target.name][to], target.at, [number], False)
@@ -311,7 +325,7 @@ class Expansion:
     def reads(self, func: Func, signals: Signals, node: Node, indices: Indices) -> Iterator[int]:
         if node.kind == "read":
             if node.name in signals and not (node.amount and manifest(node.amount, indices)):
-                dims = self.source.decl(func, node.name).dims
+                dims = self.source.declared(func, node.name).dims
                 yield signals[node.name][offset(dims, node.subs, indices)]
         for part in node.parts:
             yield from self.reads(func, signals, part, indices)

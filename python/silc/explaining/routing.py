@@ -35,6 +35,6 @@ def routes_for(tree: Tree, nodes: Sequence[Node]) -> list[Change]:
         found = Hardware(made(changes, tree)).without_route(nodes)
         if not found or not found[1]:
             break
-        _, (_, unit, port) = found
+        _, unit, port = found[1]
         changes.append(route_for(made(changes, tree), tree["unit"][unit]["name"], port))
     return changes

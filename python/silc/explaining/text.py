@@ -6,6 +6,8 @@ from bisect import bisect_right
 from dataclasses import dataclass
 from typing import NamedTuple
 
+from silc.sure import sure
+
 SYMBOLS = r"->|\.\.|::|\|\||<<|>>|<=|>=|==|!=|@@|[-+*@&|!<>=;:,()\[\]]"
 TOKEN = re.compile(rf"(?P<space>\s+|/\*.*?\*/)|(?P<number>\d+(?:\.\d+)?)|(?P<name>[A-Za-z_]\w*)|(?P<symbol>{SYMBOLS})",
                    re.S | re.A)
@@ -119,7 +121,7 @@ def tokens_of(chars: str) -> tuple[list[Token], int | None]:
         if not found or (found.lastgroup == "number" and re.match(r"\w", chars[found.end():found.end() + 1], re.A)):
             return made, place
         if found.lastgroup != "space":
-            kind = "reserved" if found.lastgroup == "name" and found[0] in RESERVED else found.lastgroup
+            kind = "reserved" if found.lastgroup == "name" and found[0] in RESERVED else sure(found.lastgroup)
             made.append(Token(kind, found[0], place, found.end()))
         place = found.end()
     return made, None

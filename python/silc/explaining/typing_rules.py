@@ -7,6 +7,7 @@ from fractions import Fraction
 
 from silc.explaining.grammar import Decl, Func, Node, Type
 from silc.explaining.program import Source
+from silc.sure import sure
 
 BOOL = Type(None, 0, "bool", 0, 0)
 MOST_BITS = 40
@@ -29,6 +30,10 @@ class Fault:
     node: Node
     wanted: Wanted | None
     found: Type | None = None
+
+    def asked(self) -> Wanted:
+        """The type that is wanted, where one is."""
+        return sure(self.wanted)
 
 
 class Typing:
@@ -57,7 +62,7 @@ class Typing:
         return Wanted(decl.type, f"`{decl.name}` is declared `{decl.type.text}` in line {line}", decl.at)
 
     def decl(self, name: str) -> Decl:
-        return self.source.decl(self.func, name)
+        return self.source.declared(sure(self.func), name)
 
     def item(self, item: Node) -> Iterator[Fault]:
         if item.kind == "loop":
@@ -148,27 +153,29 @@ class Typing:
                 yield Fault(NEEDS_CAST, node, None)
             elif of.width is None:
                 yield Fault(MISMATCH, node, None, BOOL)
-        if None in wanted:
+        known = [of for of in wanted if of]
+        if len(known) < len(wanted):
             return
-        for part, of, own in zip(node.parts, wanted, types):
+        for part, of, own in zip(node.parts, known, types):
             why = f"{what} are of one type, and `{self.source.shown(left)}` is `{of.text}`"
             if own is None and types[0] is None:
                 why = f"{what} are of one type, and `{self.source.shown(right)}` is `{of.text}`"
             yield from self.check(part, Wanted(of, why))
 
     def cast(self, node: Node, wanted: Wanted) -> Iterator[Fault]:
-        if node.type.shape() != wanted.type.shape():
-            yield Fault(MISMATCH, node, wanted, node.type)
+        of = node.cast()
+        if of.shape() != wanted.type.shape():
+            yield Fault(MISMATCH, node, wanted, of)
         own = self.own(node.parts[0])
         if own and own.width is None:
             yield Fault(MISMATCH, node, wanted, BOOL)
-        yield from self.check(node.parts[0], Wanted(own or node.type, f"the cast has the type `{node.type.text}`"))
+        yield from self.check(node.parts[0], Wanted(own or of, f"the cast has the type `{of.text}`"))
 
 
 def fits(number: str, of: Type) -> bool:
     """Whether the nearest raw word of a number is in the range of a type."""
     raw = math.floor(Fraction(number) * 2**of.places + Fraction(1, 2))
-    return -(2 ** (of.width - 1)) <= raw <= 2 ** (of.width - 1) - 1
+    return -(2 ** (of.bits() - 1)) <= raw <= 2 ** (of.bits() - 1) - 1
 
 
 def decimal(raw: int, places: int) -> str:
@@ -180,4 +187,4 @@ def decimal(raw: int, places: int) -> str:
 
 def range_of(of: Type) -> tuple[str, str]:
     """The least and the greatest number of a type."""
-    return decimal(-(2 ** (of.width - 1)), of.places), decimal(2 ** (of.width - 1) - 1, of.places)
+    return decimal(-(2 ** (of.bits() - 1)), of.places), decimal(2 ** (of.bits() - 1) - 1, of.places)

@@ -5,6 +5,7 @@ from collections.abc import Sequence
 from silc.designing.sources import words_of_main
 from silc.hardware.words import TRUTH, Range, of_width
 from silc.pictures.plan import Node, Plan
+from silc.sure import sure
 
 # What registers and cells hold first: zeros, or words of what comes into them later.
 FIRST = Range(0, 0)
@@ -46,9 +47,10 @@ class Held:
         if node.width is not None:
             return of_width(node.width)
         if node.op == "input":
-            return self.inputs[node.argument] if node.argument < len(self.inputs) else self.word
+            number = sure(node.argument)
+            return self.inputs[number] if number < len(self.inputs) else self.word
         if node.op == "const":
-            return Range(node.argument, node.argument)
+            return Range(sure(node.argument), sure(node.argument))
         if node.op == "sel":
             return self.files[f"{node.unit}.1"].with_(self.files[f"{node.unit}.2"])
         if node.op == "load":

@@ -16,7 +16,7 @@ from silc.designing.sources import words_of_main
 from silc.exploring.template import DIGITS, MOST, Choice
 from silc.linking.blocks import Let, Library, Source
 from silc.linking.linker import Linked, link
-from silc.linking.places import File
+from silc.linking.places import File, Unlinked
 from silc.linking.told import Told
 
 # The status of silc for a source with a fault.
@@ -123,7 +123,10 @@ class Judgement:
         made = evaluated(silc, room, source, rows)
         if made is None:
             return None, None
-        reference = reference_rows(self.against, rows, inputs, outputs)
+        try:
+            reference = reference_rows(self.against, rows, inputs, outputs)
+        except Unlinked as why:
+            raise ValueError(str(why)) from why
         own = values(made, outputs)
         ratios = [noise_of(column, wanted, shape).ratio()
                   for column, wanted, shape in zip(zip(*own), zip(*reference), outputs) if shape]

@@ -12,6 +12,7 @@ from silc.exploring.bits import Held
 from silc.exploring.template import Choice, Fitting, fitted
 from silc.hardware.words import Range
 from silc.pictures.plan import Plan, plan_of
+from silc.sure import sure
 
 # The costs of a combination, which are compared one by one.
 Costs: TypeAlias = tuple[float, ...]
@@ -95,7 +96,7 @@ def cells_of(plan: Plan) -> int:
     for node in plan.nodes:
         if node.op in ("load", "store"):
             (address, _), *_ = node.operands
-            last[node.unit] = max(last.get(node.unit, 0), plan.nodes[address].argument)
+            last[node.unit] = max(last.get(node.unit, 0), sure(plan.nodes[address].argument))
     return sum(cell + plan.stages for cell in last.values())
 
 

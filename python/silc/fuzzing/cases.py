@@ -11,6 +11,7 @@ from random import Random
 from silc.fuzzing import damage, datapaths, images, plans, samples, sources
 from silc.fuzzing.running import CONFLICT, DONE, SAMPLES, Ended, Room
 from silc.micro_file import NEWEST, VERSIONS, BadImage, bytes_of, image_of
+from silc.sure import sure
 
 KINDS = ("sources", "datapaths", "microcode", "samples", "damaged")
 ALL = "all"
@@ -204,27 +205,27 @@ def check_rows(room: Room, rng: Random, name: str, rows: bytes, command: str, *i
 def rows_before(room: Room, ended: Ended, inputs: tuple[str, ...]) -> int:
     """How many rows come before the one of the fault."""
     if ended.code == SAMPLES:
-        return int(BAD_ROW.fullmatch(ended.line)[1]) - 1
-    period = int(HEAD.match(room.silc("list", *inputs).printed)[1])
-    return int(AT_CYCLE.match(ended.line)[1]) // period
+        return int(sure(BAD_ROW.fullmatch(ended.line))[1]) - 1
+    period = int(sure(HEAD.match(room.silc("list", *inputs).printed))[1])
+    return int(sure(AT_CYCLE.match(ended.line))[1]) // period
 
 
 def check_plan(room: Room, plan: str, path: bytes) -> None:
     """The listing of the microcode is that of the plan."""
     listed = room.silc("list", "MIC")
-    inputs, outputs = HEAD.match(listed.printed).groups()[1:]
+    inputs, outputs = sure(HEAD.match(listed.printed)).groups()[1:]
     try:
         expected = plans.image_of_plan(plan, path.decode(), int(inputs), int(outputs)).listing()
     except (tomllib.TOMLDecodeError, UnicodeDecodeError):
         return
     room.expect(listed.printed.decode() == expected, "list and schedule do not say the same plan")
-    data = room.bytes_of("MIC")
+    data = sure(room.bytes_of("MIC"))
     room.expect(bytes_of(image_of(data), NEWEST) == data, f"compile does not write version {NEWEST}")
 
 
 def check_text(room: Room, made: Ended) -> None:
     """The canonical text of a source is its own, and means the same."""
-    text = room.show("text", "SRC")
+    text = sure(room.show("text", "SRC"))
     if text.startswith(b"fault "):
         room.expect(made.code == 4, f"the program takes a source without a text: {text[:100]!r}")
         return

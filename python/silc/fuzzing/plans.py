@@ -5,6 +5,7 @@ from typing import Any
 
 from silc import micro_file
 from silc.micro_file.operations import KIND_OF, PORTS, WITH_ARGUMENT
+from silc.sure import sure
 
 HEAD = re.compile(r"period (\d+) unroll (\d+) nodes (\d+)")
 NODE = re.compile(r"node (\d+) cycle (\d+) unit (\w+) op (\w+)((?: -?\d+(?:@\d+)?)*)"
@@ -16,7 +17,7 @@ class Node:
     """A line of a plan."""
 
     def __init__(self, line: str) -> None:
-        number, cycle, unit, operation, operands, shift, mode, width, transfers = NODE.fullmatch(line).groups()
+        number, cycle, unit, operation, operands, shift, mode, width, transfers = sure(NODE.fullmatch(line)).groups()
         self.number, self.cycle, self.unit, self.operation = int(number), int(cycle), unit, operation
         numbers = operands.split()
         # The first number of some operations is no operand.
@@ -50,7 +51,7 @@ def image_of_plan(plan: str, path: str, inputs: int, outputs: int) -> micro_file
     units = {unit["name"]: number for number, unit in enumerate(tree["unit"])}
     buses = {bus["name"]: number for number, bus in enumerate(tree["bus"])}
     head, *lines = plan.splitlines()
-    period, unroll, _ = map(int, HEAD.fullmatch(head).groups())
+    period, unroll, _ = map(int, sure(HEAD.fullmatch(head)).groups())
     nodes = [Node(line) for line in lines]
     made, words = [unit_of(unit, units) for unit in tree["unit"]], [micro_file.Word() for _ in range(period * unroll)]
     image = micro_file.Image(period, unroll, [0] * inputs, outputs, made, len(buses), words)

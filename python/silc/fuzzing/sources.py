@@ -129,9 +129,8 @@ class Body:
         rng.shuffle(waiting)
         blocks = []
         while waiting:
-            done, lines = self.by_call(waiting) if rng.random() < 0.3 else (None, None)
-            if not done:
-                done, lines = [waiting[0]], self.definition(waiting[0])
+            call = self.by_call(waiting) if rng.random() < 0.3 else None
+            done, lines = call or ([waiting[0]], self.definition(waiting[0]))
             waiting = [signal for signal in waiting if signal not in done]
             maker.ready = maker.ready + done
             blocks.append(lines)
@@ -141,18 +140,18 @@ class Body:
 
     # Calls
 
-    def by_call(self, waiting: list[Signal]) -> tuple[list[Signal], list[str]] | tuple[None, None]:
+    def by_call(self, waiting: list[Signal]) -> tuple[list[Signal], list[str]] | None:
         """The signals that a call defines, and the call, where a function has results of these types."""
         rng = self.rng
         callable_ = [function for function in self.program.functions if function is not self.function]
         for function in rng.sample(callable_, len(callable_)):
             places = self.places(function, waiting)
             arguments = places and self.arguments(function)
-            if arguments:
+            if places and arguments:
                 names = " , ".join(signal.name for signal in places)
                 names = f"( {names} )" if len(places) > 1 else names
                 return places, [f"{names} = {function.name} ( {' , '.join(arguments)} ) ;"]
-        return None, None
+        return None
 
     def places(self, function: Function, waiting: list[Signal]) -> list[Signal] | None:
         places = []

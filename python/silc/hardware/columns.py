@@ -4,6 +4,7 @@ from dataclasses import dataclass
 
 from silc.micro_file.image import ROUNDING, SATURATING, SHIFTS, Format, Image, Issue, Take, Word
 from silc.micro_file.operations import number_bits, number_of
+from silc.sure import sure
 
 from .netlist import Bus, Code, Core, File, Part, Quantisation
 from .words import index_bits
@@ -73,7 +74,7 @@ def code_columns(image: Image, core: Core, number: int, part: Part, later: int) 
         return lambda issue: value(issue.format) if issue.format else None
 
     if not core.is_full:
-        codes: Sequence[Code | Quantisation | None] = [*part.operations] if part.kind == "alu" else [*part.formats]
+        codes: Sequence[Code | Quantisation] = [*part.operations] if part.kind == "alu" else [*part.formats]
         if len(codes) == 1:
             return
         listed = ", ".join(f"{code} {shown(one)}" for code, one in enumerate(codes))
@@ -89,7 +90,7 @@ def code_columns(image: Image, core: Core, number: int, part: Part, later: int) 
                  f"shift of {part.name}, and {SHIFT_BIAS}")
     yield column("round", 1, format_field(lambda form: int(form.mode in ROUNDING)), f"whether {part.name} rounds")
     yield column("sat", 1, format_field(lambda form: int(form.mode in SATURATING)), f"whether {part.name} saturates")
-    yield column("width", index_bits(core.word), format_field(lambda form: form.width - 1),
+    yield column("width", index_bits(core.widest()), format_field(lambda form: form.width - 1),
                  f"width of {part.name}, less 1")
 
 
@@ -119,7 +120,7 @@ def unit_columns(image: Image, core: Core, number: int, part: Part) -> Iterator[
                          by_cycle(image, number, lambda issue: issue.argument, part.latency - 1),
                          f"output word that {what} ends")
     elif part.kind == "rom":
-        yield Column(f"{name}_value", part.result.bits(),
+        yield Column(f"{name}_value", part.gives().bits(),
                      by_cycle(image, number, lambda issue: issue.argument, part.latency - 1),
                      f"constant that {what} gives")
     elif part.kind == "alu":
@@ -133,7 +134,7 @@ def unit_columns(image: Image, core: Core, number: int, part: Part) -> Iterator[
         yield Column(f"{name}_stores", 1, flags(image, number, "store"), f"whether {what} begins a store")
         yield from due_column(image, core, number, part, "store")
     elif part.kind == "acu":
-        cells = len(image.units[part.ram].cells)
+        cells = len(image.units[sure(part.ram)].cells)
         yield Column(f"{name}_offset", index_bits(cells),
                      by_cycle(image, number, lambda issue: issue.argument % cells), f"offset of {what}")
 

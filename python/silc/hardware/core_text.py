@@ -207,7 +207,7 @@ class CoreText:
                 if part.is_ahead(port):
                     lines.append(declared("wire", next_bits(part), f"n_{part.name}_{port}"))
             if part.result:
-                lines.append(declared("wire", part.result.bits(), f"u_{part.name}"))
+                lines.append(declared("wire", part.gives().bits(), f"u_{part.name}"))
         for bus in self.core.buses.values():
             lines.append(declared("wire", bus.words.bits(), f"b_{bus.name}"))
         return "".join(lines)
@@ -253,7 +253,7 @@ class CoreText:
 
     def delayed(self, part: Part, cycles: int, value: str) -> str:
         """The unit's result, which is `value` so many cycles before."""
-        return self.delay(f"result_{part.name}", part.result.bits(), cycles, value, f"u_{part.name}")
+        return self.delay(f"result_{part.name}", part.gives().bits(), cycles, value, f"u_{part.name}")
 
     @staticmethod
     def delay(name: str, bits: int, cycles: int, value: str, to: str, clear: str = "1'b0") -> str:
@@ -263,7 +263,7 @@ class CoreText:
                         {"clk": "clk", "clear": clear, "run": "run", "in": value, "out": to})
 
     def in_part(self, _: int, part: Part) -> str:
-        bits = part.result.bits()
+        bits = part.gives().bits()
         options = [fitted(f"i_{word}", self.core.inputs[word], bits) for word in part.inputs]
         return self.delayed(part, part.latency - 1, chosen(f"cu_{part.name}_word", index_bits(len(options)), options))
 
@@ -271,13 +271,13 @@ class CoreText:
         return f"    assign u_{part.name} = cu_{part.name}_value;\n"
 
     def sel_part(self, _: int, part: Part) -> str:
-        bits, name = part.result.bits(), part.name
+        bits, name = part.gives().bits(), part.name
         options = [fitted(f"f_{name}_{port}", part.files[port].words, bits) for port in (1, 2)]
         test = f"f_{name}_0 != {number(part.files[0].words.bits(), 0)}"
         return self.delayed(part, part.latency - 1, f"{test} ? {options[0]} : {options[1]}")
 
     def alu_part(self, _: int, part: Part) -> str:
-        name, bits = part.name, part.result.bits()
+        name, bits = part.name, part.gives().bits()
         words = [part.files[port].words if port in part.files else Range(0, 0) for port in (0, 1)]
         sizes = [one.signed_bits() for one in words]
         exact = max(sizes) + 1
@@ -320,7 +320,7 @@ class CoreText:
         name = part.name
         size, ports = {"IN": exact_bits, "OUT": quantised_words(part).bits()}, {"exact": exact, "word": to}
         if not part.formats:
-            return instance("silc_quantise_any", f"quantise_{name}", size | {"BITS": index_bits(self.core.word)},
+            return instance("silc_quantise_any", f"quantise_{name}", size | {"BITS": index_bits(self.core.widest())},
                             {field: f"cu_{name}_{field}" for field in ("shift", "round", "sat", "width")} | ports)
         if len(part.formats) == 1:
             (shift, mode, _), = part.formats
@@ -350,13 +350,13 @@ class CoreText:
                      {"a": f"left_{name}", "b": f"right_{name}", "exact": f"product_{name}"}),
             self.delay(f"products_{name}", sum(sizes), after, f"product_{name}", f"exact_{name}"),
             self.quantised(part, sum(sizes), f"exact_{name}", f"word_{name}"),
-            self.delayed(part, behind, fitted(f"word_{name}", product, part.result.bits()))])
+            self.delayed(part, behind, fitted(f"word_{name}", product, part.gives().bits()))])
 
     def ram_part(self, _: int, part: Part) -> str:
         """The memory. One of latency 1 is read ahead, as a register file is."""
         if not part.has_memory():
             return ""
-        name, cells, words = part.name, part.cells, part.cells.words
+        name, cells, words = part.name, part.memory(), part.memory().words
         first, parameters, ports = self.filled(f"{name}_cells", cells)
         bits, address = cells.address_bits(), part.files[0].words
         value = fitted(f"f_{name}_1", part.files[1].words, words.bits()) if 1 in part.files else number(words.bits(), 0)
@@ -370,12 +370,12 @@ class CoreText:
             ports |= {"rst": "rst", "run": "run", "address": at, "store": self.does(part, "stores"),
                       "value": value}
             lines.append(instance("silc_memory", f"memory_{name}", parameters | {"LATENCY": part.latency}, ports))
-        lines.append(f"    assign u_{name} = {fitted(f'read_{name}', words, part.result.bits())};\n")
+        lines.append(f"    assign u_{name} = {fitted(f'read_{name}', words, part.gives().bits())};\n")
         return "".join(lines)
 
     def acu_part(self, _: int, part: Part) -> str:
-        name, bits = part.name, part.result.bits()
-        last = part.result.high
+        name, bits = part.name, part.gives().bits()
+        last = part.gives().high
         return "".join([
             declared("wire", bits, f"origin_{name}"), declared("wire", bits, f"address_{name}"),
             instance("silc_ring", f"ring_{name}", {"LAST_CELL": last, "BITS": bits},
@@ -398,7 +398,7 @@ class CoreText:
         yield "\n"
         for bus in self.core.buses.values():
             bits = bus.words.bits()
-            options = [fitted(f"u_{self.core.parts[unit].name}", self.core.parts[unit].result, bits)
+            options = [fitted(f"u_{self.core.parts[unit].name}", self.core.parts[unit].gives(), bits)
                        for unit in bus.drivers]
             value = chosen(f"cb_{bus.name}_from", index_bits(len(options)), options) if options else number(bits, 0)
             yield f"    assign b_{bus.name} = {value};\n"
@@ -437,12 +437,12 @@ class CoreText:
 
 def next_bits(part: Part) -> int:
     """How many bits of the next address a memory reads."""
-    return part.files[0].words.cut(part.cells.address_bits()).bits()
+    return part.files[0].words.cut(part.memory().address_bits()).bits()
 
 
 def quantised_words(part: Part) -> Range:
     """The words of the widest format of a unit, where formats are listed, or else all that it may give."""
-    return of_width(part.formats[0][2]) if part.formats else part.result
+    return of_width(part.formats[0][2]) if part.formats else part.gives()
 
 
 def format_parameters(formats: list[Quantisation]) -> Parameters:
@@ -459,7 +459,7 @@ def format_parameters(formats: list[Quantisation]) -> Parameters:
 def stray_test(part: Part) -> str:
     """The condition under which a load or a store is outside of its memory. As an unsigned number the address is then
     at least that of the first cell that is not there, or of the least negative number."""
-    address, cells = part.files[0].words, part.cells.size
+    address, cells = part.files[0].words, part.memory().size
     least = min(cells, 1 << (address.bits() - 1)) if address.is_signed() else cells
     test = f"f_{part.name}_0 >= {number(address.bits(), least)}"
     return f"((cu_{part.name}_loads || cu_{part.name}_stores) && {test})"

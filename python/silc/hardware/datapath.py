@@ -3,10 +3,12 @@ import re
 import tomllib
 from collections.abc import Iterator
 from dataclasses import dataclass
+from pathlib import Path
 from typing import Any, TypeAlias
 
 from silc.micro_file.image import Image
 from silc.micro_file.operations import PORTS
+from silc.sure import sure
 
 from .netlist import NoCore
 
@@ -61,7 +63,7 @@ def unit_faults(image: Image, tables: list[Table], names: list[str]) -> Iterator
         if unit.kind == "ram":
             asked["cells"], given["cells"] = len(unit.cells), table["cells"]
         if unit.kind == "acu":
-            asked["ram"], given["ram"] = names[unit.ram], table["ram"]
+            asked["ram"], given["ram"] = names[sure(unit.ram)], table["ram"]
         for key, value in asked.items():
             if given[key] != value:
                 yield f"unit {table['name']} has {key} {given[key]}, and that of the microcode {value}"
@@ -94,8 +96,8 @@ def faults_of(image: Image, tree: Table, made: Names) -> Iterator[str]:
     if tree["period"] != image.period:
         yield f"it has period {tree['period']}, and the microcode {image.period}"
     yield from unit_faults(image, tree["unit"], made.units)
-    yield from bus_faults(image, made.ends, made.units)
-    for name, ends in zip(made.buses, made.ends):
+    yield from bus_faults(image, sure(made.ends), made.units)
+    for name, ends in zip(made.buses, sure(made.ends)):
         if any(unit >= len(image.units) or port >= PORTS[image.units[unit].kind] for unit, port in ends.to):
             yield f"bus {name} goes to a port that is not there"
 
@@ -112,3 +114,13 @@ def names_of(text: str, image: Image) -> Names:
     if fault:
         raise NoCore(f"it is not the datapath of the microcode: {fault}")
     return made
+
+
+def names_of_file(file: str, image: Image) -> Names:
+    """The names of a datapath file for the image; NoCore names the file where it is not that of its hardware."""
+    try:
+        return names_of(Path(file).read_text(), image)
+    except UnicodeDecodeError as why:
+        raise NoCore(f"{file}: it is no text") from why
+    except NoCore as why:
+        raise NoCore(f"{file}: {why}") from why

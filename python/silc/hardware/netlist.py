@@ -9,6 +9,7 @@ from dataclasses import dataclass, field
 from typing import TYPE_CHECKING, TypeAlias
 
 from silc.micro_file.image import Image, Issue, Take, Unit
+from silc.sure import sure
 
 from .idle import keep_needed, without_idle, without_units
 from .words import TRUTH, Range, index_bits, of_width, of_words
@@ -56,6 +57,14 @@ class Part:
     ram: int | None = None
     stores: bool = True
 
+    def gives(self) -> Range:
+        """The words that it may give, where something takes them."""
+        return sure(self.result)
+
+    def memory(self) -> File:
+        """The cells of a memory."""
+        return sure(self.cells)
+
     def can_stray(self) -> bool:
         """Whether an address may be outside of the memory."""
         return self.cells is not None and not Range(0, self.cells.size - 1).covers(self.files[0].words)
@@ -92,6 +101,10 @@ class Core:
     # Of issues by their cycles and units: from which sample on each is obeyed, where that is not the first.
     stages: dict[tuple[int, int], int] = field(default_factory=dict)
 
+    def widest(self) -> int:
+        """The bits of the datapath's word, of a core for any image over it."""
+        return sure(self.word)
+
     def last_stage(self) -> int:
         return max(self.stages.values(), default=0)
 
@@ -101,7 +114,7 @@ class Core:
             for port, file in part.files.items():
                 yield f"{part.name}_{port}", file
             if part.has_memory():
-                yield f"{part.name}_cells", part.cells
+                yield f"{part.name}_cells", part.memory()
 
 
 def transfers_of(image: Image) -> Iterator[tuple[Issue, Take]]:
@@ -109,7 +122,7 @@ def transfers_of(image: Image) -> Iterator[tuple[Issue, Take]]:
     for cycle, word in enumerate(image.words):
         driver = {bus: unit for unit, bus in word.enables}
         for take in word.takes:
-            yield image.issue_for_result(cycle, driver[take.bus]), take
+            yield sure(image.issue_for_result(cycle, driver[take.bus])), take
 
 
 def issues_of(image: Image, unit: int) -> list[Issue]:
@@ -166,9 +179,9 @@ def result_of(image: Image, core: Core, issue: Issue) -> Range:
     if issue.operation == "sel":
         return part.files[1].words.with_(part.files[2].words)
     if issue.operation == "load":
-        return part.cells.words
+        return part.memory().words
     if issue.operation == "addr":
-        return Range(0, len(image.units[part.ram].cells) - 1)
+        return Range(0, len(image.units[sure(part.ram)].cells) - 1)
     return TRUTH
 
 
@@ -215,7 +228,7 @@ def fit(core: Core) -> None:
         for unit in bus.drivers:
             carried[unit] = max(carried.get(unit, 0), bus.words.bits())
     for unit, bits in carried.items():
-        core.parts[unit].result = core.parts[unit].result.cut(bits)
+        core.parts[unit].result = core.parts[unit].gives().cut(bits)
 
 
 def core_for_image(image: Image, name: str, names: Names,
@@ -274,7 +287,7 @@ def widen_any(core: Core, buses: list[Ends]) -> bool:
     before = str(core)
     for number, bus in core.buses.items():
         for unit in bus.drivers:
-            bus.words = core.parts[unit].result.with_(bus.words)
+            bus.words = core.parts[unit].gives().with_(bus.words)
         for unit, port in buses[number].to:
             file = core.parts[unit].files[port]
             file.words = file.words.with_(bus.words)
@@ -282,25 +295,25 @@ def widen_any(core: Core, buses: list[Ends]) -> bool:
         if part.kind == "sel":
             part.result = part.files[1].words.with_(part.files[2].words)
         elif part.kind == "ram":
-            part.cells.words = part.result = part.files[1].words
+            part.memory().words = part.result = part.files[1].words
     return before != str(core)
 
 
 def core_for_datapath(image: Image, name: str, datapath: Names, inputs: int, outputs: int) -> Core:
     """The core that runs any image over this datapath with so many input and output words."""
-    word = of_width(datapath.word)
+    word, ends = of_width(sure(datapath.word)), sure(datapath.ends)
     most = 4 * image.period
     core = Core(name, True, datapath.word, image.period, most + 1, most, [word] * inputs, [])
     for number, unit in enumerate(image.units):
         part = core.parts[number] = any_part(unit, datapath.units[number], word)
         part.inputs = list(range(inputs)) if unit.kind == "in" else []
         if unit.kind == "acu":
-            part.result = Range(0, len(image.units[unit.ram].cells) - 1)
-    for number, bus in enumerate(datapath.ends):
+            part.result = Range(0, len(image.units[sure(unit.ram)].cells) - 1)
+    for number, bus in enumerate(ends):
         core.buses[number] = Bus(bus.name, [unit for unit in bus.from_ if core.parts[unit].result], word)
         for to, port in bus.to:
             core.parts[to].files[port].sources.append(number)
-    while widen_any(core, datapath.ends):
+    while widen_any(core, ends):
         pass
     made = [part.files[0].words for part in core.parts.values() if part.kind == "out"]
     core.outputs = [Range(min([word.low, *(one.low for one in made)]),
@@ -316,12 +329,12 @@ def check_fits(image: Image, core: Core) -> None:
         for file in (*part.files.values(), *([part.cells] if part.cells else [])):
             if not file.words.covers(of_words(file.first)):
                 raise NoCore(f"{part.name} has a first word that is out of the range of the datapath's words")
-    wide = of_width(core.word)
+    wide = of_width(core.widest())
     if any(not wide.covers(of_width(width)) for width in image.inputs):
         raise NoCore(f"an input word has more than the {core.word} bits of the datapath's word")
     for number, part in core.parts.items():
         for issue in issues_of(image, number):
-            if issue.format and issue.format.width > core.word:
+            if issue.format and issue.format.width > core.widest():
                 raise NoCore(
                     f"{part.name} gives a word of {issue.format.width} bits, and the datapath's word has {core.word}")
             if issue.operation == "const" and not wide.has(issue.argument):

@@ -22,6 +22,19 @@ def opened(name: str, content: bytes, folders: Sequence[str] = ()) -> Told | Non
     return told_of(name, content, Library(folders))
 
 
+def plain(file: str, folders: Sequence[str] = ()) -> tuple[str, list[str]]:
+    """The text of a source as the programs read it, and the files of the blocks in it. Of one that is linked the front
+    end has found no fault. Raises `Unlinked` at the place of what is wrong with such a one, and `Unable`."""
+    with open(file, "rb") as held:
+        content = held.read()
+    told = opened(file, content, folders)
+    if told is None:
+        return content.decode("latin-1"), []
+    from silc.linking.checked import check
+    check(told.linked)
+    return told.linked.text, [block.file.name for block in told.linked.blocks]
+
+
 def without_folders(words: Sequence[str]) -> tuple[list[str], list[str]]:
     """The words but for `--library FOLDER`, and the folders. One without a folder stays."""
     rest, folders, left = [], [], list(words)

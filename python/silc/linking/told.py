@@ -14,11 +14,14 @@ from silc.explaining.text import Edit, Span, Text
 from silc.linking.blocks import Block, Library, Source
 from silc.linking.linker import MAIN, Linked, Part, Placed, Setting, alone, link
 from silc.linking.places import NAME, File, Unlinked, has_head
-from silc.refused import renamed
+from silc.refused import Refused, renamed
 
 QUOTED = re.compile(r"`([^`]*)`")
 ELEMENT = re.compile(r"(?:[A-Za-z_]\w*\.)+[A-Za-z_]\w*(?:\[\d+\])*", re.A)
 IN_LINE = re.compile(r"\bin line (\d+)")
+BAD_SOURCE = 4
+# The statuses at which a report is on the source.
+OF_SOURCE = (BAD_SOURCE, 6, 7, 8, 9)
 RULE = 'docs/LIBRARY.md, "Sources with a head"'
 SAID_LINE = re.compile(r"(silc: )line (\d+): (.*)")
 
@@ -152,6 +155,12 @@ class Told:
                        span=self.span(report.span), edits=self.edits(report.edits))
         return self.renamed(made)
 
+    def reported(self, status: int, report: Report | None) -> Report | None:
+        """A report on a command that ended with a status, at the places of the user's files."""
+        if report is None:
+            return None
+        return self.report(report) if status in OF_SOURCE else self.renamed(report)
+
     def renamed(self, report: Report) -> Report:
         """A report with the name that the source has for a user."""
         return renamed(report, {self.text.name: self.linked.main.name})
@@ -207,3 +216,8 @@ def found_unlinked(fault: Unlinked) -> Found:
 def report_unlinked(fault: Unlinked) -> Report:
     """A fault of the linker as a report."""
     return Report(fault.text, "see the rule.", RULE, fault.span, about=fault.file)
+
+
+def refused_unlinked(fault: Unlinked) -> Refused:
+    """A fault of the linker as a refusal."""
+    return Refused(BAD_SOURCE, str(fault), lambda: report_unlinked(fault))

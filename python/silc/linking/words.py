@@ -15,9 +15,7 @@ if TYPE_CHECKING:
     from silc.explaining.report import Report
     from silc.linking.told import Told
 
-BAD_WORDS, BAD_SOURCE = 2, 4
-# The statuses at which a report is on the source.
-OF_SOURCE = (BAD_SOURCE, 6, 7, 8, 9)
+BAD_WORDS = 2
 
 
 class Given:
@@ -38,9 +36,7 @@ class Given:
 
     def report(self, status: int, report: Report | None) -> Report | None:
         """A report with the places of the user's files."""
-        if report is None or self.told is None:
-            return report
-        return self.told.report(report) if status in OF_SOURCE else self.told.renamed(report)
+        return self.told.reported(status, report) if self.told else report
 
     def over_block(self) -> str | None:
         """The block that OUT is, where it is one."""

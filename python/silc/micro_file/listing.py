@@ -6,6 +6,8 @@ from collections.abc import Callable, Iterator
 from dataclasses import dataclass, field
 from typing import Any, NoReturn
 
+from silc.sure import sure
+
 from .image import (MODES, MOST_BUSES, MOST_CELLS, MOST_LATENCY, MOST_MOVES, MOST_PERIOD, MOST_REGISTERS, MOST_UNITS,
                     MOST_WIDTH, MOST_WORDS, RAW, SHIFTS, UNROLLS, Format, Image, Issue, Take, Unit, Word,
                     argument_range)
@@ -273,7 +275,7 @@ class Reading:
         return unit, member(behind, int(found[2]), f"port of unit {unit} with the number", len(self.units[unit].files))
 
     def bus_in(self, line: Line) -> int:
-        return line.member("a bus", "bus", self.image.buses)
+        return line.member("a bus", "bus", self.made().buses)
 
     def register_in(self, line: Line, unit: int, port: int) -> int:
         return line.member(f"a register at {unit}.{port}", f"register at {unit}.{port} with the number",
@@ -282,7 +284,7 @@ class Reading:
     # Microwords
 
     def word_line(self, token: Token, line: Line) -> None:
-        number = line.member("the number of a microword", "microword", self.image.circle())
+        number = line.member("the number of a microword", "microword", self.made().circle())
         place = line.tokens[line.at - 1]
         if self.number is not None and number <= self.number:
             place.refuse(f"word {number} comes behind word {self.number}; words rise")
@@ -297,7 +299,7 @@ class Reading:
     def word_of(self, token: Token) -> Word:
         if self.number is None:
             token.refuse(f"`{token}` comes before the first line `word ..`")
-        return self.image.words[self.number]
+        return self.made().words[self.number]
 
     def issue_line(self, token: Token, line: Line) -> None:
         word = self.word_of(token)
@@ -307,7 +309,7 @@ class Reading:
             place.refuse(f"unit {number} is issued in word {self.number} already")
         unit = self.units[number]
         operation = line.chosen(f"operation of unit {number}, whose kind is {unit.kind}", OF_KIND[unit.kind])
-        argument = line.number(f"the argument of {operation}", *argument_range(operation, self.image)) \
+        argument = line.number(f"the argument of {operation}", *argument_range(operation, self.made())) \
             if operation in WITH_ARGUMENT else 0
         form = format_in(line) if operation in FORMATTED else None
         word.issues[number] = Issue(number, operation, form, argument, self.registers_in(line, number, operation))
@@ -341,6 +343,10 @@ class Reading:
         if len(word.takes) == MOST_MOVES:
             token.refuse(f"a word has {MOST_MOVES} takes at most")
         word.takes.append(take)
+
+    def made(self) -> Image:
+        """The image, behind the line `period ..`."""
+        return sure(self.image)
 
     def finished(self, end: Token) -> Image:
         """The image, whose lists rise."""

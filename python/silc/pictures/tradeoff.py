@@ -6,6 +6,7 @@ from collections.abc import Callable
 from silc.exploring.trades import Trade
 from silc.pictures.axes import numbers_over
 from silc.pictures.picture import BLACK, BLUE, FAINT, GREY, MARGIN, ORANGE, Picture
+from silc.sure import sure
 
 PANEL, TALL, LEFT, BETWEEN, HEAD, FOOT, ACROSS = 300, 230, 44, 70, 96, 50, 3
 COLOURS = (BLUE, ORANGE, "#009e73", "#cc79a7", "#e69f00", "#56b4e9", BLACK)
@@ -50,12 +51,12 @@ def staircase(panel: Panel, trades: list[Trade]) -> list[tuple[float, float]]:
     """The line below which no combination is: the least bits of registers that are enough in each period."""
     least: int | None = None
     points: list[tuple[float, float]] = []
-    for trade in sorted(trades, key=lambda trade: (trade.period, trade.register_bits)):
-        if least is None or trade.register_bits < least:
-            points += [] if least is None else [(panel.x(trade.period), panel.y(least))]
-            least = trade.register_bits
-            points.append((panel.x(trade.period), panel.y(least)))
-    return [*points, (panel.left + PANEL, panel.y(least))]
+    for period, bits in sorted((trade.period, sure(trade.register_bits)) for trade in trades):
+        if least is None or bits < least:
+            points += [] if least is None else [(panel.x(period), panel.y(least))]
+            least = bits
+            points.append((panel.x(period), panel.y(least)))
+    return [*points, (panel.left + PANEL, panel.y(sure(least)))]
 
 
 def said_of(trade: Trade) -> str:
@@ -75,7 +76,7 @@ def draw_panel(picture: Picture, panel: Panel, trades: list[Trade], colours: dic
         shown[trade.period, trade.register_bits, trade.buses, trade.is_on_front] = trade
     for trade in shown.values():
         is_large = trade.is_on_front
-        picture.dot(panel.x(trade.period), panel.y(trade.register_bits), colours[trade.buses],
+        picture.dot(panel.x(trade.period), panel.y(sure(trade.register_bits)), colours[trade.buses],
                     FRONT_DOT if is_large else DOT, said_of(trade) if is_large else "")
 
 
@@ -93,8 +94,8 @@ def draw_tradeoff(trades: list[Trade]) -> str:
     said = f"{len(trades)} combinations, of which {len(fit)} fit"
     numbers = sorted(set(map(panel_of, trades)))
     periods = marks_of(min((trade.period for trade in fit), default=0), max((trade.period for trade in fit), default=1))
-    registers = marks_of(min((trade.register_bits for trade in fit), default=0),
-                         max((trade.register_bits for trade in fit), default=1))
+    bits = [sure(trade.register_bits) for trade in fit]
+    registers = marks_of(min(bits, default=0), max(bits, default=1))
     lines = -(-len(numbers) // ACROSS)
     colours = {buses: COLOURS[k % len(COLOURS)] for k, buses in enumerate(sorted({trade.buses for trade in trades}))}
     width = 2 * MARGIN + LEFT + min(len(numbers), ACROSS) * (PANEL + BETWEEN) - BETWEEN
@@ -125,10 +126,10 @@ def draw_noise(trades: list[Trade]) -> str:
     """The noise of the combinations that fit over the bits of their registers, a colour for each number of buses."""
     fit = [trade for trade in trades if trade.fits() and trade.noise is not None]
     said = f"{len(trades)} combinations, of which {len(fit)} fit: noise beside the signal in dB, over bits of registers"
-    registers = marks_of(min((trade.register_bits for trade in fit), default=0),
-                         max((trade.register_bits for trade in fit), default=1))
-    levels = marks_of(math.floor(min((trade.noise for trade in fit), default=-1)),
-                      math.ceil(max((trade.noise for trade in fit), default=0)))
+    bits = [sure(trade.register_bits) for trade in fit]
+    registers = marks_of(min(bits, default=0), max(bits, default=1))
+    noises = [trade.noise for trade in fit if trade.noise is not None]
+    levels = marks_of(math.floor(min(noises, default=-1)), math.ceil(max(noises, default=0)))
     picture = Picture(2 * MARGIN + LEFT + NOISE_WIDE, HEAD + TALL + FOOT, said)
     picture.text(MARGIN, 28, said, 13, BLACK, "start")
     colours = {buses: COLOURS[k % len(COLOURS)] for k, buses in enumerate(sorted({trade.buses for trade in trades}))}
@@ -136,7 +137,7 @@ def draw_noise(trades: list[Trade]) -> str:
     for trade in sorted(fit, key=lambda trade: trade.is_on_front):
         words = f"{trade.noise:.1f} dB, {said_of(trade)}" if trade.is_on_front else ""
         radius = FRONT_DOT if trade.is_on_front else DOT
-        picture.dot(*place(trade.register_bits, trade.noise), colours[trade.buses], radius, words)
+        picture.dot(*place(sure(trade.register_bits), sure(trade.noise)), colours[trade.buses], radius, words)
     for number, (buses, colour) in enumerate(colours.items()):
         picture.dot(MARGIN + 6 + number * KEY, 48, colour)
         picture.text(MARGIN + 16 + number * KEY, 52, f"{buses} buses", 11, BLACK, "start")

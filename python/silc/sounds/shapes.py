@@ -1,6 +1,7 @@
 """The words of fixed-point types, and how those of one become those of another."""
-import re
 from collections.abc import Sequence
+
+from silc.designing.shapes import numbers_of
 
 WIDEST = 40
 
@@ -52,10 +53,4 @@ def pcm_shape(width: int) -> Shape:
 
 
 def shape_of(words: str) -> Shape:
-    found = re.fullmatch(r"(\d{1,2}),(\d{1,2})", words)
-    if not found:
-        raise ValueError(f"{words} is no shape W,F")
-    width, places = map(int, found.groups())
-    if not 1 <= width <= WIDEST or places > width:
-        raise ValueError(f"fix<{width},{places}> is no type")
-    return Shape(width, places)
+    return Shape(*numbers_of(words))

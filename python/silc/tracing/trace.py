@@ -2,6 +2,8 @@
 import re
 from collections.abc import Iterable, Iterator
 
+from silc.sure import sure
+
 BEGIN, FAULT = "\ncycle ", "fault"
 HEAD = re.compile(r"(\d+) sample (\d+) word (\d+)(?: conflict: (.+))?")
 # What each line is, with its numbers; the last of them, or of a cell the last two, are others in each sample.
@@ -110,4 +112,4 @@ class Reader:
         layout = Layout(int(word), [] if conflict else lines, conflict)
         if not conflict:
             self.layouts.setdefault(word, []).append(layout)
-        return int(number), sample, layout, [] if conflict else layout.words(lines)
+        return int(number), sample, layout, [] if conflict else sure(layout.words(lines))
