@@ -5,7 +5,7 @@ usage: tools/design sos FILE ..                         second-order sections, a
        tools/design iir KIND ORDER BAND HZ [HZ] ..      KIND butter, cheby1, cheby2, ellip or bessel
        tools/design fir kaiser BAND HZ [HZ] ..          a window of Kaiser: --attenuation, and --width or --taps
        tools/design fir remez HZ HZ HZ HZ .. ..         edges of bands: --taps, --gains, --weights
-       tools/design bands [--band BAND ..] [--limit] [--dither W,F] [--stereo] ..    one behind the other
+       tools/design bands [--band BAND ..] [--live] [--limit] [--dither W,F] [--stereo] ..    one behind the other
        tools/design crossover HZ 2|4|8 [--stereo] ..    of Linkwitz and Riley, of that order
        tools/design cic WORDS STAGES --taps N --edge HZ ..          down to one of so many words
        tools/design halfband down|up 2|4 --edge HZ --attenuation DB ..
@@ -21,6 +21,10 @@ The last four need no SciPy. A band of a chain is one of
 by the formulas of the audio cookbook where it has them. Bands stay in their order, each with its own sections (--order
 up pairs poles and zeros anew). Behind them --limit is a soft limiter, whose output is below 1, and --dither W,F brings
 the words to fix<W,F> with noise. With --stereo two channels go through the same functions.
+
+With --live a host changes the coefficients while the filter runs, by two control words, an index and a value: those of
+--band are what they are at the start, and --signal W,F gives the places too. Its words saturate, and nothing is
+certified of them. docs/DESIGN.md says how a host writes a band.
 
 Sections are paired (the poles nearest to the unit circle with the zeros nearest to them), put in order, and scaled one
 after another by a norm of the response from the input to each signal, so that the signal's range is just not passed: by
@@ -104,6 +108,7 @@ def options_of(words: list[str]) -> argparse.Namespace:
     parser.add_argument("--dither", type=shape_word, metavar="W,F",
                         help="to words of this shape, with noise, at the end")
     parser.add_argument("--stereo", action="store_true", help="two channels")
+    parser.add_argument("--live", action="store_true", help="coefficients that a host changes")
     parser.add_argument("--edge", type=float, metavar="HZ", help="where the pass band ends (cic, halfband)")
     parser.add_argument("--seconds", type=seconds_word, default=60.0, metavar="S",
                         help="within which bounds are to be found")
