@@ -76,7 +76,7 @@ show repeat assign|plan|stages-S|allot|assemble - *.sil *.toml'
 _silc_options='explain --datapath=*.toml --edits --json --library=/ --page --place=-
 check --all --library=/ --warn
 draw --check --db=- --folder=/ --force --frequencies=- --library=/ --out=*.svg --range=- --rate=-
-design --attenuation=- --band=- --dither=- --edge=- --force --form=df1|df2t|lattice --gains=- --input=- --limit --norm=l1|l2|peak|none --order=up|down|given --out=* --rate=- --ripple=- --rounding=nearest|down|zero --seconds=- --shape=- --signal=- --single --stereo --taps=- --weights=- --width=-
+design --attenuation=- --band=- --dither=- --edge=- --force --form=df1|df2t|lattice --gains=- --input=- --limit --live --norm=l1|l2|peak|none --order=up|down|given --out=* --rate=- --ripple=- --rounding=nearest|down|zero --seconds=- --shape=- --signal=- --single --stereo --taps=- --weights=- --width=-
 ranges --all --element=- --force --json --picture=* --seconds=- --worst --worst-input=* --wraps=-
 values --json
 noise --against=* --force --impulse=- --picture=* --zero-input=-
@@ -90,7 +90,7 @@ vcd --force
 verilog --datapath=*.toml --force --full --name=- --stages=-
 cosimulate --datapath=*.toml --force --full --stages=- --vcd=* --wait=- --with=icarus|verilator
 synthesize --datapath=*.toml --dsp --for=ice40|xilinx|ecp5 --full --json --part=up5k|hx8k --rate=- --route
-board --bits=- --build --datapath=*.toml --force --name=- --output=- --rate=- --samples=* --slave
+board --baud=- --bits=- --build --control=- --datapath=*.toml --force --name=- --output=- --rate=- --samples=* --slave
 fuzz --all-or-none --case=- --jobs=-'
 # end
 
