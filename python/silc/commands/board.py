@@ -21,9 +21,9 @@ together come in one row.
 With --samples S, rows of a left and a right word of the core, the bench plays them through the top under Icarus, and
 the rows that come back are compared with those of `silc sim`; it says how many clocks the core has to spare in each
 frame. Behind the two words of a row stand its control words; where they change, the bench sends those that did once
-that row was taken, and `silc sim` runs the rows as the core took them. With --build, Yosys, nextpnr and icepack make board.bin in FOLDER; where its clock is too slow for the board's,
-nothing is made at all. Each file is there whole or not at all. Where one of these names is a file that no tool made,
-none is written but with --force.
+that row was taken, and `silc sim` runs the rows as the core took them. With --build, Yosys, nextpnr and icepack make
+board.bin in FOLDER; where its clock is too slow for the board's, nothing is made at all. Each file is there whole or
+not at all. Where one of these names is a file that no tool made, none is written but with --force.
 """
 import argparse
 import tempfile

@@ -137,21 +137,20 @@ def heard(folder: Path, playing: Playing) -> Heard:
     return Heard(rows_behind(lines, "row "), taken, spare)
 
 
-def check_taken(rows: Sequence[Row], sent: Sequence[Row], taken: Sequence[Row], controls: int) -> list[Row]:
-    """The rows that the core took, from the first one that was sent on. Raises where they are not those that were sent,
-    with the control words one after another."""
+def check_taken(rows: Sequence[Row], sent: Sequence[Row], taken: Sequence[Row], controls: int) -> None:
+    """Raises where the rows that the core took are not those that were sent, with the control words one after
+    another."""
     audio = [row[:CHANNELS] for row in taken]
-    first = next((place for place in BEHIND[:1] + (0,) + BEHIND[1:] if audio[place: place + len(sent)] == [*sent]), None)
-    if first is None:
+    if not any(audio[place: place + len(sent)] == [*sent] for place in (0, *BEHIND)):
         raise NoBoard("the core took other words of audio than were sent")
     zeros = (0,) * controls
     steps = {"asked": [zeros, *(row[CHANNELS:] for row in rows)], "given": [zeros, *(row[CHANNELS:] for row in taken)]}
     asked, given = ([row for row, last in zip(words[1:], words) if row != last] for words in steps.values())
     if asked != given:
-        wrong = next((k for k, (one, other) in enumerate(zip(asked, given)) if one != other), min(len(asked), len(given)))
+        wrong = next((k for k, (one, other) in enumerate(zip(asked, given)) if one != other),
+                     min(len(asked), len(given)))
         raise NoBoard(f"change {wrong} of the control words came as {given[wrong:wrong + 1]}, and "
                       f"{asked[wrong:wrong + 1]} was sent")
-    return [*taken]
 
 
 def compare(made: Sequence[Row], outs: Sequence[Row], behind: Sequence[int]) -> None:
@@ -170,19 +169,26 @@ def play(playing: Playing, file: str, texts: Mapping[str, str]) -> str:
     rows = rows_in(file, audio)
     sent = playing.sent([row[:CHANNELS] for row in rows])
     with tempfile.TemporaryDirectory(prefix="silc-board-") as name:
-        files = {**texts, SAMPLES: "".join(f"{left},{right}\n" for left, right in sent), BYTES: playing.bytes_text(rows)}
+        files = {**texts, SAMPLES: "".join(f"{left},{right}\n" for left, right in sent),
+                 BYTES: playing.bytes_text(rows)}
         for own, text in files.items():
             (Path(name) / own).write_text(text)
         said = heard(Path(name), playing)
-    moved = ""
-    if audio.controls:
-        taken = check_taken(rows, sent, said.taken, audio.controls)
-        ran = [(*words, *row[CHANNELS:]) for words, row in zip(playing.carried([row[:CHANNELS] for row in taken]), taken)]
-        outs = playing.wanted(ran)[: len(said.made) - max(BEHIND)]
-        count = sum(row[CHANNELS:] != last[CHANNELS:] for row, last in zip(taken[1:], taken))
-        moved = f", while control words changed in {count} of them"
+    if not audio.controls:
+        outs, moved = playing.wanted(playing.carried(sent)), ""
+        compare(said.made, outs, BEHIND)
     else:
-        outs = playing.wanted(playing.carried(sent))
-    compare(said.made, outs, BEHIND if not audio.controls else (0, *BEHIND))
-    return (f"{len(outs)} rows came back as silc sim puts them{moved}, and the core has {said.spare} clocks to spare in "
-            "each frame")
+        outs, moved = wanted_of_taken(playing, rows, sent, said)
+        compare(said.made, outs, (0, *BEHIND))
+    return (f"{len(outs)} rows came back as silc sim puts them{moved}, and the core has {said.spare} clocks to spare "
+            "in each frame")
+
+
+def wanted_of_taken(playing: Playing, rows: Sequence[Row], sent: Sequence[Row], said: Heard) -> tuple[list[Row], str]:
+    """The words of the lines for the rows that the core took, and how often their control words changed."""
+    taken = said.taken
+    check_taken(rows, sent, taken, playing.audio.controls)
+    carried = playing.carried([row[:CHANNELS] for row in taken])
+    outs = playing.wanted([(*words, *row[CHANNELS:]) for words, row in zip(carried, taken)])
+    count = sum(row[CHANNELS:] != last[CHANNELS:] for row, last in zip(taken[1:], taken))
+    return outs[: len(said.made) - max(BEHIND)], f", while control words changed in {count} of them"

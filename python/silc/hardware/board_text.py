@@ -94,8 +94,8 @@ def check_serial(board: Board, audio: Audio) -> None:
     if audio.controls > MOST_WORDS:
         raise NoBoard(f"--control {audio.controls}: the serial line has {MOST_WORDS} control words at most")
     if clocks < SERIAL_CLOCKS or abs(board.hertz / audio.baud / clocks - 1) > SERIAL_OFF:
-        raise NoBoard(f"--baud {audio.baud}: an {board.name} reads up to {board.hertz // SERIAL_CLOCKS:,} bits a second, "
-                      f"of a whole number of clocks up to {SERIAL_OFF:.0%}")
+        raise NoBoard(f"--baud {audio.baud}: an {board.name} reads up to {board.hertz // SERIAL_CLOCKS:,} bits a "
+                      f"second, of a whole number of clocks up to {SERIAL_OFF:.0%}")
 
 
 def out_width(core: Core, audio: Audio) -> int:
@@ -149,8 +149,8 @@ def control_text(board: Board, core: Core, audio: Audio) -> str:
     wire [7:0] byte_in;
     wire byte_came;
     wire [{audio.controls * width - 1}:0] controls;
-    silc_uart #(.CLOCKS({clocks}), .BITS({clocks.bit_length()})) uart (.clk(clk), .rst(rst), .line(serial), .word(byte_in),
-        .came(byte_came));
+    silc_uart #(.CLOCKS({clocks}), .BITS({clocks.bit_length()})) uart (.clk(clk), .rst(rst), .line(serial),
+        .word(byte_in), .came(byte_came));
     silc_control #(.WORDS({audio.controls}), .BITS({width})) control (.clk(clk), .rst(rst), .word(byte_in),
         .came(byte_came), .words(controls));
 {wires}"""
@@ -206,7 +206,7 @@ def top_text(board: Board, core: Core, audio: Audio) -> str:
     """The module with the pins of the board."""
     clocks = "output" if audio.is_master() else "input"
     button = "    input wire button_n,      // begins a new run\n" if board.button else ""
-    serial = (f"    input wire serial,        // control words, {audio.baud:,} bits a second\n" if audio.controls else "")
+    serial = f"    input wire serial,        // control words, {audio.baud:,} bits a second\n" if audio.controls else ""
     low = "!" if board.is_light_low else ""
     return f"""\
 // {core.name} between a receiver and a transmitter of serial audio, as {audio.role}, made by tools/board for:
@@ -283,8 +283,8 @@ HOST_NONE = """\
     wire is_sent = 1'b1;
 """
 HOST_TEXT = """\
-    // A host at the serial line: each byte of {bytes} is sent once the row that stands before it was taken. All rows that
-    // are taken are printed, as words without a sign.
+    // A host at the serial line: each byte of {bytes} is sent once the row that stands before it was taken. All rows
+    // that are taken are printed, as words without a sign.
     reg serial, is_sent;
     integer list, count, from_row, value, place, taken;
     initial begin

@@ -44,8 +44,8 @@ BOARDS = {
         {"clk": "J3", "lost": "B5", "running": "B4",
          "dac_mclk": "B1", "dac_lrck": "B2", "dac_sclk": "C1", "dac_data": "C2",
          "adc_mclk": "D1", "adc_lrck": "D2", "adc_sclk": "E2", "adc_data": "F1"}, None, False,
-        "B10", "The serial line is that of the board's USB port, RS232_Rx_TTL of its guide (Lattice's EB85): compare it "
-        "too."),
+        "B10", "The serial line is that of the board's USB port, RS232_Rx_TTL of its guide (Lattice's EB85): compare "
+        "it too."),
 }
 
 
