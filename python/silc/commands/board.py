@@ -1,7 +1,7 @@
 """Makes a top for a board round the core of a microcode file: serial audio in and out, a reset, a clock, and the pins.
 
 usage: tools/board NAME MIC FOLDER [--datapath DP] [--name CORE] [--bits N] [--slave] [--rate HZ] [--output W]
-                   [--control N [--baud B]] [--samples S] [--build] [--force]
+                   [--control N [--baud B]] [--large] [--samples S] [--build] [--force]
 
 NAME is icebreaker (an iCE40 up5k, with a Pmod I2S2) or hx8k (Lattice's breakout board of that part); the file of pins
 that is made says where they are from. FOLDER gets the core as tools/verilog makes it, silc_i2s.v, board.v with the
@@ -17,6 +17,8 @@ the board's clock gives, 256 clocks each; where the core is too slow for it, or 
 With --control N the last N words of a row in are control words, which a host writes by the serial line of the board's
 USB port, at B bits a second (115,200): silc_uart.v says by which bytes. All are 0 first, and those that are written
 together come in one row.
+
+--large puts long delays into the large memories of an up5k, as tools/verilog has it.
 
 With --samples S, rows of a left and a right word of the core, the bench plays them through the top under Icarus, and
 the rows that come back are compared with those of `silc sim`; it says how many clocks the core has to spare in each
@@ -37,6 +39,7 @@ from silc.hardware.board_text import (BAUD, CODEC, FRAME_CLOCKS, LEAST_BITS, MOS
                                       module_text, top_text)
 from silc.hardware.boards import BOARDS, MASTER, SLAVE, Board, constraints
 from silc.hardware.core_files import PARTS, files_of
+from silc.hardware.large import make_large
 from silc.hardware.netlist import Core, NoCore, core_for_image
 from silc.hardware.routing import need, routed, run
 from silc.made_files import MadeFiles, NotMade, add_force
@@ -55,6 +58,10 @@ def core_of(options: argparse.Namespace, board: Board, audio: Audio) -> tuple[Co
     if name in (TOP, CODEC):
         raise NoBoard(f"the core would be called {name}, as the top is; --name gives another")
     image, core = core_for_image(image, name, names_in(options.datapath, image))
+    if options.large and not board.fpga.large_memories:
+        raise NoBoard(f"--large: an {board.fpga.name} has no large memories")
+    if options.large:
+        make_large(image, core)
     check_core(core, audio.controls)
     check_rate(board, audio, core.period)
     check_serial(board, audio)
@@ -130,6 +137,7 @@ def options_of(words: list[str]) -> argparse.Namespace:
     parser.add_argument("--control", metavar="N", type=count_word, default=0)
     parser.add_argument("--baud", metavar="B", type=count_word, default=BAUD)
     parser.add_argument("--samples", metavar="S")
+    parser.add_argument("--large", action="store_true")
     parser.add_argument("--build", action="store_true")
     add_force(parser)
     return parser.parse_args(words)

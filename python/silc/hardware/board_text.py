@@ -224,19 +224,22 @@ module {TOP} (
     {clocks} wire adc_sclk,
     input wire adc_data,
     output wire lost,         // a light: a row was lost, or an address was outside of its memory
-    output wire running       // a light: the reset is over
+    output wire running       // a light: the core is ready
 );
     wire rst, rises, lrck, line, line_out, row, in_valid, in_ready, is_lost;
     wire [{audio.bits - 1}:0] left, right;
     reg [{audio.bits - 1}:0] left_out, right_out;
+    // A reset fills the core's memories, and what comes before that is no row.
+    reg is_ready;
+    always @(posedge clk) is_ready <= !rst && (is_ready || in_ready);
     silc_reset resets (.clk(clk), .pressed({'!button_n' if board.button else "1'b0"}), .rst(rst));
 {MASTER_LINES if audio.is_master() else SLAVE_LINES}\
     silc_i2s #(.BITS({audio.bits})) audio (.clk(clk), .rst(rst), .rises(rises), .lrck(lrck), .line(line),
         .line_out(line_out), .left(left), .right(right), .row(row), .left_out(left_out), .right_out(right_out));
-    silc_rows rows (.clk(clk), .rst(rst), .row(row), .in_ready(in_ready), .in_valid(in_valid), .lost(is_lost));
+    silc_rows rows (.clk(clk), .rst(rst), .row(row && is_ready), .in_ready(in_ready), .in_valid(in_valid), .lost(is_lost));
 {control_text(board, core, audio)}{cores_text(core, audio)}\
     assign lost = {low}(is_lost || fault);
-    assign running = {low}(!rst);
+    assign running = {low}is_ready;
 endmodule
 `default_nettype wire
 """

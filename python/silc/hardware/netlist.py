@@ -55,6 +55,7 @@ class Part:
     cells: File | None = None
     ram: int | None = None
     stores: bool = True
+    is_large: bool = False
 
     def can_stray(self) -> bool:
         """Whether an address may be outside of the memory."""
