@@ -23,7 +23,8 @@ RATE, ROWS = 48000, 1040
 INPUT, SIGNAL, PLACES = 24, 28, 23
 COEFFICIENT, COEFFICIENT_PLACES = 24, 22
 # Each band as it is at the start: kind, hertz, decibels, quality.
-BANDS = (("low", 120, 4, math.sqrt(0.5)), ("peak", 500, -3, 1.4), ("peak", 2500, 2, 1), ("high", 8000, 3, math.sqrt(0.5)))
+FLAT = math.sqrt(0.5)
+BANDS = (("low", 120, 4, FLAT), ("peak", 500, -3, 1.4), ("peak", 2500, 2, 1), ("high", 8000, 3, FLAT))
 IDLE, TAKES = -1, 5
 
 
@@ -53,8 +54,8 @@ class Section:
         for place, (word, signal) in enumerate(terms):
             # What is taken off is rounded as it stands, before it is taken off.
             sign = -1 if place >= 3 else 1
-            product = fixed.quantised(Fraction(sign * word * signal, 2 ** (COEFFICIENT_PLACES + PLACES)), SIGNAL, PLACES,
-                                      fixed.ROUND_SAT)
+            exact = Fraction(sign * word * signal, 2 ** (COEFFICIENT_PLACES + PLACES))
+            product = fixed.quantised(exact, SIGNAL, PLACES, fixed.ROUND_SAT)
             total = fixed.clip(total + sign * product, SIGNAL)
         self.xs, self.ys = [x, self.xs[0]], [total, self.ys[0]]
         return total
@@ -101,7 +102,8 @@ def controls() -> Iterator[Control]:
         yield from turned(1, designed("peak", 500, -3 + 1.5 * step, 1.4)) + [(IDLE, 0)] * 10
     for step in range(17):
         yield from turned(2, designed("peak", 200 * 25 ** (step / 16), 6, 3)) + [(IDLE, 77)] * 14
-    yield from list(enumerate(designed("low", 60, -12, 1)))[:4] + [(100, 1 << 20), (-128, 5), (9, -1)] + [(IDLE, 0)] * 13
+    yield from list(enumerate(designed("low", 60, -12, 1)))[:4]
+    yield from [(100, 1 << 20), (-128, 5), (9, -1)] + [(IDLE, 0)] * 13
     yield from turned(0, designed("low", 300, 18, 1))
     while True:
         yield IDLE, 0
@@ -138,7 +140,7 @@ def steps_of(control: Sequence[Control]) -> tuple[int, int]:
 
 
 def told() -> Iterable[str]:
-    words = designed("low", 120, -8, math.sqrt(0.5))
+    words = designed("low", 120, -8, FLAT)
     for name, way in (("at once", turned), ("one by one", in_pieces)):
         before, behind = steps_of(way(0, words))
         yield f"{name}: the greatest step is {before} before, and {behind} behind"

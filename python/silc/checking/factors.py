@@ -14,6 +14,8 @@ from silc.checking.elements import ROOT, SAME, VALUE, WORD, Elements, Scope, Too
 MOST_STEPS, MOST_SHOWN = 150_000, 60
 HARDWARE = 'docs/HARDWARE.md, "What a plan costs"'
 PORTS = ("first", "second")
+# Factors that can change places as they are written.
+PLAIN = ("read", "number")
 
 
 @dataclass
@@ -100,13 +102,15 @@ def exchangeable(source: Source) -> Iterator[Report]:
         left, right = one.node.parts
         shown = source.shown(one.node)
         shown = shown if len(shown) <= MOST_SHOWN else shown[:MOST_SHOWN].rstrip() + " .."
-        text = source.text.chars
-        yield Report(f"`{shown}` brings words of {one.bits[port]} bits to the {PORTS[port]} port of a multiplier; with "
-                     f"its factors exchanged{beside}, that port takes {behind} bits at most, and not {before}",
-                     "exchange its factors: a port is as wide as the widest word that comes to it.", HARDWARE,
-                     source.node_span(one.node)) \
-            .by(source.text.edit(left.start, left.end, text[right.start:right.end]),
-                source.text.edit(right.start, right.end, text[left.start:left.end]))
+        report = Report(f"`{shown}` brings words of {one.bits[port]} bits to the {PORTS[port]} port of a multiplier; with "
+                        f"its factors exchanged{beside}, that port takes {behind} bits at most, and not {before}",
+                        "exchange its factors: a port is as wide as the widest word that comes to it.", HARDWARE,
+                        source.node_span(one.node))
+        if left.kind in PLAIN and right.kind in PLAIN:
+            text = source.text.chars
+            report.by(source.text.edit(left.start, left.end, text[right.start:right.end]),
+                      source.text.edit(right.start, right.end, text[left.start:left.end]))
+        yield report
 
 
 def wide_ports(source: Source) -> list[Report]:

@@ -1,8 +1,8 @@
 """Says what hardware the core of a microcode file takes: cells, flip-flops, block memories, multipliers and clock. Of a
 net file it says what all its cores and queues take together.
 
-usage: tools/synthesize MIC [--datapath DP] [--for ice40|xilinx|ecp5] [--dsp] [--full | --large] [--no-restart] [--route]
-                        [--part up5k|hx8k] [--rate HZ] [--json]
+usage: tools/synthesize MIC [--datapath DP] [--for ice40|xilinx|ecp5] [--dsp] [--full | --large] [--no-restart]
+                        [--route] [--part up5k|hx8k] [--rate HZ] [--json]
        tools/synthesize NET [--for ice40|xilinx|ecp5] [--dsp] [--no-restart] [--route] [--part up5k|hx8k] [--json]
 
 NET is a file that ends in .toml (docs/NETS.md). Yosys synthesizes the core, or the net of cores, that tools/verilog

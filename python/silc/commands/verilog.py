@@ -12,8 +12,8 @@ alone, or with
 --full for any program over the datapath with as many input and output words, or with I and O of them: another program
 is another .hex then. docs/HARDWARE.md describes the core.
 
-With --large each memory of 16,384 bits or more is one for which an iCE40 UP5K has four large memories: with one port, and
-filled by a reset. Where no memory can be one it is refused, with the reason.
+With --large each memory of 16,384 bits or more is one for which an iCE40 UP5K has four large memories: with one port,
+and filled by a reset. Where no memory can be one it is refused, with the reason.
 
 With --stages the core runs the plan of a source over S stages of a datapath, with S samples in flight: its rows are
 those of `silc pipe`. The name is that of SRC then, and the guarded words come from the `silc_show` that is built, or

@@ -236,7 +236,8 @@ module {TOP} (
 {MASTER_LINES if audio.is_master() else SLAVE_LINES}\
     silc_i2s #(.BITS({audio.bits})) audio (.clk(clk), .rst(rst), .rises(rises), .lrck(lrck), .line(line),
         .line_out(line_out), .left(left), .right(right), .row(row), .left_out(left_out), .right_out(right_out));
-    silc_rows rows (.clk(clk), .rst(rst), .row(row && is_ready), .in_ready(in_ready), .in_valid(in_valid), .lost(is_lost));
+    silc_rows rows (.clk(clk), .rst(rst), .row(row && is_ready), .in_ready(in_ready), .in_valid(in_valid),
+        .lost(is_lost));
 {control_text(board, core, audio)}{cores_text(core, audio)}\
     assign lost = {low}(is_lost || fault);
     assign running = {low}is_ready;
@@ -342,7 +343,7 @@ module codec_tb;
 
     always @(posedge clk) begin
         waited = board.in_ready === 1'b1 ? waited + 1 : 0;
-        if (board.row === 1'b1 && waited < spare) spare = waited;
+        if (is_running && board.row === 1'b1 && waited < spare) spare = waited;
     end
 
     // Behind an edge of LRCK comes the last bit of a word that fills its half, and then the bits of the next.

@@ -1,5 +1,5 @@
-"""Memories of a core that are made as large ones, which an iCE40 UP5K has four of: 16,384 words of 16 bits each, with one
-port, at which a load reads or a store writes, and without initial words."""
+"""Memories of a core that are made as large ones, which an iCE40 UP5K has four of: 16,384 words of 16 bits each, with
+one port, at which a load reads or a store writes, and without initial words."""
 from __future__ import annotations
 
 from silc.micro_file.image import Image
@@ -35,8 +35,8 @@ def why_not(image: Image, unit: int, part: Part) -> str | None:
         return f"{part.name} has latency 1, in which it is read and written at one edge; latency 2 is needed"
     cycle = busy_cycle(image, unit)
     if cycle is not None:
-        return (f"{part.name} begins a load in cycle {cycle}, in which a store ends; a gap of {part.latency} keeps them "
-                "apart")
+        return (f"{part.name} begins a load in cycle {cycle}, in which a store ends; a gap of {part.latency} keeps "
+                "them apart")
     return None
 
 

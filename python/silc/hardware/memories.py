@@ -5,6 +5,11 @@ import re
 from collections.abc import Iterator, Sequence
 from dataclasses import dataclass
 from pathlib import Path
+from typing import TYPE_CHECKING
+
+if TYPE_CHECKING:
+    from .columns import Program
+    from .netlist import Core
 
 # A register file of up to so many words is flip-flops.
 SMALL = 4
@@ -35,6 +40,13 @@ def memories_in(folder: Path, name: str) -> list[Memory]:
     made = [Memory(PROGRAM, rows, width)]
     for own, words, bits in FILE.findall(text):
         made.append(Memory(own, int(words), int(bits), (folder / f"{name}_{own}.hex").exists()))
+    return sorted(made, key=lambda one: -one.bits())
+
+
+def memories_of(core: Core, program: Program) -> list[Memory]:
+    """The memories of a core, the greatest first."""
+    made = [Memory(PROGRAM, core.rows, program.width),
+            *(Memory(name, file.size, file.words.bits(), any(file.first)) for name, file in core.memories())]
     return sorted(made, key=lambda one: -one.bits())
 
 
