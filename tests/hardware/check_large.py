@@ -1,6 +1,6 @@
 #!/usr/bin/env python3
-"""Whether memories that are made as large ones give the same rows, and what is refused: a reverberator whose memory has a
-latency of 2, and microcode that is written by hand, with first words, over memories of several latencies.
+"""Whether memories that are made as large ones give the same rows, and what is refused: a reverberator whose memory has
+a latency of 2, and microcode that is written by hand, with first words, over memories of several latencies.
 
 usage: tests/hardware/check_large.py
 
@@ -115,8 +115,8 @@ def delay_faults(room: Path) -> Iterator[str]:
             yield f"latency {latency}, a load in cycle {load}: the bench ends with {said}"
     for latency, load in REFUSED:
         done = delayed(latency, load, room)
-        why = (f"verilog: no memory can be a large one: 1 begins a load in cycle {load}, in which a store ends; a gap of "
-               f"{latency} keeps them apart\n")
+        why = (f"verilog: no memory can be a large one: 1 begins a load in cycle {load}, in which a store ends; a gap "
+               f"of {latency} keeps them apart\n")
         if done.returncode != 1 or done.stderr != why or (room / f"delay_{latency}_{load}").exists():
             yield f"latency {latency}, a load in cycle {load}: it ended with {done.returncode}: {done.stderr}"
 

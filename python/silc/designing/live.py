@@ -86,6 +86,24 @@ def made_live(wanted: Wanted, sections: list[Section]) -> tuple[Live, list[str]]
         said_of_move(move).replace("Response: it moved", "Response: at the start it moved")]
 
 
+# How a host turns a band
+
+
+def turns_of(sections: Sequence[Section], first: int, shape: Shape) -> list[tuple[int, int]]:
+    """The control words, an index and a value in one sample, by which sections from a number on, from 1, become these:
+    for each its five words and then the index at which it takes them."""
+    last = first + len(sections) - 1
+    if not sections or last > MOST_SECTIONS:
+        raise Unscaled(f"--turn {first}: there is no --band" if not sections else
+                       f"--turn {first}: a live chain has up to {MOST_SECTIONS} sections")
+    made: list[tuple[int, int]] = []
+    for number, section in enumerate(sections, first):
+        words = live_words(section, shape, section.place or f"section {number}")
+        check_poles(section_of(words, shape), section.place)
+        made += [*enumerate(words), (len(COEFFICIENTS) + number - 1, 0)]
+    return made
+
+
 # Its parts
 
 

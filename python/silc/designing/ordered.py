@@ -107,7 +107,7 @@ DESIGNS = {"bands": chain, "crossover": crossover, "cic": cic, "halfband": half_
 # Which of them, and of the others, take an option that not all take.
 OTHERS = ("sos", "fir", "iir")
 FOR = {"band": ("bands",), "limit": ("bands",), "dither": ("bands",), "stereo": ("bands", "crossover"),
-       "live": ("bands",),
+       "live": ("bands",), "turn": ("bands",), "serial": ("bands",),
        "edge": ("cic", "halfband"),
        "form": ("sos", "iir", "bands", "crossover"), "norm": (*OTHERS, "bands", "cic"),
        "order": ("sos", "iir", "bands"),

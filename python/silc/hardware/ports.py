@@ -1,5 +1,5 @@
-"""How many bits each register file of a core has, and which operand needs them: a file is as wide as the widest word that
-comes into it."""
+"""How many bits each register file of a core has, and which operand needs them: a file is as wide as the widest word
+that comes into it."""
 from __future__ import annotations
 
 from dataclasses import dataclass
