@@ -21,8 +21,9 @@ ROOT = Path(__file__).resolve().parent.parent.parent
 SILC = Path(os.environ.get("SILC", ROOT / "crates" / "silc_main" / "out" / "silc_main")).resolve()
 REVERB = ROOT / "examples" / "reverb"
 SKIPPED, ROWS, CELLS, DELAY = 77, 1200, 1100, 1023
-# A delay of 1,023 samples by a memory of a latency, whose load begins in a cycle.
-DELAYED = """\
+# A delay of 1,023 samples by a memory of a latency: its store begins in cycle 1, and its load in one whose address comes
+# in the cycle before.
+HEAD = """\
 input 0 width 16
 unit 0 in latency 1 gap 1
 unit 1 ram latency {latency} gap 1 files 1 1 cells {cells}
@@ -30,26 +31,11 @@ first 1 cell 7 5 6 -7
 unit 2 acu latency 1 gap 1 ram 1
 unit 3 out latency 1 gap 1 files 1
 period 16 unroll 1 inputs 1 outputs 1 units 4 buses 2
-word 0
-issue 0 input 0
-issue 2 addr 0
-drive 0 0
-drive 2 1
-take 1.1 bus 0 reg 0
-take 1.0 bus 1 reg 0
-word 1
-issue 1 store regs 0 0
-issue 2 addr {delay}
-drive 2 1
-take 1.0 bus 1 reg 0
-word {load}
-issue 1 load regs 0 0
-word {there}
-drive 1 0
-take 3.0 bus 0 reg 0
-word {out}
-issue 3 output 0 regs 0
 """
+BEGIN = ["issue 0 input 0", "issue 2 addr 0", "drive 0 0", "drive 2 1", "take 1.1 bus 0 reg 0", "take 1.0 bus 1 reg 0"]
+STORE, LOAD = ["issue 1 store regs 0 0"], ["issue 1 load regs 0 0"]
+ADDRESS = [f"issue 2 addr {DELAY}", "drive 2 1", "take 1.0 bus 1 reg 0"]
+HAND_ON, PUT = ["drive 1 0", "take 3.0 bus 0 reg 0"], ["issue 3 output 0 regs 0"]
 # A store begins in cycle 1, and ends in cycle 1 less than its latency behind it.
 TRIED = ((2, 3), (3, 2), (3, 5), (5, 4), (5, 6))
 REFUSED = ((2, 2), (3, 3), (5, 5))
@@ -72,11 +58,19 @@ def tool(name: str, *words: str | Path, room: Path) -> "subprocess.CompletedProc
     return ran(ROOT / "tools" / name, *words, room=room)
 
 
+def listing(latency: int, load: int) -> str:
+    """The microcode of the delay."""
+    words: dict[int, list[str]] = {0: BEGIN, 1: STORE}
+    words[load - 1] = words.get(load - 1, []) + ADDRESS
+    words |= {load: LOAD, load + latency - 1: HAND_ON, load + latency: PUT}
+    return HEAD.format(latency=latency, cells=CELLS) + "".join(
+        f"word {number}\n" + "".join(f"{line}\n" for line in lines) for number, lines in sorted(words.items()))
+
+
 def delayed(latency: int, load: int, room: Path) -> "subprocess.CompletedProcess[str]":
     """The core of a delay, in a folder that is called after it."""
     name = f"delay_{latency}_{load}"
-    (room / f"{name}.listing").write_text(DELAYED.format(latency=latency, load=load, cells=CELLS, delay=DELAY,
-                                                         there=load + latency - 1, out=load + latency))
+    (room / f"{name}.listing").write_text(listing(latency, load))
     done = tool("assemble", f"{name}.listing", f"{name}.mic", room=room)
     return done if done.returncode else tool("verilog", f"{name}.mic", name, "--large", room=room)
 
@@ -122,10 +116,10 @@ def delay_faults(room: Path) -> Iterator[str]:
 
 
 def wrong_faults(room: Path) -> Iterator[str]:
-    """Wrong lines that the benches let pass. The last one is seen at a latency above 2."""
+    """Wrong lines that the benches let pass, at latencies above 2."""
     for number, (line, wrong) in enumerate(WRONG):
         caught = False
-        for latency, load in (TRIED[0], TRIED[-1]):
+        for latency, load in (TRIED[1], TRIED[-1]):
             folder = room / f"wrong_{number}_{latency}"
             shutil.copytree(room / f"delay_{latency}_{load}", folder)
             parts = folder / "silc_parts.v"

@@ -93,11 +93,15 @@ def tree_of(text: str) -> Table:
 
 def port_lines(made: Planned) -> Iterator[str]:
     """A line for each port, by its name."""
-    rows = [(port.name, f"{port.bits()} bits", f"{port.file.size} register{'s' if port.file.size > 1 else ''}",
+    rows = [(port.name, counted(port.bits(), "bit"), counted(port.file.size, "register"),
              made.operand(port) + beside(port)) for port in made.ports]
     widths = [max(len(row[column]) for row in rows) for column in range(3)]
     for row in rows:
         yield "  ".join(cell.ljust(width) for cell, width in zip(row, [*widths, 0])).rstrip()
+
+
+def counted(number: int, what: str) -> str:
+    return f"{number} {what}{'' if number == 1 else 's'}"
 
 
 def beside(port: Port) -> str:
