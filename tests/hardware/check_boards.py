@@ -130,6 +130,8 @@ def route_faults(room: Path) -> Iterator[str]:
     """A rate that a small core serves, one that it does not, and a part that has no multipliers."""
     for options, status, said in (("--part hx8k --route --rate 48000", 0, "48,000 samples a second take"),
                                   ("--part hx8k --route --rate 100000000", 3, "the longest path goes through"),
+                                  ("--part up5k", 0, "up5k: it fits, with "),
+                                  ("--large --part hx8k", 1, "synthesize: --large: an hx8k has no large memories"),
                                   ("--part hx8k --dsp", 1, "synthesize: --dsp: an hx8k has no multipliers")):
         done = ran(ROOT / "tools" / "synthesize", "swap.mic", *options.split(), room=room)
         if done.returncode != status or said not in done.stdout + done.stderr:

@@ -32,7 +32,8 @@ unit 2 acu latency 1 gap 1 ram 1
 unit 3 out latency 1 gap 1 files 1
 period 16 unroll 1 inputs 1 outputs 1 units 4 buses 2
 """
-BEGIN = ["issue 0 input 0", "issue 2 addr 0", "drive 0 0", "drive 2 1", "take 1.1 bus 0 reg 0", "take 1.0 bus 1 reg 0"]
+BEGIN = ["issue 0 input 0", "issue 2 addr 0", "drive 0 0", "drive 2 1", "take 1.1 bus 0 reg 0",
+         "take 1.0 bus 1 reg 0"]
 STORE, LOAD = ["issue 1 store regs 0 0"], ["issue 1 load regs 0 0"]
 ADDRESS = [f"issue 2 addr {DELAY}", "drive 2 1", "take 1.0 bus 1 reg 0"]
 HAND_ON, PUT = ["drive 1 0", "take 3.0 bus 0 reg 0"], ["issue 3 output 0 regs 0"]
@@ -156,6 +157,23 @@ def reverb_faults(room: Path) -> Iterator[str]:
             yield f"reverb: {done.stdout}{done.stderr}"
 
 
+def restart_faults(room: Path) -> Iterator[str]:
+    """First words take block memories of their own, but where a core has no restart."""
+    counts = []
+    for option in ((), ("--no-restart",)):
+        done = tool("synthesize", "delay_2_3.mic", "--part", "up5k", *option, room=room)
+        found = re.search(r"(\d+) of 30 block memories", done.stdout)
+        is_told = (f"first words in a second memory, for a restart: 1_cells {CELLS:,} x 16: {CELLS * 16:,} bits; "
+                   "--no-restart spares it\n") in done.stdout
+        if not found or is_told == bool(option):
+            yield f"{' '.join(option)}: {done.stdout}{done.stderr}"
+            return
+        counts.append(int(found[1]))
+    # 1,100 words of 16 bits have no place in four block memories.
+    if counts[1] < 5 or counts[0] < 2 * counts[1]:
+        yield f"{counts[0]} block memories with a restart, and {counts[1]} without"
+
+
 def main() -> int:
     if not shutil.which("iverilog"):
         print("large: skipped: there is no iverilog; apt-get install iverilog")
@@ -163,6 +181,8 @@ def main() -> int:
     with tempfile.TemporaryDirectory(prefix="silc-large-") as folder:
         room = Path(folder)
         faults = [*delay_faults(room), *wrong_faults(room), *reverb_faults(room)]
+        if shutil.which("yosys"):
+            faults += restart_faults(room)
     for fault in faults:
         print(fault)
     print(f"large: {len(TRIED) + 1} cores, {len(REFUSED)} refusals and {len(WRONG)} wrong lines, {len(faults)} faults")

@@ -102,8 +102,8 @@ def exchangeable(source: Source) -> Iterator[Report]:
         left, right = one.node.parts
         shown = source.shown(one.node)
         shown = shown if len(shown) <= MOST_SHOWN else shown[:MOST_SHOWN].rstrip() + " .."
-        report = Report(f"`{shown}` brings words of {one.bits[port]} bits to the {PORTS[port]} port of a multiplier; with "
-                        f"its factors exchanged{beside}, that port takes {behind} bits at most, and not {before}",
+        report = Report(f"`{shown}` brings words of {one.bits[port]} bits to the {PORTS[port]} port of a multiplier; "
+                        f"with its factors exchanged{beside}, that port takes {behind} bits at most, and not {before}",
                         "exchange its factors: a port is as wide as the widest word that comes to it.", HARDWARE,
                         source.node_span(one.node))
         if left.kind in PLAIN and right.kind in PLAIN:
