@@ -76,7 +76,8 @@ def compile_all(room: Path) -> None:
     named = {EQUALISER[0]: (example / f"{EQUALISER[0]}.sil", example / f"{EQUALISER[1]}.toml")}
     for name, text in (("swap", SWAP), ("many", MANY), ("truth", TRUTH), ("knobs", KNOBS), ("volume", VOLUME)):
         (room / f"{name}.sil").write_text(text)
-        named[name] = room / f"{name}.sil", ROOT / "examples" / "goertzel" / "one_multiplier.toml"
+        example = "parametric" if name in ("knobs", "volume") else "goertzel"
+        named[name] = room / f"{name}.sil", ROOT / "examples" / example / "one_multiplier.toml"
     for name, (source, datapath) in named.items():
         done = ran(SILC, "compile", source, datapath, f"{name}.mic", room=room)
         if done.returncode:
