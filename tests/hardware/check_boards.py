@@ -57,7 +57,8 @@ REFUSED = (
     ("hx8k many --control 3 --baud 2000000",
      "--baud 2000000: an hx8k reads up to 1,500,000 bits a second, of a whole number of clocks up to 2%"),
     ("hx8k equaliser --large", "--large: an hx8k has no large memories"),
-    ("icebreaker equaliser --large", "no memory can be a large one: mem has 576 bits, and less than 16,384 are better "
+    # Without a datapath a unit has its number; its memory has 32 cells of 32 bits.
+    ("icebreaker equaliser --large", "no memory can be a large one: 5 has 1,024 bits, and less than 16,384 are better "
      "in block memories"),
     ("icebreaker truth", "an input of the core is a truth value, and no word of audio"),
     ("icebreaker equaliser --output 20", "--output 20: an output of the core has 32 bits"),
