@@ -1,7 +1,7 @@
 # Completion of `silc` for bash: source this file, or put it into a folder of bash-completion under the name `silc`.
 
 # made by tools/completions
-_silc_words='run eval compile sim schedule list demo stages pipe frame net explain check draw design ranges values noise explore link rows batch assemble rom vcd verilog cosimulate synthesize board fuzz show build help'
+_silc_words='run eval compile sim schedule list demo stages pipe frame net explain check draw design ranges values noise explore link rows batch assemble rom vcd verilog cosimulate cost synthesize board fuzz show build help'
 _silc_forms='run *.sil *.toml * *
 eval *.sil * *
 compile *.sil *.toml *
@@ -15,7 +15,7 @@ frame *.sil *.toml - - - *
 net *.toml * *
 explain run|eval|compile|sim|schedule|list|demo|stages|pipe|frame|net
 check *.sil
-draw datapath *.toml
+draw datapath *.toml *.sil
 draw schedule * *.toml *.sil
 draw unfolded * *.toml
 draw lifetimes * *.toml
@@ -58,6 +58,7 @@ verilog *.toml /
 cosimulate *.mic *
 cosimulate *.sil *.toml *
 cosimulate *.toml *
+cost *.sil *.toml
 synthesize *.mic
 synthesize *.toml
 board - *.mic /
@@ -69,6 +70,7 @@ show manifests|words *
 show image *.mic
 show guarded *.sil *.toml -
 show trace *.mic * - - -
+show trace *.sil *.toml - * - - -
 show datapath *.toml
 show rows - *
 show repeat - - *
@@ -76,7 +78,7 @@ show repeat assign|plan|stages-S|allot|assemble - *.sil *.toml'
 _silc_options='explain --datapath=*.toml --edits --json --library=/ --page --place=-
 check --all --library=/ --warn
 draw --check --db=- --folder=/ --force --frequencies=- --library=/ --out=*.svg --range=- --rate=-
-design --attenuation=- --band=- --dither=- --edge=- --force --form=df1|df2t|lattice --gains=- --input=- --limit --norm=l1|l2|peak|none --order=up|down|given --out=* --rate=- --ripple=- --rounding=nearest|down|zero --seconds=- --shape=- --signal=- --single --stereo --taps=- --weights=- --width=-
+design --attenuation=- --band=- --dither=- --edge=- --force --form=df1|df2t|lattice --gains=- --input=- --limit --live --norm=l1|l2|peak|none --order=up|down|given --out=* --rate=- --ripple=- --rounding=nearest|down|zero --seconds=- --serial --shape=- --signal=- --single --stereo --taps=- --turn=- --weights=- --width=-
 ranges --all --element=- --force --json --library=/ --picture=* --seconds=- --worst --worst-input=* --wraps=-
 values --json --library=/
 noise --against=* --force --impulse=- --library=/ --picture=* --zero-input=-
@@ -87,10 +89,11 @@ batch --force --jobs=- --sshlogin=-
 assemble --force --listing=*.mic --version=1|2
 rom --c --force --intel --map --name=- --out=* --readmemh
 vcd --force
-verilog --datapath=*.toml --force --full --name=- --stages=-
+verilog --datapath=*.toml --force --full --large --name=- --stages=-
 cosimulate --datapath=*.toml --force --full --stages=- --vcd=* --wait=- --with=icarus|verilator
-synthesize --datapath=*.toml --dsp --for=ice40|xilinx|ecp5 --full --json --part=up5k|hx8k --rate=- --route
-board --bits=- --build --datapath=*.toml --force --name=- --output=- --rate=- --samples=* --slave
+cost --json --library=/
+synthesize --datapath=*.toml --dsp --for=ice40|xilinx|ecp5 --full --json --large --no-restart --part=up5k|hx8k --rate=- --route
+board --baud=- --bits=- --build --control=- --datapath=*.toml --force --large --name=- --output=- --rate=- --samples=* --slave
 fuzz --all-or-none --case=- --jobs=-'
 # end
 

@@ -12,7 +12,7 @@ from typing import Any
 HERE = Path(__file__).resolve().parent
 TOP = HERE.parent
 PACKAGE = HERE / "silc"
-PARTS = [TOP / "hardware" / name for name in ("silc_parts.v", "silc_i2s.v")]
+PARTS = [TOP / "hardware" / name for name in ("silc_parts.v", "silc_i2s.v", "silc_uart.v")]
 # What the package takes beside its modules.
 ENDINGS = {".py", ".txt", ".typed"}
 EXECUTABLE, PLAIN = 0o755, 0o644

@@ -188,6 +188,35 @@ def cascade_rows(source: str, values: Values, numbers: Sequence[int]) -> Values:
     return values
 
 
+def live_rows(source: str, channels: Sequence[Values], controls: Sequence[tuple[int, int]]) -> list[Values]:
+    """All sections of a source whose coefficients a host changes by an index and a value in each sample, over the
+    values of some channels: those of each at the end."""
+    of, signal = declared(source, "main", "value"), declared(source, "biquad", "y")
+    words = {name: Type(f"fix<{of.width},{of.places},round>").through(Fraction(number))
+             for name, number in re.findall(r"([ab]\d+\[\d\])@@1 = (-?[\d.]+);", source)}
+    count = len({name[1:].partition("[")[0] for name in words})
+    bands = [[words.get(name, Fraction(0)) for name in
+              (*(f"b{n}[{k}]" for k in range(3)), *(f"a{n}[{k}]" for k in range(2)))] for n in range(1, count + 1)]
+    coming, past = [Fraction(0)] * 5, [[[Fraction(0)] * 4 for _ in bands] for _ in channels]
+    made: list[Values] = [[] for _ in channels]
+    for n, (index, word) in enumerate(controls):
+        if 0 <= index < 5:
+            coming[index] = of.value(word)
+        elif 5 <= index < 5 + count:
+            bands[index - 5] = [*coming]
+        for own, values, out in zip(past, channels, made):
+            x = values[n]
+            for (b0, b1, b2, a1, a2), old in zip(bands, own):
+                total = Fraction(0)
+                terms = ((1, b0, x), (1, b1, old[0]), (1, b2, old[1]), (-1, a1, old[2]), (-1, a2, old[3]))
+                for sign, k, word_of in terms:
+                    total = signal.through(total + sign * signal.through(k * word_of))
+                old[:] = [x, old[0], total, old[2]]
+                x = total
+            out.append(x)
+    return made
+
+
 def bands_rows(source: str, values: Values) -> Values:
     """All sections of a source."""
     return cascade_rows(source, values, range(1, len([name for name in tables_of(source) if name.startswith("a")]) + 1))

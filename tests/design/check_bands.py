@@ -210,6 +210,24 @@ def tail_faults() -> Iterator[str]:
     yield from worst_faults(source, is_linear=False)
 
 
+def live_faults(bands: str, tail: str, width: int) -> Iterator[str]:
+    """A chain whose coefficients a host changes: sets that are written and taken, words that no band takes, and random
+    indices and values."""
+    source = made(f"bands {bands} --live {tail} --rate 48000 --shape 20,18 --input 16,15 --signal 24,19")
+    dice, count = random.Random(7), bands.count("--band")
+    written = [(index, dice.randint(-1 << 17, (1 << 17) - 1)) for index in (0, 1, 2, 3, 4, 5, 3, -1, 4, 4 + count, 0)]
+    own = samples(width)
+    controls = [*written, *((dice.choice((dice.randint(0, 5 + count), dice.randint(-128, 127))),
+                             dice.randint(-1 << 17, (1 << 17) - 1)) for _ in range(len(own) - len(written)))]
+    columns = [[INPUT.value(word) for word in column] for column in zip(*own)]
+    made_of = models.live_rows(source, columns, controls)
+    of = Type("fix<16,15,round,sat>")
+    if "--limit" in tail:
+        made_of, of = [models.limited(source, values) for values in made_of], models.declared(source, "soft_limit", "y")
+    rows = list(zip(*(words_of(values, of) for values in made_of)))
+    yield from row_faults(source, [(*row, *control) for row, control in zip(own, controls)], rows)
+
+
 def cic_faults(words: int, stages: int, edge: float) -> Iterator[str]:
     source = made(f"cic {words} {stages} --taps 15 --edge {edge} {RATES}")
     handed, of = models.declared(source, "cic", "y"), models.declared(source, "main", "y")
@@ -262,7 +280,10 @@ CASES |= {f"cic {words} {stages}": lambda words=words, stages=stages, edge=edge:
           for words, stages, edge in ((4, 3, 4000), (5, 2, 3000), (2, 1, 8000))}
 CASES |= {f"halfband {way} {factor}": lambda way=way, factor=factor, edge=edge: half_band_faults(way, factor, edge)
           for way, factor, edge in (("down", 2, 9000), ("down", 4, 4000), ("up", 2, 18000), ("up", 4, 18000))}
-CASES |= {"stereo": stereo_faults, "limiter and dither": tail_faults}
+CASES |= {"stereo": stereo_faults, "limiter and dither": tail_faults,
+          "live": lambda: live_faults("--band peak,1000,3,0.7", "", 1),
+          "live, two channels": lambda: live_faults("--band lowshelf,100,-2 --band dcblock,20", "--stereo", 2),
+          "live, with a limiter": lambda: live_faults("--band notch,400,4 --band peak,90,6,2", "--limit --stereo", 2)}
 
 
 def main(names: Sequence[str]) -> int:

@@ -24,12 +24,21 @@ EQUALISER = ("equaliser", "one_multiplier")
 SWAP = "func main(a : fix<16,15>, b : fix<16,15>) (c : fix<16,15>, d : fix<16,15>) = begin c = b; d = a >> 1; end;"
 MANY = "func main(x[4] : fix<16,15>) y : fix<16,15> = begin y = x[0] + x[3]; end;"
 TRUTH = "func main(x : bool) y : bool = begin y = !x; end;"
+# Two channels with a volume and a switch that a host sets, and one channel with a volume.
+KNOBS = """func main(a : fix<16,15>, b : fix<16,15>, loud : fix<10,8>, turned : bool) (c : fix<16,15>, d : fix<16,15>) =
+begin c = fix<16,15,sat>(loud * if turned -> b || a fi); d = fix<16,15,sat>(loud * if turned -> a || b fi); end;"""
+VOLUME = "func main(a : fix<16,15>, loud : fix<10,8>) c : fix<16,15> = begin c = fix<16,15,sat>(loud * a); end;"
 # Of each play the board, the core, its options, and what it says behind the rows.
 PLAYS = (
     ("icebreaker", "equaliser", "--bits 32", "the core has 232 clocks to spare in each frame"),
     ("icebreaker", "swap", "", "clocks to spare in each frame"),
     ("hx8k", "swap", "--slave --rate 48000 --bits 24", "clocks to spare in each frame"),
     ("hx8k", "equaliser", "--slave --rate 44100 --bits 16", "clocks to spare in each frame"),
+)
+# The same with control words, by the rows at which they change, and so many changes.
+CONTROLS = (
+    ("icebreaker", "knobs", "--control 2 --baud 1000000", {0: (256, 0), 5: (-100, 1), 6: (511, 1), 12: (1, 0)}),
+    ("hx8k", "volume", "--control 1 --baud 500000 --slave --rate 48000 --bits 24", {2: (300,), 11: (-512,)}),
 )
 REFUSED = (
     ("hx8k equaliser --rate 48000",
@@ -41,7 +50,16 @@ REFUSED = (
      "1,000,000 samples a second leave 12.0 clocks of 12 MHz for each, and the core takes 24"),
     ("icebreaker many",
      "a row of the core has 4 words in and 1 out; a board takes two of each, left and right, "
+     "or one of each, for a core for each channel; --control N makes the last N words in control words"),
+    ("icebreaker many --control 2",
+     "a row of the core has 2 words in beside 2 control words and 1 out; a board takes two of each, left and right, "
      "or one of each, for a core for each channel"),
+    ("hx8k many --control 3 --baud 2000000",
+     "--baud 2000000: an hx8k reads up to 1,500,000 bits a second, of a whole number of clocks up to 2%"),
+    ("hx8k equaliser --large", "--large: an hx8k has no large memories"),
+    # Without a datapath a unit has its number; its memory has 32 cells of 32 bits.
+    ("icebreaker equaliser --large", "no memory can be a large one: 5 has 1,024 bits, and less than 16,384 are better "
+     "in block memories"),
     ("icebreaker truth", "an input of the core is a truth value, and no word of audio"),
     ("icebreaker equaliser --output 20", "--output 20: an output of the core has 32 bits"),
     ("icebreaker equaliser --name board", "the core would be called board, as the top is; --name gives another"),
@@ -57,9 +75,10 @@ def compile_all(room: Path) -> None:
     """The microcode of the equaliser, and of the small ones over that of another example."""
     example = ROOT / "examples" / EQUALISER[0]
     named = {EQUALISER[0]: (example / f"{EQUALISER[0]}.sil", example / f"{EQUALISER[1]}.toml")}
-    for name, text in (("swap", SWAP), ("many", MANY), ("truth", TRUTH)):
+    for name, text in (("swap", SWAP), ("many", MANY), ("truth", TRUTH), ("knobs", KNOBS), ("volume", VOLUME)):
         (room / f"{name}.sil").write_text(text)
-        named[name] = room / f"{name}.sil", ROOT / "examples" / "goertzel" / "one_multiplier.toml"
+        example = "parametric" if name in ("knobs", "volume") else "goertzel"
+        named[name] = room / f"{name}.sil", ROOT / "examples" / example / "one_multiplier.toml"
     for name, (source, datapath) in named.items():
         done = ran(SILC, "compile", source, datapath, f"{name}.mic", room=room)
         if done.returncode:
@@ -81,6 +100,21 @@ def play_faults(room: Path) -> Iterator[str]:
             yield f"{name} {core} {options}: {done.stdout}{done.stderr}"
 
 
+def control_faults(room: Path) -> Iterator[str]:
+    """Plays in which control words change."""
+    dice = random.Random(5)
+    for number, (name, core, options, steps) in enumerate(CONTROLS):
+        words, lines = (0,) * len(next(iter(steps.values()))), []
+        for row in range(ROWS):
+            words = steps.get(row, words)
+            lines.append((dice.randint(-32768, 32767), dice.randint(-32768, 32767), *words))
+        (room / "turned").write_text("".join(f"{','.join(map(str, line))}\n" for line in lines))
+        done = board(name, core, f"{options} --samples turned", room, f"control{number}")
+        said = f"rows came back as silc sim puts them, while control words changed in {len(steps)} of them"
+        if done.returncode or said not in done.stdout:
+            yield f"{name} {core} {options}: {done.stdout}{done.stderr}"
+
+
 def refusal_faults(room: Path) -> Iterator[str]:
     for words, said in REFUSED:
         name, core, *options = words.split()
@@ -98,6 +132,8 @@ def route_faults(room: Path) -> Iterator[str]:
     """A rate that a small core serves, one that it does not, and a part that has no multipliers."""
     for options, status, said in (("--part hx8k --route --rate 48000", 0, "48,000 samples a second take"),
                                   ("--part hx8k --route --rate 100000000", 3, "the longest path goes through"),
+                                  ("--part up5k", 0, "up5k: it fits, with "),
+                                  ("--large --part hx8k", 1, "synthesize: --large: an hx8k has no large memories"),
                                   ("--part hx8k --dsp", 1, "synthesize: --dsp: an hx8k has no multipliers")):
         done = ran(ROOT / "tools" / "synthesize", "swap.mic", *options.split(), room=room)
         if done.returncode != status or said not in done.stdout + done.stderr:
@@ -111,12 +147,12 @@ def main() -> int:
     with tempfile.TemporaryDirectory(prefix="silc-boards-") as folder:
         room = Path(folder)
         compile_all(room)
-        faults = [*play_faults(room), *refusal_faults(room)]
+        faults = [*play_faults(room), *control_faults(room), *refusal_faults(room)]
         if all(map(shutil.which, ("yosys", "nextpnr-ice40"))):
             faults += route_faults(room)
     for fault in faults:
         print(fault)
-    print(f"boards: {len(PLAYS)} plays and {len(REFUSED) + 1} refusals, {len(faults)} faults")
+    print(f"boards: {len(PLAYS) + len(CONTROLS)} plays and {len(REFUSED) + 1} refusals, {len(faults)} faults")
     return 1 if faults else 0
 
 

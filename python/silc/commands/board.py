@@ -1,7 +1,7 @@
 """Makes a top for a board round the core of a microcode file: serial audio in and out, a reset, a clock, and the pins.
 
 usage: tools/board NAME MIC FOLDER [--datapath DP] [--name CORE] [--bits N] [--slave] [--rate HZ] [--output W]
-                   [--samples S] [--build] [--force]
+                   [--control N [--baud B]] [--large] [--samples S] [--build] [--force]
 
 NAME is icebreaker (an iCE40 up5k, with a Pmod I2S2) or hx8k (Lattice's breakout board of that part); the file of pins
 that is made says where they are from. FOLDER gets the core as tools/verilog makes it, silc_i2s.v, board.v with the
@@ -14,36 +14,39 @@ the clocks, or with --slave takes SCLK and LRCK. --rate HZ is how many samples c
 the board's clock gives, 256 clocks each; where the core is too slow for it, or the clock for the lines, it is refused.
 --output W says how many bits an output word has, where its port has fewer.
 
+With --control N the last N words of a row in are control words, which a host writes by the serial line of the board's
+USB port, at B bits a second (115,200): silc_uart.v says by which bytes. All are 0 first, and those that are written
+together come in one row.
+
+--large puts long delays into the large memories of an up5k, as tools/verilog has it.
+
 With --samples S, rows of a left and a right word of the core, the bench plays them through the top under Icarus, and
 the rows that come back are compared with those of `silc sim`; it says how many clocks the core has to spare in each
-frame. With --build, Yosys, nextpnr and icepack make board.bin in FOLDER; where its clock is too slow for the board's,
-nothing is made at all. Each file is there whole or not at all. Where one of these names is a file that no tool made,
-none is written but with --force.
+frame. Behind the two words of a row stand its control words; where they change, the bench sends those that did once
+that row was taken, and `silc sim` runs the rows as the core took them. With --build, Yosys, nextpnr and icepack make
+board.bin in FOLDER; where its clock is too slow for the board's, nothing is made at all. Each file is there whole or
+not at all. Where one of these names is a file that no tool made, none is written but with --force.
 """
 import argparse
-import re
-import subprocess
 import tempfile
 from pathlib import Path
 
 from silc.commands import ended
 from silc.commands.verilog import checked_in, name_for, names_in
-from silc.hardware.board_text import (CODEC, FRAME_CLOCKS, LEAST_BITS, MOST_BITS, SERIAL, TOP, Audio, NoBoard,
-                                      check_core, check_rate, codec_text, master_rate, out_width, serial_file,
-                                      top_text)
+from silc.hardware.board_play import Playing, play, sources
+from silc.hardware.board_text import (BAUD, CODEC, FRAME_CLOCKS, LEAST_BITS, MOST_BITS, SERIAL, TOP, UART, Audio,
+                                      NoBoard, check_core, check_rate, check_serial, codec_text, master_rate,
+                                      module_text, top_text)
 from silc.hardware.boards import BOARDS, MASTER, SLAVE, Board, constraints
 from silc.hardware.core_files import PARTS, files_of
+from silc.hardware.large import make_large
 from silc.hardware.netlist import Core, NoCore, core_for_image
 from silc.hardware.routing import need, routed, run
 from silc.made_files import MadeFiles, NotMade, add_force
-from silc.programs import SILC, NoProgram
+from silc.programs import NoProgram
 
 BUILD, PLAY = ("yosys", "nextpnr-ice40", "icepack"), ("iverilog", "vvp")
 BITSTREAM = f"{TOP}.bin"
-# A row comes back in the frame behind the one in which it was sent, or, where that has begun, in the next; and a frame
-# may be read before the first sample.
-BEHIND = (1, 2, 3)
-Row = tuple[int, ...]
 
 
 # The top
@@ -55,101 +58,32 @@ def core_of(options: argparse.Namespace, board: Board, audio: Audio) -> tuple[Co
     if name in (TOP, CODEC):
         raise NoBoard(f"the core would be called {name}, as the top is; --name gives another")
     image, core = core_for_image(image, name, names_in(options.datapath, image))
-    check_core(core)
+    if options.large and not board.fpga.large_memories:
+        raise NoBoard(f"--large: an {board.fpga.name} has no large memories")
+    if options.large:
+        make_large(image, core)
+    check_core(core, audio.controls)
     check_rate(board, audio, core.period)
+    check_serial(board, audio)
     texts = files_of(image, core)
-    texts |= {SERIAL: serial_file().read_text(), f"{TOP}.v": top_text(board, core, audio),
-              f"{TOP}.pcf": constraints(board), f"{CODEC}.v": codec_text(board, audio)}
+    texts |= {module: module_text(module) for module in [SERIAL, *[UART] * bool(audio.controls)]}
+    texts |= {f"{TOP}.v": top_text(board, core, audio), f"{TOP}.pcf": constraints(board, bool(audio.controls)),
+              f"{CODEC}.v": codec_text(board, audio)}
     return core, texts
-
-
-def sources(core: Core) -> list[str]:
-    return [PARTS.name, SERIAL, f"{core.name}.v", f"{TOP}.v"]
-
-
-# The bench
-
-
-def line_word(word: int, width: int, bits: int) -> int:
-    """A word of the core, of so many bits, as a word of the lines."""
-    return word << (bits - width) if width <= bits else word >> (width - bits)
-
-
-def rows_in(file: str) -> list[Row]:
-    """Rows of two words."""
-    lines = Path(file).read_text().splitlines()
-    rows = [tuple(int(word) for word in line.split(",") if re.fullmatch(r"-?\d+", word)) for line in lines]
-    wrong = next((number for number, row in enumerate(rows, 1) if len(row) != 2), None)
-    if wrong:
-        raise NoBoard(f"{file}:{wrong}: a row of a board has two words, a left and a right one")
-    return rows
-
-
-def simulated(microcode: str, rows: list[Row]) -> list[Row]:
-    """The rows of `silc sim`."""
-    with tempfile.TemporaryDirectory(prefix="silc-board-") as name:
-        samples, out = Path(name, "samples"), Path(name, "rows")
-        samples.write_text("".join(",".join(map(str, row)) + "\n" for row in rows))
-        done = subprocess.run([SILC.found(), "sim", microcode, samples, out], capture_output=True, text=True)
-        if done.returncode:
-            raise NoBoard(done.stderr.strip())
-        return [tuple(map(int, line.split(","))) for line in out.read_text().splitlines()]
-
-
-def expected_rows(options: argparse.Namespace, core: Core, rows: list[Row]) -> list[Row]:
-    """What the core makes of the words that the lines can carry, for both channels."""
-    bits = options.bits
-    width = [words.bits() for words in core.inputs] * 2
-    carried = [tuple((word >> max(0, own - bits)) << max(0, own - bits) for word, own in zip(row, width))
-               for row in rows]
-    if len(core.inputs) == 2:
-        return simulated(options.microcode, carried)
-    channels = [simulated(options.microcode, [(word,) for word in column]) for column in zip(*carried)]
-    return [(left, right) for (left,), (right,) in zip(*channels)]
-
-
-def played(folder: Path, core: Core, rows: list[Row]) -> tuple[list[Row], int, bool]:
-    """The rows that come back over the lines, how many clocks the core has to spare, and whether one was lost."""
-    (folder / "samples.txt").write_text("".join(f"{left},{right}\n" for left, right in rows))
-    run(["iverilog", "-g2005", "-o", "bench", *sources(core), f"{CODEC}.v"], folder, "Icarus")
-    lines = run(["vvp", "-n", "bench"], folder, "the bench").splitlines()
-    spare = next((int(line.removeprefix("spare ")) for line in lines if line.startswith("spare ")), None)
-    if spare is None:
-        raise NoBoard("the bench does not come to its end")
-    made = [tuple(map(int, line.removeprefix("row ").split(","))) for line in lines if line.startswith("row ")]
-    return made, spare, "lost" in lines
-
-
-def play(options: argparse.Namespace, core: Core, audio: Audio, texts: dict[str, str]) -> str:
-    """Plays rows through the top, and says how that went."""
-    rows, bits, width = rows_in(options.samples), options.bits, out_width(core, audio)
-    outs = [tuple(line_word(word, width, bits) for word in row) for row in expected_rows(options, core, rows)]
-    ins = [tuple(line_word(word, own.bits(), bits) for word, own in zip(row, [*core.inputs] * 2)) for row in rows]
-    with tempfile.TemporaryDirectory(prefix="silc-board-") as name:
-        for file, text in texts.items():
-            (Path(name) / file).write_text(text)
-        made, spare, is_lost = played(Path(name), core, ins)
-    if is_lost:
-        raise NoBoard("a row was lost, or an address was outside of its memory")
-    if not any(made[behind: behind + len(outs)] == outs for behind in BEHIND):
-        behind = next((k for k, row in enumerate(made) if any(row)), 0)
-        wrong = next((k for k, (own, other) in enumerate(zip(made[behind:], outs)) if own != other), 0)
-        raise NoBoard(f"row {wrong} comes back as {made[behind:][wrong:wrong + 1]}, and silc sim has "
-                      f"{outs[wrong:wrong + 1]}")
-    return f"{len(outs)} rows came back as silc sim puts them, and the core has {spare} clocks to spare in each frame"
 
 
 # The bitstream
 
 
-def built(board: Board, core: Core, texts: dict[str, str]) -> tuple[bytes, str]:
+def built(board: Board, core: Core, audio: Audio, texts: dict[str, str]) -> tuple[bytes, str]:
     """The bitstream, and what nextpnr says of cells and clock."""
     with tempfile.TemporaryDirectory(prefix="silc-board-") as name:
         folder = Path(name)
         for file, text in texts.items():
             (folder / file).write_text(text)
         dsp = " -dsp" if board.fpga.has_multipliers() else ""
-        run(["yosys", "-q", "-p", f"read_verilog -defer {PARTS.name} {SERIAL}; read_verilog {core.name}.v {TOP}.v; "
+        modules = " ".join(name for name in sources(core, audio) if name in (PARTS.name, SERIAL, UART))
+        run(["yosys", "-q", "-p", f"read_verilog -defer {modules}; read_verilog {core.name}.v {TOP}.v; "
              f"synth_ice40{dsp} -top {TOP} -json {TOP}.json"], folder, "Yosys")
         has_multipliers = "SB_MAC16" in (folder / f"{TOP}.json").read_text()
         made = routed(TOP, folder, board.fpga, board.hertz / 1e6, has_multipliers, f"{TOP}.pcf")
@@ -164,14 +98,15 @@ def built(board: Board, core: Core, texts: dict[str, str]) -> tuple[bytes, str]:
 
 def make(options: argparse.Namespace) -> None:
     board = BOARDS[options.board]
-    audio = Audio(options.bits, SLAVE if options.slave else MASTER, options.rate or master_rate(board), options.output)
+    audio = Audio(options.bits, SLAVE if options.slave else MASTER, options.rate or master_rate(board), options.output,
+                  options.control, options.baud)
     need(*(BUILD if options.build else ()), *(PLAY if options.samples else ()))
     files = MadeFiles(inputs=[options.microcode, options.datapath, options.samples], is_forced=options.force)
     core, texts = core_of(options, board, audio)
-    said = [play(options, core, audio, texts)] if options.samples else []
+    said = [play(Playing(core, audio, options.microcode), options.samples, texts)] if options.samples else []
     made: dict[str, str | bytes] = dict(texts)
     if options.build:
-        made[BITSTREAM], build_said = built(board, core, texts)
+        made[BITSTREAM], build_said = built(board, core, audio, texts)
         said.append(build_said)
     files.write_folder(options.folder, made)
     clocks = FRAME_CLOCKS if audio.is_master() else int(board.hertz / audio.rate)
@@ -199,10 +134,19 @@ def options_of(words: list[str]) -> argparse.Namespace:
     parser.add_argument("--slave", action="store_true")
     parser.add_argument("--rate", metavar="HZ", type=rate_word)
     parser.add_argument("--output", metavar="W", type=int)
+    parser.add_argument("--control", metavar="N", type=count_word, default=0)
+    parser.add_argument("--baud", metavar="B", type=count_word, default=BAUD)
     parser.add_argument("--samples", metavar="S")
+    parser.add_argument("--large", action="store_true")
     parser.add_argument("--build", action="store_true")
     add_force(parser)
     return parser.parse_args(words)
+
+
+def count_word(word: str) -> int:
+    if not word.isdecimal() or not 0 < int(word) < 1e9:
+        raise argparse.ArgumentTypeError(f"{word} is no number above 0")
+    return int(word)
 
 
 def rate_word(word: str) -> float:

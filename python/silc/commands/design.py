@@ -5,7 +5,8 @@ usage: tools/design sos FILE ..                         second-order sections, a
        tools/design iir KIND ORDER BAND HZ [HZ] ..      KIND butter, cheby1, cheby2, ellip or bessel
        tools/design fir kaiser BAND HZ [HZ] ..          a window of Kaiser: --attenuation, and --width or --taps
        tools/design fir remez HZ HZ HZ HZ .. ..         edges of bands: --taps, --gains, --weights
-       tools/design bands [--band BAND ..] [--limit] [--dither W,F] [--stereo] ..    one behind the other
+       tools/design bands [--band BAND ..] [--live] [--limit] [--dither W,F] [--stereo] ..    one behind the other
+       tools/design bands --band BAND .. --turn N [--serial] ..    what a host writes to change section N of a live one
        tools/design crossover HZ 2|4|8 [--stereo] ..    of Linkwitz and Riley, of that order
        tools/design cic WORDS STAGES --taps N --edge HZ ..          down to one of so many words
        tools/design halfband down|up 2|4 --edge HZ --attenuation DB ..
@@ -21,6 +22,11 @@ The last four need no SciPy. A band of a chain is one of
 by the formulas of the audio cookbook where it has them. Bands stay in their order, each with its own sections (--order
 up pairs poles and zeros anew). Behind them --limit is a soft limiter, whose output is below 1, and --dither W,F brings
 the words to fix<W,F> with noise. With --stereo two channels go through the same functions.
+
+With --live a host changes the coefficients while the filter runs, by two control words, an index and a value: those of
+--band are what they are at the start, and --signal W,F gives the places too. Its words saturate, and nothing is
+certified of them. --turn N prints, a row each, the control words by which a host makes section N of such a chain what
+--band says, and the next ones what further bands say; with --serial as bytes for the serial line of tools/board.
 
 Sections are paired (the poles nearest to the unit circle with the zeros nearest to them), put in order, and scaled one
 after another by a norm of the response from the input to each signal, so that the signal's range is just not passed: by
@@ -38,16 +44,18 @@ import sys
 from pathlib import Path
 
 from silc.commands import ended
-from silc.designing import ordered, scipy_designs
+from silc.designing import bands, ordered, scipy_designs
 from silc.designing.coefficients import sections_in, taps_in
 from silc.designing.filters import Section
 from silc.designing.finished import Order, Wanted, sections_source, taps_source
 from silc.designing.forms import Form
+from silc.designing.live import INDEX, turns_of
 from silc.designing.programs import fall_silent
 from silc.designing.scaling import Norm, Rounding
 from silc.designing.scipy_designs import Lacking
 from silc.designing.shapes import Shape, shape_of
 from silc.designing.writing import counted
+from silc.hardware.control import bytes_of
 from silc.made_files import FORCE, MadeFiles, add_force
 
 KINDS = ("butter", "cheby1", "cheby2", "ellip", "bessel")
@@ -105,6 +113,9 @@ def options_of(words: list[str]) -> argparse.Namespace:
     parser.add_argument("--dither", type=shape_word, metavar="W,F",
                         help="to words of this shape, with noise, at the end")
     parser.add_argument("--stereo", action="store_true", help="two channels")
+    parser.add_argument("--live", action="store_true", help="coefficients that a host changes")
+    parser.add_argument("--turn", type=int, metavar="N", help="the control words that change section N of a live chain")
+    parser.add_argument("--serial", action="store_true", help="as bytes for a board's serial line")
     parser.add_argument("--edge", type=float, metavar="HZ", help="where the pass band ends (cic, halfband)")
     parser.add_argument("--seconds", type=seconds_word, default=60.0, metavar="S",
                         help="within which bounds are to be found")
@@ -244,6 +255,30 @@ def source_of(options: argparse.Namespace) -> tuple[str, bool]:
     return sections_source(wanted, iir(options) if options.design == "iir" else sections_in(one_file(options)))
 
 
+def turn_of(options: argparse.Namespace) -> str | bytes:
+    """The control words that change a live chain, as rows or as bytes."""
+    if options.live or options.limit or options.dither or options.stereo or options.turn < 1:
+        raise Undesigned("--turn N, from 1 on, is for bands alone, without --live, --limit, --dither and --stereo")
+    _, sections = bands.bands_of(options.band or [], rate_of(options))
+    rows = turns_of(sections, options.turn, options.shape)
+    if not options.serial:
+        return "".join(f"{index},{value}\n" for index, value in rows)
+    bits = {0: INDEX.width, 1: options.shape.width}
+    return b"".join(bytes_of({0: index, 1: value}, bits) for index, value in rows)
+
+
+def put(options: argparse.Namespace, files: MadeFiles, made: str | bytes) -> None:
+    """Prints what was made, or writes it."""
+    if options.out:
+        files.write(options.out, made)
+    elif isinstance(made, bytes):
+        sys.stdout.buffer.write(made)
+        sys.stdout.buffer.flush()
+    else:
+        sys.stdout.write(made)
+        sys.stdout.flush()
+
+
 def files_of(options: argparse.Namespace) -> list[str]:
     """The files of coefficients, which are read."""
     are_files = options.design in ("sos", "fir") and options.words[:1] not in (["kaiser"], ["remez"])
@@ -253,12 +288,14 @@ def files_of(options: argparse.Namespace) -> list[str]:
 def make(options: argparse.Namespace) -> int:
     files = MadeFiles(files_of(options), options.force)
     files.look_at(options.out)
+    if options.serial and options.turn is None:
+        raise Undesigned("--serial goes with --turn N")
+    if options.turn is not None:
+        ordered.check_options(options.design, options.given)
+        put(options, files, turn_of(options))
+        return 0
     source, is_certified = source_of(options)
-    if options.out:
-        files.write(options.out, source)
-    else:
-        sys.stdout.write(source)
-        sys.stdout.flush()
+    put(options, files, source)
     if is_certified:
         return 0
     print(f"design: no bound was found within {options.seconds:g} s; --seconds gives more time", file=sys.stderr)

@@ -1,7 +1,9 @@
 """Draws pictures of hardware, of plans and of filters as SVG, on standard output.
 
 usage: tools/draw [--out SVG [--force]] SUBJECT ..
-       tools/draw datapath FILE               the units, register files and buses of a datapath file
+       tools/draw datapath [--library FOLDER] FILE [SRC]
+                                              the units, register files and buses of a datapath file; with a source,
+                                              how many bits each file has in its core, and for which operand
        tools/draw schedule [--library FOLDER] TEXT [DATAPATH [SRC]]
                                               units and buses over the cycles, of a text of `silc schedule`; with
                                               the source, the element of each node, and a table of their lines. The
@@ -47,6 +49,8 @@ from typing import Any, TypeAlias
 
 from silc.explaining.hardware import Node as NodeOfSource, nodes_of
 from silc.exploring.trades import trades_of
+from silc.hardware.costs import planned, widths_of
+from silc.hardware.netlist import NoCore
 from silc.linking.places import Unlinked
 from silc.linking.words import given, source_in
 from silc.made_files import MadeFiles
@@ -61,7 +65,7 @@ from silc.pictures.response import draw_response, rate_of
 from silc.pictures.schedule import draw_schedule, draw_unfolded
 from silc.pictures.tradeoff import draw_tradeoff
 from silc.pictures.words import columns_of, draw_words
-from silc.programs import SHOW, TOP
+from silc.programs import SHOW, TOP, NoProgram
 
 # A word of a command line, or a file in its place.
 Argument: TypeAlias = str | Path
@@ -178,6 +182,15 @@ def drawn_schedule(text: Argument, file: Argument | None = None, source: Argumen
     return draw_schedule(plan, datapath, origins)
 
 
+def drawn_datapath(file: Argument, source: Argument | None = None, library: Sequence[str] = ()) -> str:
+    """A datapath file, with or without the source that is planned for it."""
+    try:
+        widths = widths_of(planned(str(source), str(file), library)) if source else None
+    except (NoCore, NoProgram) as why:
+        raise ValueError(str(why)) from why
+    return draw_datapath(datapath_of(file), widths)
+
+
 def ends_of(words: str | None) -> tuple[float, float] | None:
     return range_of(words, "range") if words else None
 
@@ -207,7 +220,7 @@ LIBRARY = "library"
 MOST_WORDS = 100
 # What draws, with the least and the most words that it takes, and its options.
 SUBJECTS: dict[str, tuple[Callable[..., str], int, int, tuple[str, ...]]] = {
-    "datapath": (lambda file: draw_datapath(datapath_of(file)), 1, 1, ()),
+    "datapath": (drawn_datapath, 1, 2, (LIBRARY,)),
     "schedule": (drawn_schedule, 1, 3, (LIBRARY,)),
     "unfolded": (drawn_plan(draw_unfolded), 1, 2, ()),
     "lifetimes": (drawn_plan(draw_lifetimes), 1, 2, ()),

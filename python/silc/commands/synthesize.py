@@ -1,9 +1,9 @@
 """Says what hardware the core of a microcode file takes: cells, flip-flops, block memories, multipliers and clock. Of a
 net file it says what all its cores and queues take together.
 
-usage: tools/synthesize MIC [--datapath DP] [--for ice40|xilinx|ecp5] [--dsp] [--full] [--route] [--part up5k|hx8k]
-                        [--rate HZ] [--json]
-       tools/synthesize NET [--for ice40|xilinx|ecp5] [--dsp] [--route] [--part up5k|hx8k] [--json]
+usage: tools/synthesize MIC [--datapath DP] [--for ice40|xilinx|ecp5] [--dsp] [--full | --large] [--no-restart]
+                        [--route] [--part up5k|hx8k] [--rate HZ] [--json]
+       tools/synthesize NET [--for ice40|xilinx|ecp5] [--dsp] [--no-restart] [--route] [--part up5k|hx8k] [--json]
 
 NET is a file that ends in .toml (docs/NETS.md). Yosys synthesizes the core, or the net of cores, that tools/verilog
 makes. --dsp uses the multipliers that an ice40 up5k has; the others have some always. --route places and routes for an
@@ -11,6 +11,11 @@ ice40 by nextpnr, and says at which clock the core runs: for the part that --par
 for an up5k. A part is routed with its multipliers, where it has some. What the core takes is printed before it is
 routed; where a number is above what the part has, that is said, and nothing is routed. Where the package has fewer pins
 than the core, the words of its rows come and go through shift registers, which is said too.
+
+Before that it says which memories the core has, of more than four words, and how many bits each. First words that are
+not all 0, those of `@@` in a source, stand in a second memory too, from which a reset brings them back: --no-restart
+spares it, as RESTART of 0 does (docs/HARDWARE.md, "Reset"). --large puts long delays into the large memories of an
+up5k. With --part it says what of all that the part has the core takes.
 
 With --rate HZ, samples a second, it says which clock that takes: a sample takes as many clocks as the period of the
 microcode has cycles. Where the core's is less, the exit status is 3, and a line says through what its longest path
@@ -32,7 +37,8 @@ from pathlib import Path
 from silc.commands import ended
 from silc.hardware import pins
 from silc.hardware.datapath import names_of, numbered
-from silc.hardware.fpga import MULTIPLIERS, PARTS, Fpga
+from silc.hardware.fpga import LARGE, MULTIPLIERS, PARTS, Fpga
+from silc.hardware.memories import memories_in, told
 from silc.hardware.netlist import NoCore
 from silc.hardware.paths import Unit, path_of, remedies
 from silc.hardware.routing import Unrouted, need, routed, run
@@ -41,11 +47,12 @@ from silc.nets import is_net
 from silc.programs import command, with_package
 
 NAME, SHARED, MEGA, SHORT = "core", "silc_parts.v", 1e6, 3
+RESTART = "parameter RESTART"
 # For each family the command of Yosys, and which cells count for what. What no pattern has is no cell of the logic.
 FAMILIES = {
     "ice40": ("synth_ice40",
-              {"logic cells": r"SB_LUT4", "flip-flops": r"SB_DFF\w*", "block memories": r"SB_(RAM40|SPRAM256)\w*",
-               "multipliers": r"SB_MAC16"}),
+              {"logic cells": r"SB_LUT4", "flip-flops": r"SB_DFF\w*", "block memories": r"SB_RAM40\w*",
+               "multipliers": r"SB_MAC16", LARGE: r"SB_SPRAM256\w*"}),
     "xilinx": ("synth_xilinx", {"logic cells": r"LUT\d|CARRY4|MUXF\d", "flip-flops": r"FD[RSCP]E(_1)?",
                                 "memories in cells": r"RAM\d+[MX]\w*", "block memories": r"RAMB\d+\w*",
                                 "multipliers": r"DSP48\w*"}),
@@ -61,29 +68,34 @@ class Unmade(Exception):
 
 def check_programs(options: argparse.Namespace) -> None:
     need("yosys")
-    for flag in ("route", "dsp", "part"):
+    for flag in ("route", "dsp", "part", "large"):
         if getattr(options, flag) and options.family != "ice40":
             raise Unmade(f"--{flag} is for ice40")
     if options.route:
         need("nextpnr-ice40")
     if options.dsp and options.part and not PARTS[options.part].has_multipliers():
         raise Unmade(f"--dsp: an {options.part} has no multipliers")
+    if options.large and options.part and not PARTS[options.part].large_memories:
+        raise Unmade(f"--large: an {options.part} has no large memories")
     if options.rate is not None and not options.route:
         raise Unmade("--rate HZ goes with --route")
 
 
 def part_of(options: argparse.Namespace) -> Fpga:
     """The part for which a core is routed."""
-    return PARTS[options.part or ("up5k" if options.dsp else "hx8k")]
+    return PARTS[options.part or ("up5k" if options.dsp or options.large else "hx8k")]
 
 
 def make_core(options: argparse.Namespace, folder: Path) -> None:
     words = [*command("verilog"), options.microcode, folder, "--name", NAME]
     words += ["--datapath", options.datapath] if options.datapath else []
-    words += ["--full"] if options.full else []
+    words += [f"--{flag}" for flag in ("full", "large") if getattr(options, flag)]
     done = subprocess.run(words, capture_output=True, text=True, env=with_package() | {"XDG_STATE_HOME": str(folder)})
     if done.returncode:
         raise Unmade(done.stderr.strip().removeprefix("verilog: "))
+    if not options.restart:
+        module = folder / f"{NAME}.v"
+        module.write_text(module.read_text().replace(f"{RESTART} = 1", f"{RESTART} = 0"))
 
 
 def synthesized(options: argparse.Namespace, folder: Path, top: str) -> dict[str, int]:
@@ -146,14 +158,27 @@ def tell(options: argparse.Namespace, line: str) -> None:
     print(line, file=sys.stderr if options.json else sys.stdout, flush=True)
 
 
+def tell_memories(options: argparse.Namespace, folder: Path) -> None:
+    """Says which memories the core in a folder has."""
+    if not options.json:
+        for line in told(memories_in(folder, NAME), options.restart, options.large):
+            print(line, flush=True)
+
+
 def shown(options: argparse.Namespace, numbers: dict[str, float]) -> str:
-    return f"{options.family}: " + ", ".join(f"{count} {kind}" for kind, count in numbers.items())
+    return f"{options.family}: " + ", ".join(f"{count} {kind}" for kind, count in numbers.items()
+                                             if count or kind != LARGE)
 
 
 def check_fit(options: argparse.Namespace, numbers: dict[str, float]) -> None:
-    over = part_of(options).over(numbers)
+    part = part_of(options)
+    over = part.over(numbers)
     if over:
-        raise Unmade(f"it does not fit: it takes {'; '.join(over)}")
+        has_other = part.large_memories and not options.large and numbers["block memories"] > part.block_memories
+        more = f"; --large puts long delays into its {part.large_memories} large memories" if has_other else ""
+        raise Unmade(f"it does not fit: it takes {'; '.join(over)}{more}")
+    if not options.json:
+        print(part.verdict(numbers), flush=True)
 
 
 def route(options: argparse.Namespace, folder: Path, core: Core, numbers: dict[str, float]) -> int:
@@ -184,12 +209,17 @@ def options_of(words: list[str]) -> argparse.Namespace:
     parser.add_argument("--for", dest="family", choices=FAMILIES, default="ice40")
     parser.add_argument("--part", choices=PARTS)
     parser.add_argument("--rate", metavar="HZ", type=rate_word)
-    for flag in ("--dsp", "--full", "--route", "--json"):
+    for flag in ("--dsp", "--full", "--large", "--route", "--json"):
         parser.add_argument(flag, action="store_true")
+    parser.add_argument("--no-restart", dest="restart", action="store_false")
     options = parser.parse_args(words)
-    if is_net(options.microcode) and (options.datapath is not None or options.full):
-        parser.error(
-            "--datapath and --full are for microcode: a net file names the datapaths, and its cores have one program")
+    if is_net(options.microcode) and (options.datapath is not None or options.full or options.large):
+        parser.error("--datapath, --full and --large are for microcode: a net file names the datapaths, and its cores "
+                     "have one program")
+    if options.full and options.large:
+        parser.error("--large is for a core of one program alone, and --full for any")
+    if options.large and not options.restart:
+        parser.error("--large: a reset fills large memories, so that --no-restart can't be")
     if is_net(options.microcode) and options.rate is not None:
         parser.error("--rate is for microcode: of a net the slowest core counts")
     return options
@@ -210,6 +240,8 @@ def put(options: argparse.Namespace) -> int:
         folder = Path(name)
         make_core(options, folder)
         core = core_in(options, folder) if options.route else None
+        if not is_net(options.microcode):
+            tell_memories(options, folder)
         numbers: dict[str, float] = dict(counted(options.family, synthesized(
             options, folder, top_for(options, folder, core) if core else NAME)))
         if not options.json:

@@ -1,7 +1,7 @@
 """Makes a core in Verilog that runs a microcode file: the processor of its image with its program. Of a net file it
 makes a core a processor, joined by queues.
 
-usage: tools/verilog MIC FOLDER [--datapath DP] [--name NAME] [--full [I,O]] [--force]
+usage: tools/verilog MIC FOLDER [--datapath DP] [--name NAME] [--full [I,O] | --large] [--force]
        tools/verilog --stages S SRC DP FOLDER [--name NAME] [--force]
        tools/verilog NET FOLDER [--name NAME] [--force]
 
@@ -11,6 +11,9 @@ is that of MIC without its ending. --datapath gives the names of units and buses
 alone, or with
 --full for any program over the datapath with as many input and output words, or with I and O of them: another program
 is another .hex then. docs/HARDWARE.md describes the core.
+
+With --large each memory of 16,384 bits or more is one for which an iCE40 UP5K has four large memories: with one port,
+and filled by a reset. Where no memory can be one it is refused, with the reason.
 
 With --stages the core runs the plan of a source over S stages of a datapath, with S samples in flight: its rows are
 those of `silc pipe`. The name is that of SRC then, and the guarded words come from the `silc_show` that is built, or
@@ -31,6 +34,7 @@ from silc.commands import ended
 from silc.hardware.core_files import files_of
 from silc.hardware.datapath import Names, names_of_file, numbered
 from silc.hardware.hazards import lasting_hazard
+from silc.hardware.large import make_large
 from silc.hardware.net_files import net_texts
 from silc.hardware.netlist import Core, NoCore, core_for_datapath, core_for_image
 from silc.made_files import MadeFiles, NotMade, add_force
@@ -110,7 +114,10 @@ def core_of(options: argparse.Namespace) -> tuple[Image, Core]:
     name, image = name_for(options), checked_in(options.microcode)
     names = names_in(options.datapath, image)
     if options.full is None:
-        return core_for_image(image, name, names)
+        image, core = core_for_image(image, name, names)
+        if options.large:
+            make_large(image, core)
+        return image, core
     if names.ends is None:
         raise NoCore("--full needs --datapath")
     return image, core_for_datapath(image, name, names, *counts_of(options.full, image))
@@ -124,6 +131,7 @@ def options_of(words: list[str]) -> argparse.Namespace:
     parser.add_argument("--stages", metavar="S", type=int, choices=STAGES)
     parser.add_argument("--name", metavar="NAME")
     parser.add_argument("--full", metavar="I,O", nargs="?", const=SAME)
+    parser.add_argument("--large", action="store_true")
     add_force(parser)
     options = parser.parse_intermixed_args(words)
     *options.inputs, options.folder = options.inputs
@@ -138,6 +146,8 @@ def check_inputs(parser: argparse.ArgumentParser, options: argparse.Namespace, l
     if options.stages and (options.datapath or options.full):
         parser.error("--stages has its datapath and its program")
     options.microcode = options.inputs[0]
+    if options.large and (options.stages or options.full or is_net(options.microcode)):
+        parser.error("--large is for a core of microcode, for its program alone")
     # --full is true alone, or a text.
     if is_net(options.microcode) and (options.datapath is not None or options.full not in (None, False)):
         parser.error(

@@ -1,11 +1,11 @@
 """Chains of bands with what stands behind them: a soft limiter, dither, and a second channel through the same
-function."""
+function. A host may change the coefficients of a live one while it runs."""
 from __future__ import annotations
 
 from dataclasses import dataclass
 from fractions import Fraction
 
-from silc.designing import writing
+from silc.designing import live, writing
 from silc.designing.filters import Section
 from silc.designing.finished import Wanted, made_cascade
 from silc.designing.shapes import WIDEST, Shape
@@ -27,14 +27,24 @@ class Tail:
     is_limited: bool = False
     dither: Shape | None = None
     is_stereo: bool = False
+    is_live: bool = False
 
 
 @dataclass(frozen=True)
 class Stage:
-    """A function of a chain: its name and text, and the type of its result."""
+    """A function of a chain: its name and text, the shape of its result, and what it is given beside a word."""
     name: str
     text: str
     of: Shape
+    given: tuple[str, ...] = ()
+
+
+@dataclass(frozen=True)
+class Knobs:
+    """What main has for coefficients that a host changes: its control words, variables and equations."""
+    parameters: tuple[str, ...] = ()
+    variables: tuple[str, ...] = ()
+    lines: tuple[str, ...] = ()
 
 
 def mode(shape: Shape, modes: str) -> str:
@@ -129,20 +139,21 @@ def channel_lines(stages: list[Stage], channel: int, own: str, out: str) -> list
     lines, word = [], own
     for number, stage in enumerate(stages):
         target = out if number == len(stages) - 1 else f"{own}{number + 1}"
-        noise = f", noise[{channel}]" if stage.name == "dither" else ""
-        lines.append(f"{target} = {stage.name}({word}{noise});")
+        noise = [f"noise[{channel}]"] if stage.name == "dither" else []
+        lines.append(f"{target} = {stage.name}({', '.join([word, *stage.given, *noise])});")
         word = target
     return lines
 
 
-def main_function(stages: list[Stage], of: Shape, tail: Tail) -> str:
+def main_function(stages: list[Stage], of: Shape, tail: Tail, knobs: Knobs = Knobs()) -> str:
     """The function that calls all stages, for each channel."""
     names = [("left", "left_out"), ("right", "right_out")] if tail.is_stereo else [("x", "y")]
-    heads = [", ".join(f"{name} : {shape}" for name in column)
-             for column, shape in zip(zip(*names), (of, stages[-1].of))]
+    taken, given = ([f"{name} : {shape}" for name in column]
+                    for column, shape in zip(zip(*names), (of, stages[-1].of)))
     variables = [f"{', '.join(f'{own}{number}' for own, _ in names)} : {stage.of}"
                  for number, stage in enumerate(stages[:-1], 1)]
-    lines = []
+    variables += knobs.variables
+    lines = [*knobs.lines]
     if tail.dither:
         before = stages[-2].of if len(stages) > 1 else of
         bits = dropped(before, tail.dither)
@@ -150,10 +161,21 @@ def main_function(stages: list[Stage], of: Shape, tail: Tail) -> str:
         lines += noise_lines(before, bits, len(names))
     for channel, (own, out) in enumerate(names):
         lines += channel_lines(stages, channel, own, out)
-    results = f"({heads[1]})" if tail.is_stereo else heads[1]
     body = "".join(f"  var {variable};\n" for variable in variables)
-    return f"func main({heads[0]}) {results} =\nbegin\n{body}" + "".join(
-        f"{writing.wrapped(line.split(), '  ')}\n" for line in lines) + "end;\n"
+    return f"{head_of([*taken, *knobs.parameters], given)} =\nbegin\n{body}" + "".join(
+        f"{writing.wrapped(line.split(), indent(line))}\n" for line in lines) + "end;\n"
+
+
+def head_of(parameters: list[str], results: list[str]) -> str:
+    """The head of main, in two lines where one is too long."""
+    head, made = f"func main({', '.join(parameters)})", ", ".join(results)
+    made = f"({made})" if len(results) > 1 else made
+    return f"{head}{' ' if len(head) + len(made) + 3 <= writing.COLUMNS else chr(10) + '  '}{made}"
+
+
+def indent(line: str) -> str:
+    """The blanks before a line of a function."""
+    return " " * (2 + len(line) - len(line.lstrip()))
 
 
 def tail_stages(before: Shape, tail: Tail) -> list[Stage]:
@@ -168,13 +190,15 @@ def tail_stages(before: Shape, tail: Tail) -> list[Stage]:
 
 def chain_source(wanted: Wanted, sections: list[Section], tail: Tail) -> tuple[str, bool]:
     """The source of bands and of what stands behind them, and whether all that its comment says is certified."""
-    if not sections:
+    if not sections and not tail.is_live:
         stages = tail_stages(wanted.input, tail)
         if not stages:
             raise Unchained("nothing is asked for: no --band, no --limit and no --dither")
         said = [f"{wanted.title}.", f"Asked: {wanted.asked}"]
         texts = [*(stage.text for stage in stages), main_function(stages, wanted.input, tail)]
         return writing.comment(said) + "\n" + "\n".join(texts), True
+    if tail.is_live:
+        return live_source(wanted, sections, tail), True
     cascade, said = made_cascade(wanted, sections)
     is_bound = cascade.certificate.is_bound
     behind = tail_stages(cascade.shapes.signal, tail)
@@ -184,3 +208,16 @@ def chain_source(wanted: Wanted, sections: list[Section], tail: Tail) -> tuple[s
     stages = [Stage("bands", bands, cascade.shapes.signal), *behind]
     texts = [functions, *(stage.text for stage in stages), main_function(stages, wanted.input, tail)]
     return f"{writing.comment(said)}{tables}\n" + "\n".join(texts), is_bound
+
+
+def live_source(wanted: Wanted, sections: list[Section], tail: Tail) -> str:
+    """The source of bands whose coefficients a host changes while they run, and of what stands behind them."""
+    made, said = live.made_live(wanted, sections)
+    behind = tail_stages(made.signal, tail)
+    of = made.signal if behind else made.input
+    bands = live.bands_function(made, str(of) if behind or of == made.signal else live.saturated(of))
+    stages = [Stage("bands", bands, of, tuple(made.names())), *behind]
+    knobs = Knobs(tuple(live.parameters_of(made)), tuple(live.variables_of(made)), tuple(live.lines_of(made)))
+    texts = [live.section_function(made), *(stage.text for stage in stages),
+             main_function(stages, wanted.input, tail, knobs)]
+    return f"{writing.comment(said)}{live.tables_of(made)}\n" + "\n".join(texts)

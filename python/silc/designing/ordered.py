@@ -62,7 +62,7 @@ def edge_of(options: argparse.Namespace, lower: float) -> float:
 def chain(options: argparse.Namespace, wanted_as: Callable[[str], Wanted]) -> Made:
     words_for(options, "")
     asked, sections = bands.bands_of(options.band or [], options.rate)
-    tail = Tail(options.limit, options.dither, options.stereo)
+    tail = Tail(options.limit, options.dither, options.stereo, options.live)
     parts = [*asked, *["a soft limiter"] * tail.is_limited, *[f"dither to {tail.dither}"] * bool(tail.dither)]
     return chains.chain_source(wanted_as(f"A chain{at_rate(options)}: {listed(parts)}"), sections, tail)
 
@@ -107,6 +107,7 @@ DESIGNS = {"bands": chain, "crossover": crossover, "cic": cic, "halfband": half_
 # Which of them, and of the others, take an option that not all take.
 OTHERS = ("sos", "fir", "iir")
 FOR = {"band": ("bands",), "limit": ("bands",), "dither": ("bands",), "stereo": ("bands", "crossover"),
+       "live": ("bands",), "turn": ("bands",), "serial": ("bands",),
        "edge": ("cic", "halfband"),
        "form": ("sos", "iir", "bands", "crossover"), "norm": (*OTHERS, "bands", "cic"),
        "order": ("sos", "iir", "bands"),

@@ -8,6 +8,7 @@ from .bench import bench_of
 from .columns import Program
 from .core_text import CoreText
 from .netlist import Core, File
+from .ports import ports_of
 from .words import Range
 
 
@@ -39,12 +40,25 @@ def shown_range(words: Range) -> str:
     return f"{words.low} to {words.high} in {words.bits()} bits, {'signed' if words.is_signed() else 'unsigned'}"
 
 
-def map_of(core: Core, program: Program) -> str:
+def widest_of(image: Image, core: Core) -> dict[str, str]:
+    """For the file at each port of a core for one program what it is as wide as."""
+    made = {}
+    for port in ports_of(image, core) if not core.is_full else ():
+        source = port.sources[0]
+        came = "holds that first" if source.unit is None else (
+            f"takes that from {core.parts[source.unit].name}, of cycle {source.cycle}")
+        made[f"{port.part.name}_{port.port}"] = f"; {came}"
+    return made
+
+
+def map_of(image: Image, core: Core, program: Program) -> str:
     """What each port holds, and what the bits of a row of the microprogram mean, as text."""
+    widest = widest_of(image, core)
     lines = [f"core {core.name}: {core.period} cycles a sample, {core.rows} rows of {program.width} bits"]
     for kind, ports in (("in", core.inputs), ("out", core.outputs)):
         lines += [f"{kind}_{place}: {shown_range(words)}" for place, words in enumerate(ports)]
-    lines += [f"file {name}: {file.size} words, {shown_range(file.words)}" for name, file in core.memories()]
+    lines += [f"file {name}: {file.size} words, {shown_range(file.words)}{widest.get(name, '')}"
+              for name, file in core.memories()]
     for column in program.columns:
         place = program.places.get(column.name)
         where = f"always {program.constants[column.name]}" if place is None else \
@@ -58,7 +72,7 @@ def files_of(image: Image, core: Core) -> dict[str, str]:
     files, program = Files(core), Program(image, core)
     made = CoreText(core, program, files)
     texts = {PARTS.name: PARTS.read_text(), f"{core.name}.v": made.text(), files.program: program.lines(),
-             f"{core.name}.map": map_of(core, program), f"{core.name}_tb.v": bench_of(core, made.fill_last)}
+             f"{core.name}.map": map_of(image, core, program), f"{core.name}_tb.v": bench_of(core, made.fill_last)}
     for name, file in core.memories():
         if name in files.first:
             texts[files.first[name]] = first_lines(file)

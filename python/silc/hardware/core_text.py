@@ -369,7 +369,9 @@ class CoreText:
         else:
             ports |= {"rst": "rst", "run": "run", "address": at, "store": self.does(part, "stores"),
                       "value": value}
-            lines.append(instance("silc_memory", f"memory_{name}", parameters | {"LATENCY": part.latency}, ports))
+            kind = "silc_large" if part.is_large else "silc_memory"
+            own = {key: value for key, value in parameters.items() if key != "FILE"} if part.is_large else parameters
+            lines.append(instance(kind, f"memory_{name}", own | {"LATENCY": part.latency}, ports))
         lines.append(f"    assign u_{name} = {fitted(f'read_{name}', words, part.gives().bits())};\n")
         return "".join(lines)
 

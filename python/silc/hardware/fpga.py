@@ -5,6 +5,7 @@ from collections.abc import Mapping
 from dataclasses import dataclass
 
 LOGIC, FLOPS, MEMORIES, MULTIPLIERS = "logic cells", "flip-flops", "block memories", "multipliers"
+LARGE = "large memories"
 
 
 @dataclass(frozen=True)
@@ -22,12 +23,18 @@ class Fpga:
     def capacity(self) -> dict[str, int]:
         """What there is of each kind that synthesis counts."""
         return {LOGIC: self.logic_cells, FLOPS: self.logic_cells, MEMORIES: self.block_memories,
-                MULTIPLIERS: self.multipliers}
+                MULTIPLIERS: self.multipliers, LARGE: self.large_memories}
 
     def over(self, counts: Mapping[str, float]) -> list[str]:
         """Which numbers of a core are above those of the part."""
         return [f"{counts[kind]} {kind}, and an {self.name} has {most}" for kind, most in self.capacity().items()
                 if counts.get(kind, 0) > most]
+
+    def verdict(self, counts: Mapping[str, float]) -> str:
+        """What a core takes of all that there is."""
+        taken = [f"{counts[kind]} of {most} {kind}" for kind, most in self.capacity().items()
+                 if most and kind in counts]
+        return f"{self.name}: it fits, with {', '.join(taken)}"
 
     def has_multipliers(self) -> bool:
         return self.multipliers > 0

@@ -56,6 +56,7 @@ class Part:
     cells: File | None = None
     ram: int | None = None
     stores: bool = True
+    is_large: bool = False
 
     def gives(self) -> Range:
         """The words that it may give, where something takes them."""

@@ -1,4 +1,5 @@
-"""The units, register files and buses of a datapath file."""
+"""The units, register files and buses of a datapath file, and how wide each file is for a source."""
+from collections.abc import Mapping
 from typing import Any, TypeAlias
 
 from silc.micro_file.operations import PORTS
@@ -8,7 +9,9 @@ from silc.pictures.picture import BLACK, BLUE, COLUMN, FILLS, GAP, LABELS, MARGI
 Placed: TypeAlias = tuple[float, float, list[float], float | None]
 
 DRIVES = {kind: kind != "out" for kind in PORTS}
-UNIT_TOP, UNIT_HEIGHT, FILE_HEIGHT, BUS_STEP = 56, 70, 24, 30
+UNIT_TOP, UNIT_HEIGHT, FILE_HEIGHT, BUS_STEP, LIST_STEP = 56, 70, 24, 30, 17
+# The bits of each port, by its name, and the operand that needs them.
+Widths: TypeAlias = Mapping[str, tuple[int, str]]
 
 
 def columns_of(units: list[dict[str, Any]]) -> tuple[list[Placed], float]:
@@ -39,7 +42,8 @@ def notes_of(unit: dict[str, Any]) -> str:
     return ", ".join(words)
 
 
-def draw_units(picture: Picture, units: list[dict[str, Any]], placed: list[Placed], bottom: float) -> None:
+def draw_units(picture: Picture, units: list[dict[str, Any]], placed: list[Placed], bottom: float,
+               widths: Widths) -> None:
     for unit, (x, width, ports, output) in zip(units, placed):
         picture.box(x, UNIT_TOP, width, UNIT_HEIGHT, FILLS[unit["kind"]])
         picture.text(x + width / 2, UNIT_TOP + 20, unit["name"], 14)
@@ -53,6 +57,9 @@ def draw_units(picture: Picture, units: list[dict[str, Any]], placed: list[Place
             picture.line(at, foot, at, foot + 12, BLUE)
             picture.arrow(at, foot + 1, False, BLUE)
             picture.text(at + 6, foot + 50, str(port), 10, BLUE, "start")
+            name = f"{unit['name']}.{port}"
+            if name in widths:
+                picture.text(at + 6, foot + 64, f"{widths[name][0]} bits", 9, BLUE, "start")
         if output is not None:
             picture.line(output, foot, output, bottom, ORANGE)
             picture.arrow(output, foot + 26, True, ORANGE)
@@ -73,19 +80,27 @@ def draw_buses(picture: Picture, datapath: dict[str, Any], placed: list[Placed],
             picture.dot(placed[names.index(name)][2][int(port)], y, BLUE)
 
 
-def draw_datapath(datapath: dict[str, Any]) -> str:
+def draw_list(picture: Picture, widths: Widths, top: float) -> None:
+    """The operand that each port is as wide as."""
+    for row, (name, (bits, operand)) in enumerate(widths.items()):
+        picture.text(MARGIN, top + row * LIST_STEP, f"{name} has {bits} bits: {operand}", 11, BLACK, "start")
+
+
+def draw_datapath(datapath: dict[str, Any], widths: Widths | None = None) -> str:
+    widths = widths or {}
     placed, width = columns_of(datapath["unit"])
     top = UNIT_TOP + UNIT_HEIGHT + FILE_HEIGHT + 56
     bottom = top + (len(datapath["bus"]) - 1) * BUS_STEP
-    height = bottom + 62
+    height = bottom + 62 + len(widths) * LIST_STEP
     picture = Picture(width, height, "datapath")
     said = f"{datapath['period']} cycles a sample, words of {datapath['word']} bits"
     picture.text(MARGIN, 28, said, 13, BLACK, "start")
-    draw_units(picture, datapath["unit"], placed, bottom)
+    draw_units(picture, datapath["unit"], placed, bottom, widths)
     draw_buses(picture, datapath, placed, top, width - MARGIN)
     key = bottom + 36
     for x, colour, words in ((MARGIN, ORANGE, "a unit drives the bus"),
                              (MARGIN + 190, BLUE, "a port's register file takes from it; its size in words")):
         picture.dot(x + 4, key - 4, colour)
         picture.text(x + 16, key, words, 11, BLACK, "start")
+    draw_list(picture, widths, key + 2 * LIST_STEP)
     return picture.whole()
