@@ -270,7 +270,8 @@ class Checking:
         said = {(place.node, file): registers for place in self.place for file, _, registers in place.to}
         for file, lived in lives.items():
             unit, _, port = file.rpartition(".")
-            size, taken = self.units[unit]["files"][int(port)], {}
+            size: int = self.units[unit]["files"][int(port)]
+            taken: dict[int, dict[int, int]] = {}
             for written, node, length in sorted(lived):
                 self.allot(file, size, node, list(self.cycles(written, length, unroll)), taken,
                            said.get((node, file)))

@@ -73,7 +73,8 @@ class Places:
     @cached_property
     def registers(self) -> dict[tuple[int, Port], list[int]]:
         """The registers of each lifetime's copies, by first fit."""
-        circle, made = self.unroll * self.period, {}
+        circle = self.unroll * self.period
+        made: dict[tuple[int, Port], list[int]] = {}
         taken: dict[Port, list[int]] = {}
         for life in self.lives:
             rows, copies = taken.setdefault(life.file, []), life.copies(self.period)

@@ -94,7 +94,11 @@ class Ruled:
 
     def best(self) -> Places | None:
         """The shortest plan of the rules."""
-        return min(self.starts(), key=lambda places: places.period, default=None)
+        return min(self.starts(), key=period_of, default=None)
+
+
+def period_of(places: Places) -> int:
+    return places.period
 
 
 def fitted(datapath: dict[str, Any], places: Places) -> dict[str, Any]:
@@ -115,7 +119,8 @@ def fitted(datapath: dict[str, Any], places: Places) -> dict[str, Any]:
 
 def cells_of(places: Places) -> dict[str, int]:
     """How many cells of each memory the delay lines take."""
-    problem, made = places.problem, {}
+    problem = places.problem
+    made: dict[str, int] = {}
     for node in problem.nodes:
         if node.op in ("load", "store"):
             name = problem.units[node.units[0]].name

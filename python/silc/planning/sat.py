@@ -232,8 +232,8 @@ class Solving:
         clauses = Path(self.folder.name) / "clauses"
         clauses.write_text(encoding.clauses.text())
         with open(self.model, "wb") as out:
-            words = ["nice", "-n", "19", solver, *SOLVERS[solver], clauses]
-            words += [self.model] if solver == "minisat" else []
+            words = ["nice", "-n", "19", solver, *SOLVERS[solver], str(clauses)]
+            words += [str(self.model)] if solver == "minisat" else []
             self.process = subprocess.Popen(words, stdin=subprocess.DEVNULL, stderr=subprocess.DEVNULL,
                                             stdout=subprocess.DEVNULL if solver == "minisat" else out)
 

@@ -16,6 +16,8 @@ from silc.planning.windows import Bounds, TooShort
 
 # The shares of the time: of the first look by heuristics, of the periods where registers come after, of a fit.
 FIRST, PERIODS, FIT = 0.15, 0.6, 0.1
+# The share of the time that a solver has for a period at first.
+FIRST_SHARE = 0.02
 LONGEST_LOOK, SLICE = 2.0, 0.2
 
 
@@ -65,6 +67,11 @@ def spans(numbers: Sequence[int]) -> str:
     return ", ".join(f"{low}" if low == high else f"{low} to {high}" for low, high in made)
 
 
+def turns(left: list[int]) -> list[int]:
+    """The periods of one round: from the bound upward, the middle, and the longest ones."""
+    return list(dict.fromkeys([*left[:2], left[len(left) // 2], *left[:-3:-1]]))
+
+
 class Finder:
     """A search, with the best plan so far."""
 
@@ -75,6 +82,10 @@ class Finder:
         bound = bounds.least()
         self.known = Known(bound, bounds.reason(bound))
         self.rng, self.turn, self.began = Random(wanted.seed), 0, time.monotonic()
+        # Of periods plans for whose registers there is no room.
+        self.crowded: dict[int, Places] = {}
+        # Periods in which the solver's plan has other buses than the first that are free.
+        self.unrouted: set[int] = set()
         self.is_stopped = False
 
     def run(self) -> None:
@@ -96,17 +107,32 @@ class Finder:
     def low(self) -> int:
         return max(self.known.bound, self.wanted.period or 0)
 
+    def left(self) -> list[int]:
+        """The periods below the best that are open, but for those whose plans have no room for their registers."""
+        return [period for period in self.known.open(self.limit()) if period >= self.low()
+                and period not in self.crowded and period not in self.unrouted]
+
     def find(self, until: float) -> None:
-        """Looks by heuristics first, and then solves period by period from the bound upward."""
+        """Looks by heuristics first, and then solves periods, each in its turn for twice as long as before. Where only
+        plans without room for their registers are left, it looks for room again."""
         now = time.monotonic()
         self.look(now + FIRST * (until - now))
-        period = self.low()
-        while period < self.limit() and time.monotonic() < until and self.wanted.solver:
-            left = until - time.monotonic()
-            self.solve(period, time.monotonic() + left / (self.limit() - period))
-            period += 1
-        while self.low() < self.limit() and time.monotonic() < until and self.known.open(self.limit()):
-            self.slice(until)
+        share = FIRST_SHARE * (until - now)
+        while time.monotonic() < until:
+            left = self.left()
+            if left and self.wanted.solver:
+                for period in turns(left):
+                    if time.monotonic() < until and period in self.left():
+                        self.solve(period, min(until, time.monotonic() + share))
+                share *= 2
+            elif left:
+                self.slice(until)
+            elif crowded := [period for period in self.crowded if period < self.limit()]:
+                self.keep(self.crowded[max(crowded)], "other places")
+            else:
+                return
+        if self.wanted.solver and (left := self.left()):
+            self.say(f"{self.wanted.solver} did not end in its time for period {spans(left)}")
 
     def look(self, until: float) -> None:
         """Halves what is left between the bound and the best, by heuristics alone."""
@@ -129,7 +155,7 @@ class Finder:
 
     def slice(self, until: float) -> None:
         """One short search below the best, where it is not refuted."""
-        left = self.known.open(self.limit())
+        left = self.left()
         if not left:
             return
         period = self.rng.choice(left[-2:])
@@ -162,13 +188,10 @@ class Finder:
             try:
                 places.route()
             except Unfit as why:
-                self.say(f"a plan with period {period} is there, and has its buses in another order: {why}")
+                self.say(f"a plan with period {period} is there, but not with the first buses that are free: {why}")
+                self.unrouted.add(period)
                 return
-            if not self.keep(places, solving.solver):
-                self.say(f"a plan with period {period} is there, but the files lack {places.lacking()} registers for "
-                         f"it")
-        elif period < self.limit():
-            self.say(f"period {period} is open: {solving.solver} did not end in its time")
+            self.keep(places, solving.solver)
 
     def keep(self, places: Places, by: str) -> bool:
         """Takes a plan for the best where its registers fit, if need be after some annealing."""
@@ -176,7 +199,10 @@ class Finder:
             annealing = Annealing(places, self.wanted.inputs, self.rng, False)
             annealing.run(max(LONGEST_LOOK, FIT * self.wanted.seconds), until_fit=True)
             places, by = annealing.best, f"{by} and annealing"
-            if places.lacking():
+            if lacking := places.lacking():
+                if places.period not in self.crowded:
+                    self.say(f"period {places.period} by {by}, but the files lack {lacking} registers so far")
+                self.crowded[places.period] = places
                 return False
         self.best = places
         self.say(f"period {places.period} by {by}, {places.count()} registers")

@@ -52,7 +52,9 @@ class Table:
 
     def reads(self, v: int, unit: int) -> list[tuple[int, Port]]:
         """The placed nodes that a node reads, and where it does so on a unit, if that is its own choice."""
-        return [] if self.is_bound[v] else [(read, Port(unit, port)) for port, (read, _) in enumerate(self.problem.nodes[v].reads)
+        if self.is_bound[v]:
+            return []
+        return [(read, Port(unit, port)) for port, (read, _) in enumerate(self.problem.nodes[v].reads)
                 if self.unit[read] != FREE]
 
     def holders(self, v: int, unit: int, file: Port, turn: int) -> list[int]:
