@@ -6,8 +6,9 @@ usage: tests/plan/check_random.py [--silc PROGRAM] [COUNT [SEED]]
 Of COUNT programs, 200 where nothing is said, each is searched over one, two or four stages, by turns with the files and
 memories of its processor and with such as are large enough. A program that has no place by the rules in any period is
 left out, and another is made. Looked at is that each plan passes, with its buses and registers and without, that no
-period of the rules is lost, and that no bound and no solver refutes a period in which the rules have a plan. Without a
-solver the heuristics are tried alone, and it ends with 77.
+period of the rules is lost, that no bound and no solver refutes a period in which the rules have a plan, and that the
+microcode of a plan over one stage puts the rows of `silc eval` on `silc sim`. Without a solver the heuristics are tried
+alone, and it ends with 77.
 """
 from __future__ import annotations
 
@@ -19,13 +20,15 @@ from collections import Counter
 from pathlib import Path
 from random import Random
 
-from silc.fuzzing import datapaths, sources
+from machine import NoRows, microcode_of, rows_of
+from silc.fuzzing import datapaths, samples, sources
 from silc.planning.check import NoPlan, check
 from silc.planning.places import Places
 from silc.planning.ruled import Ruled, Unplanned, fitted
 from silc.planning.sat import REFUTED, Encoding, Solving, solver_there
 from silc.planning.search import Finder, Wanted
 from silc.planning.windows import TooShort
+from silc.running import STDIN, STDOUT, ran
 
 ROOT = Path(__file__).resolve().parent.parent.parent
 SILC = os.environ.get("SILC", str(ROOT / "crates" / "silc_main" / "out" / "silc_main"))
@@ -48,22 +51,26 @@ class Tried:
     def program(self, number: int) -> bool:
         """Makes a program and a processor and searches; not where the rules have no place for it."""
         rng = Random(f"plan {self.seed} {number}")
-        source = sources.Program(rng, 16).source().text.encode()
+        source = sources.Program(rng, 16).source()
         datapath = tomllib.loads(datapaths.text_of(datapaths.Maker(rng, rng.random() < 0.7).datapath(), rng))
         stages, is_roomy = STAGES[number % len(STAGES)], rng.random() < 0.5
         try:
-            ruled = Ruled(self.silc, source, datapath, stages, is_roomy)
+            ruled = Ruled(self.silc, source.text.encode(), datapath, stages, is_roomy)
         except Unplanned:
             return False
         if len(ruled.problem.nodes) > MOST_NODES:
             return False
         try:
-            self.search(number, ruled, is_roomy)
-        except NoPlan as why:
+            start, best = self.search(number, ruled, is_roomy)
+            if start and best and stages == 1:
+                rows = samples.text_of(rng, samples.rows_of(rng, source.inputs), True)
+                self.run(number, ruled, start, best, is_roomy, rows)
+        except (NoPlan, NoRows) as why:
             self.faults.append(f"program {number} of seed {self.seed}: {why}")
         return True
 
-    def search(self, number: int, ruled: Ruled, is_roomy: bool) -> None:
+    def search(self, number: int, ruled: Ruled, is_roomy: bool) -> tuple[Places | None, Places | None]:
+        """Searches, and looks at what comes of it. The plan of the rules and the best one."""
         start = ruled.best()
         finder = Finder(ruled.problem, start, Wanted(SECONDS, self.solver, number, is_roomy, number % 2 == 0),
                         lambda text: None)
@@ -82,6 +89,18 @@ class Tried:
                 self.solve(number, ruled, start)
         elif finder.best:
             self.seen["where the rules have none"] += 1
+        return start, finder.best
+
+    def run(self, number: int, ruled: Ruled, start: Places, best: Places, is_roomy: bool, rows: bytes) -> None:
+        """The plan's microcode puts the rows of the source's solution."""
+        made = fitted(ruled.datapath, best) if is_roomy else ruled.datapath | {"period": best.period}
+        microcode = microcode_of(self.silc, ruled.source, ruled.datapath | {"period": start.period}, best.text(), made)
+        if microcode is None:
+            return
+        solved = ran(self.silc, ["eval", ruled.source, STDIN, STDOUT], rows)
+        if solved.status or rows_of(self.silc, microcode, rows) != solved.out:
+            self.faults.append(f"program {number} of seed {self.seed}: other rows")
+        self.seen["run"] += 1
 
     def check(self, ruled: Ruled, places: Places, is_roomy: bool) -> None:
         """The plan passes, as it is and as nodes, cycles and units alone."""

@@ -10,7 +10,7 @@ from pathlib import Path
 
 from silc.planning.places import Places
 from silc.planning.problem import Port, Problem
-from silc.planning.windows import windows_of
+from silc.planning.windows import Windows, windows_of
 
 FOUND, REFUTED = 10, 20
 PAIRS = 5
@@ -21,6 +21,13 @@ SOLVERS = {"cadical": ["-q"], "minisat": ["-verb=0"]}
 def solver_there() -> str | None:
     """The first of the solvers that is there."""
     return next((name for name in SOLVERS if shutil.which(name)), None)
+
+
+def narrowed(windows: Windows, cycles: list[int], radius: int) -> Windows:
+    """The parts of windows that are so near to some cycles, and at least a cycle of each."""
+    first = [min(max(first, cycle - radius), last) for first, last, cycle in zip(*windows, cycles)]
+    last = [max(min(last, cycle + radius), low) for low, last, cycle in zip(first, windows.last, cycles)]
+    return Windows(first, last)
 
 
 class Clauses:
@@ -57,10 +64,14 @@ class Clauses:
 
 
 class Encoding:
-    """The clauses of a problem in a period. `TooShort` where a bound refutes it."""
+    """The clauses of a problem in a period. `TooShort` where a bound refutes it. Beside a plan of another period they
+    have only places that are so many cycles from its own at most, as far as the period is shorter."""
 
-    def __init__(self, problem: Problem, period: int) -> None:
+    def __init__(self, problem: Problem, period: int, near: Places | None = None, radius: int = 0) -> None:
         self.problem, self.period, self.windows = problem, period, windows_of(problem, period)
+        if near:
+            self.windows = narrowed(self.windows, [cycle * period // near.period for cycle in near.cycles], radius)
+        self.is_whole = near is None
         self.clauses = Clauses()
         self.true = self.clauses.new()
         self.clauses.add(self.true)

@@ -12,13 +12,15 @@ from silc.planning.places import Places, Unfit
 from silc.planning.problem import Problem
 from silc.planning.registers import Annealing
 from silc.planning.sat import FOUND, REFUTED, Encoding, Solving
-from silc.planning.windows import Bounds, TooShort
+from silc.planning.windows import Bounds
 
 # The shares of the time: of the first look by heuristics, of the periods where registers come after, of a fit.
 FIRST, PERIODS, FIT = 0.15, 0.6, 0.1
 # The share of the time that a solver has for a period at first.
 FIRST_SHARE = 0.02
 LONGEST_LOOK, SLICE = 2.0, 0.2
+# How far a plan is at first from that of a longer period beside which it is looked for.
+RADIUS = 6
 
 
 @dataclass
@@ -69,7 +71,7 @@ def spans(numbers: Sequence[int]) -> str:
 
 def turns(left: list[int]) -> list[int]:
     """The periods of one round: from the bound upward, the middle, and the longest ones."""
-    return list(dict.fromkeys([*left[:2], left[len(left) // 2], *left[:-3:-1]]))
+    return list(dict.fromkeys([*left[:2], *left[len(left) // 2:len(left) // 2 + 1], *left[:-3:-1]]))
 
 
 class Finder:
@@ -86,7 +88,7 @@ class Finder:
         self.crowded: dict[int, Places] = {}
         # Periods in which the solver's plan has other buses than the first that are free.
         self.unrouted: set[int] = set()
-        self.is_stopped = False
+        self.radius, self.is_stopped = RADIUS, False
 
     def run(self) -> None:
         """Searches until the time is over, all is known, or it is interrupted."""
@@ -121,10 +123,11 @@ class Finder:
         while time.monotonic() < until:
             left = self.left()
             if left and self.wanted.solver:
-                for period in turns(left):
+                self.descend(until, share)
+                for period in turns(self.left()):
                     if time.monotonic() < until and period in self.left():
-                        self.solve(period, min(until, time.monotonic() + share))
-                share *= 2
+                        self.solve(Encoding(self.problem, period), min(until, time.monotonic() + share))
+                share, self.radius = 2 * share, 2 * self.radius
             elif left:
                 self.slice(until)
             elif crowded := [period for period in self.crowded if period < self.limit()]:
@@ -133,6 +136,14 @@ class Finder:
                 return
         if self.wanted.solver and (left := self.left()):
             self.say(f"{self.wanted.solver} did not end in its time for period {spans(left)}")
+
+    def descend(self, until: float, share: float) -> None:
+        """Solves the next shorter period near the best plan, as often as that goes."""
+        while self.best and (left := self.left()) and time.monotonic() < until:
+            encoding = Encoding(self.problem, left[-1], self.best, self.radius)
+            self.solve(encoding, min(until, time.monotonic() + share))
+            if left[-1] in self.left():
+                return
 
     def look(self, until: float) -> None:
         """Halves what is left between the bound and the best, by heuristics alone."""
@@ -161,26 +172,24 @@ class Finder:
         period = self.rng.choice(left[-2:])
         self.tried(period, min(until, time.monotonic() + SLICE))
 
-    def solve(self, period: int, until: float) -> None:
+    def solve(self, encoding: Encoding, until: float) -> None:
         """Has the solver say whether a period has a plan, and goes on with the heuristics while it works."""
         assert self.wanted.solver
-        try:
-            encoding = Encoding(self.problem, period)
-        except TooShort as why:
-            self.known.refuted[period] = str(why)
-            return
         solving = Solving(self.wanted.solver, encoding)
         try:
-            while solving.status() is None and time.monotonic() < until and period < self.limit():
-                self.slice(until) if period + 1 < self.limit() else time.sleep(SLICE / 4)
-            self.told(period, solving)
+            while solving.status() is None and time.monotonic() < until and encoding.period < self.limit():
+                if self.left()[-1] > encoding.period:
+                    self.slice(until)
+                else:
+                    time.sleep(SLICE / 20)
+            self.told(encoding, solving)
         finally:
             solving.stop()
 
-    def told(self, period: int, solving: Solving) -> None:
+    def told(self, encoding: Encoding, solving: Solving) -> None:
         """What a solver says of a period, or that it has not ended."""
-        status = solving.status()
-        if status == REFUTED:
+        status, period = solving.status(), encoding.period
+        if status == REFUTED and encoding.is_whole:
             self.known.refuted[period] = solving.solver
             self.say(f"period {period} is refuted by {solving.solver}")
         elif status == FOUND and period < self.limit():
