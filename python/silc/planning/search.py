@@ -17,8 +17,8 @@ from silc.planning.windows import Bounds
 # The shares of the time: of the first look by heuristics, of the periods where registers come after, of a fit.
 FIRST, PERIODS, FIT = 0.15, 0.6, 0.1
 # The share of the time that a solver has for a period at first.
-FIRST_SHARE = 0.02
-LONGEST_LOOK, SLICE = 2.0, 0.2
+FIRST_SHARE, LEAST_SHARE = 0.03, 1.0
+LONGEST_LOOK, SLICE, WAIT = 2.0, 0.2, 0.01
 # How far a plan is at first from that of a longer period beside which it is looked for.
 RADIUS = 6
 
@@ -96,7 +96,7 @@ class Finder:
         try:
             self.find(self.began + share * self.wanted.seconds)
             if self.best and self.wanted.lessens_registers:
-                self.lessen(self.began + self.wanted.seconds)
+                self.lessen(time.monotonic() + (1 - share) * self.wanted.seconds)
         except KeyboardInterrupt:
             self.is_stopped = True
 
@@ -119,7 +119,7 @@ class Finder:
         plans without room for their registers are left, it looks for room again."""
         now = time.monotonic()
         self.look(now + FIRST * (until - now))
-        share = FIRST_SHARE * (until - now)
+        share = max(LEAST_SHARE, FIRST_SHARE * (until - now))
         while time.monotonic() < until:
             left = self.left()
             if left and self.wanted.solver:
@@ -173,15 +173,12 @@ class Finder:
         self.tried(period, min(until, time.monotonic() + SLICE))
 
     def solve(self, encoding: Encoding, until: float) -> None:
-        """Has the solver say whether a period has a plan, and goes on with the heuristics while it works."""
+        """Has the solver say whether a period has a plan, or near the best plan one."""
         assert self.wanted.solver
         solving = Solving(self.wanted.solver, encoding)
         try:
             while solving.status() is None and time.monotonic() < until and encoding.period < self.limit():
-                if self.left()[-1] > encoding.period:
-                    self.slice(until)
-                else:
-                    time.sleep(SLICE / 20)
+                time.sleep(WAIT)
             self.told(encoding, solving)
         finally:
             solving.stop()
