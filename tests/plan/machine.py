@@ -14,7 +14,7 @@ class NoRows(Exception):
 
 
 def microcode_of(silc: str, source: bytes, roomy: dict[str, Any], plan: str, datapath: dict[str, Any]) -> bytes | None:
-    """The microcode of a plan over a datapath. The widths of inputs are those of the plan of the rules over a roomy one.
+    """The microcode of a plan over a datapath. The widths of inputs are those of the rules' plan over a roomy one.
     Nothing where words have initial values, which the text of a plan does not have."""
     compiled = ran(silc, ["compile", source, text_of(roomy).encode(), STDOUT])
     if compiled.status:

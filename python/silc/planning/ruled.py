@@ -94,7 +94,8 @@ class Ruled:
 
     def best(self) -> Places | None:
         """The shortest plan of the rules."""
-        return min(self.starts(), key=period_of, default=None)
+        starts = list(self.starts())
+        return min(starts, key=period_of) if starts else None
 
 
 def period_of(places: Places) -> int:
