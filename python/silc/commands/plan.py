@@ -12,11 +12,11 @@ so that no period is lost. Standard error tells how it goes on, and at the end w
 is below the bound of resources, critical path and recurrences, and what the solver refutes has no plan with any buses
 and any registers.
 
---registers lessens the registers by their bits, as wide as the words that come into each file, in the last 40 % of the
-time: first the copies that make the microprogram longer, then the bits. --period looks for a plan in just that period,
-and not for the least. Files and memories are those of DP, but with --roomy as large as a plan needs. --datapath makes
-the datapath file of the plan: DP with its period, and with --roomy with files and memories that just fit. --solver
-names the solver, or `none`; --seed is another search.
+--registers lessens the registers by their bits, as wide as the words that come into each file, in 40 % of the time, or
+in all of it with --period: first the copies that make the microprogram longer, then the bits. --period looks for a plan
+in just that period, and not for the least. Files and memories are those of DP, but with --roomy as large as a plan
+needs. --datapath makes the datapath file of the plan: DP with its period, and with --roomy with files and memories that
+just fit. --solver names the solver, or `none`; --seed is another search.
 
 An interrupt ends the search, with the best plan so far and the status 130. The status is 1 where no plan is found.
 

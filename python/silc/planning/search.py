@@ -93,6 +93,8 @@ class Finder:
     def run(self) -> None:
         """Searches until the time is over, all is known, or it is interrupted."""
         share = PERIODS if self.wanted.lessens_registers else 1.0
+        if self.best and self.wanted.period is not None:
+            share = 0.0
         try:
             self.find(self.began + share * self.wanted.seconds)
             if self.best and self.wanted.lessens_registers:
