@@ -2,7 +2,7 @@
 
 usage: tools/plan [--stages S] [--seconds N] [--registers] [--period P] [--roomy] [--solver NAME] [--seed N]
                   [--datapath FILE] [--force] [-o PLAN] SRC DP
-       tools/plan --table [--seconds N] [--write] [EXAMPLE ..]
+       tools/plan --table [--seconds N] [--solver NAME] [--seed N] [EXAMPLE ..]
 
 PLAN, or standard output, gets the text that `silc schedule` prints, or with --stages, 1 to 4, that of `silc stages`:
 lines `node V cycle T unit NAME`, with the buses and the registers. It is looked for in the least period that is found
@@ -23,8 +23,8 @@ An interrupt ends the search, with the best plan so far and the status 130. The 
 What is written was checked by a test, not proved: each fact of a feasible plan in docs/PLANNING.md was looked at, by a
 checker that has nothing of the search.
 
---table prints what it finds for the examples over one, two and four stages, N seconds each, or with --write writes it
-into examples/README.md.
+--table prints what it finds for the examples over one, two and four stages, in N seconds each and a quarter more for
+the registers in the period of the rules: counts and bits, before and after.
 """
 from __future__ import annotations
 
@@ -40,7 +40,7 @@ from silc.exploring.template import text_of
 from silc.made_files import MadeFiles, NotMade, add_force
 from silc.pictures.plan import STAGES
 from silc.planning.check import NoPlan, check
-from silc.planning.examples import Row, rows_of, table_of, write_table
+from silc.planning.examples import HEAD, Row, rows_of
 from silc.planning.places import Places
 from silc.planning.registers import bits_of
 from silc.planning.ruled import NO_PLACE, Ruled, Unplanned, fitted
@@ -135,17 +135,13 @@ def tell(finder: Finder, best: Places, options: argparse.Namespace, seconds: flo
 
 
 def tabled(options: argparse.Namespace) -> int:
-    """Prints the table of the examples row by row, or writes it."""
-    solver, rows = solver_of(options), []
-
+    """Prints the table of the examples row by row."""
     def said(row: Row) -> None:
-        rows.append(row)
         print(row.line(), end="", flush=True)
 
-    print(table_of([]), end="", flush=True)
-    rows_of(SILC.found(), options.examples, solver, options.seconds, options.seed, said)
-    if options.write:
-        write_table(rows)
+    solver = solver_of(options)
+    print(HEAD, end="", flush=True)
+    rows_of(SILC.found(), options.files, solver, options.seconds, options.seed, said)
     return 0
 
 
@@ -170,17 +166,13 @@ def options_of(words: list[str]) -> argparse.Namespace:
     parser.add_argument("--seed", type=int, default=1, metavar="N")
     parser.add_argument("--datapath", metavar="FILE")
     parser.add_argument("--table", action="store_true")
-    parser.add_argument("--write", action="store_true")
     add_force(parser)
     options = parser.parse_args(words)
     if options.table:
-        options.examples = options.files
         if options.out or options.datapath or options.registers or options.period or options.roomy:
-            parser.error("--table goes with --seconds, --solver, --seed and --write alone")
-        if options.write and options.examples:
-            parser.error("--write is of the whole table")
+            parser.error("--table goes with --seconds, --solver and --seed alone")
         return options
-    if len(options.files) != 2 or options.write:
+    if len(options.files) != 2:
         parser.error("it takes SRC and DP, or --table")
     options.source, options.file = options.files
     return options

@@ -14,7 +14,6 @@ from silc.planning.ruled import Ruled, fitted
 from silc.planning.search import Finder, Wanted
 from silc.programs import in_checkout
 
-BEGIN, END = "<!-- made by tools/plan --table -->\n", "<!-- end -->"
 HEAD = ("| Example | Processor | Stages | Rules | Registers | Fewer | Bound | Best | Registers | Known |\n"
         "|---|---|---|---|---|---|---|---|---|---|\n")
 STAGES = (1, 2, 4)
@@ -80,16 +79,3 @@ def row_of(name: str, processor: str, ruled: Ruled, start: Places, wanted: Wante
     known = ("bound" if best.period == finder.known.bound else "solver") if is_least else "open"
     return Row(name, processor, ruled.stages, start.period, registers(start), registers(fewer.best),
                finder.known.bound, best.period, registers(best), known)
-
-
-def table_of(rows: Sequence[Row]) -> str:
-    return HEAD + "".join(row.line() for row in rows)
-
-
-def write_table(rows: Sequence[Row]) -> None:
-    """Puts the table between its comments in examples/README.md."""
-    file = Path(in_checkout("examples", "README.md"))
-    before, begin, rest = file.read_text().partition(BEGIN)
-    if not begin:
-        raise OSError(0, f"there is no {BEGIN.strip()}", str(file))
-    file.write_text(before + begin + table_of(rows) + rest[rest.index(END):])
