@@ -1,7 +1,7 @@
 # Completion of `silc` for bash: source this file, or put it into a folder of bash-completion under the name `silc`.
 
 # made by tools/completions
-_silc_words='run eval compile sim schedule list demo stages pipe frame net explain check draw design ranges values noise explore link rows batch assemble rom vcd verilog cosimulate cost synthesize board fuzz show build help'
+_silc_words='run eval compile sim schedule list demo stages pipe frame net explain check draw design ranges values noise explore plan link rows batch assemble rom vcd verilog cosimulate cost synthesize board fuzz show build help'
 _silc_forms='run *.sil *.toml * *
 eval *.sil * *
 compile *.sil *.toml *
@@ -17,6 +17,7 @@ explain run|eval|compile|sim|schedule|list|demo|stages|pipe|frame|net
 check *.sil
 draw datapath *.toml *.sil
 draw schedule * *.toml *.sil
+draw beside * - *.toml
 draw unfolded * *.toml
 draw lifetimes * *.toml
 draw response * - - ...
@@ -40,6 +41,8 @@ values *.sil * - ...
 noise *.sil *
 noise *.sil
 explore *.sil *
+plan - - *.sil *.toml
+plan - ...
 link *.sil - *
 link - *
 link *
@@ -83,6 +86,7 @@ ranges --all --element=- --force --json --library=/ --picture=* --seconds=- --wo
 values --json --library=/
 noise --against=* --force --impulse=- --library=/ --picture=* --zero-input=-
 explore --against=* --area=ice40|xilinx|ecp5 --best=- --clock=- --dsp --force --jobs=- --json --library=/ --out=- --pool --samples=* --sshlogin=- --stages=-
+plan --datapath=* --force --period=- --registers --roomy --seconds=- --seed=- --solver=- --stages=- --table
 link --check=*.sil --force --library=/ --pages --test --where=-
 rows --bits=16|24|32 --columns=- --force
 batch --force --jobs=- --sshlogin=-

@@ -432,8 +432,22 @@ def origins_right() -> list[bool]:
                        drawn("schedule", found("increment", "schedule"), plain, source))]
 
 
+def beside_right() -> bool:
+    """Two schedules side by side show both, each what it shows alone and the second behind the first."""
+    names = "increment", "increment_stages"
+    texts = [found(name, "schedule") for name in names]
+    faults, parts = Faults(), drawn("beside", *texts).findall(SVG + "svg")
+    faults.unless(len(parts) == len(texts), f"{len(parts)} pictures")
+    for text, part in zip(texts, parts):
+        check_schedule(text.read_text(), {}, part, faults)
+    faults.unless(float(parts[1].get("x", 0)) >= float(parts[0].get("width", 0)), "the second is over the first")
+    for fault in faults:
+        print(f"beside: {fault}")
+    return not faults
+
+
 def main() -> int:
-    right = [*origins_right(), net_right()]
+    right = [*origins_right(), net_right(), beside_right()]
     for name, datapath, latency in TEXTS:
         file = found(name, "schedule")
         words = [file, *([found(datapath, "toml")] if datapath else [])]

@@ -8,6 +8,8 @@ usage: tools/draw [--out SVG [--force]] SUBJECT ..
                                               units and buses over the cycles, of a text of `silc schedule`; with
                                               the source, the element of each node, and a table of their lines. The
                                               stages of a text of `silc stages` are folded into one period, in colours
+       tools/draw beside TEXT OTHER [DATAPATH]
+                                              two such texts side by side, as before and after tools/plan
        tools/draw unfolded TEXT [DATAPATH]    three samples of such a text, each a period later than the one before
        tools/draw lifetimes TEXT [DATAPATH]   registers over the cycles of all samples until the microprogram begins
                                               anew, of such a text, with the write and each read of a word
@@ -56,6 +58,7 @@ from silc.linking.words import given, source_in
 from silc.made_files import MadeFiles
 from silc.nets import Net
 from silc.pictures.axes import range_of
+from silc.pictures.beside import beside
 from silc.pictures.crates import draw_crates
 from silc.pictures.datapath import draw_datapath
 from silc.pictures.lifetimes import draw_lifetimes
@@ -191,6 +194,11 @@ def drawn_datapath(file: Argument, source: Argument | None = None, library: Sequ
     return draw_datapath(datapath_of(file), widths)
 
 
+def drawn_beside(text: Argument, other: Argument, file: Argument | None = None) -> str:
+    """Two texts of schedules, side by side."""
+    return beside(drawn_schedule(text, file), drawn_schedule(other, file))
+
+
 def ends_of(words: str | None) -> tuple[float, float] | None:
     return range_of(words, "range") if words else None
 
@@ -222,6 +230,7 @@ MOST_WORDS = 100
 SUBJECTS: dict[str, tuple[Callable[..., str], int, int, tuple[str, ...]]] = {
     "datapath": (drawn_datapath, 1, 2, (LIBRARY,)),
     "schedule": (drawn_schedule, 1, 3, (LIBRARY,)),
+    "beside": (drawn_beside, 2, 3, ()),
     "unfolded": (drawn_plan(draw_unfolded), 1, 2, ()),
     "lifetimes": (drawn_plan(draw_lifetimes), 1, 2, ()),
     "tradeoff": (lambda table: draw_tradeoff(trades_of(text_of(table))), 1, 1, ()),

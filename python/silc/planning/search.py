@@ -1,0 +1,245 @@
+"""The search for the least period, and what is known of each shorter one."""
+from __future__ import annotations
+
+import time
+from collections.abc import Callable, Sequence
+from dataclasses import dataclass, field
+from random import Random
+
+from silc.hardware.words import Range
+from silc.planning.modulo import found
+from silc.planning.places import Places, Unfit
+from silc.planning.problem import Problem
+from silc.planning.registers import Annealing
+from silc.planning.sat import FOUND, REFUTED, Encoding, Solving
+from silc.planning.windows import Bounds
+
+# The shares of the time: of the first look by heuristics, of the periods where registers come after, of a fit.
+FIRST, PERIODS, FIT = 0.15, 0.6, 0.1
+# The share of the time that a solver has for a period at first.
+FIRST_SHARE, LEAST_SHARE = 0.03, 1.0
+LONGEST_LOOK, SLICE, WAIT = 2.0, 0.2, 0.01
+# How far a plan is at first from that of a longer period beside which it is looked for.
+RADIUS = 6
+
+
+@dataclass
+class Wanted:
+    """What is asked of a search."""
+    seconds: float
+    solver: str | None
+    seed: int = 1
+    # Whether the files of the datapath are as large as a plan needs.
+    is_roomy: bool = False
+    lessens_registers: bool = False
+    # The one period that is meant, or nothing.
+    period: int | None = None
+    inputs: Sequence[Range] = ()
+
+
+@dataclass
+class Known:
+    """What is known of periods: the least that no bound refutes, with why none is below, and what a solver refuted."""
+    bound: int
+    reason: str
+    refuted: dict[int, str] = field(default_factory=dict)
+
+    def open(self, period: int) -> list[int]:
+        """The shorter periods than one that nothing refutes."""
+        return [shorter for shorter in range(self.bound, period) if shorter not in self.refuted]
+
+    def verdict(self, period: int) -> str:
+        """Whether a plan's period is the least, and by what."""
+        if left := self.open(period):
+            return f"{period} is not known to be the least: {spans(left)} {'is' if len(left) == 1 else 'are'} open"
+        by = ", ".join(f"{spans([at for at in self.refuted if self.refuted[at] == why and at < period])} by {why}"
+                       for why in sorted(set(self.refuted.values())))
+        shorter = f"; the solver refutes {by}" if period > self.bound else ""
+        return f"{period} is the least: none is below {self.bound} ({self.reason}){shorter}"
+
+
+def spans(numbers: Sequence[int]) -> str:
+    """Numbers in words, as 3, 5 to 7."""
+    made: list[list[int]] = []
+    for number in sorted(numbers):
+        if made and number == made[-1][1] + 1:
+            made[-1][1] = number
+        else:
+            made.append([number, number])
+    return ", ".join(f"{low}" if low == high else f"{low} to {high}" for low, high in made)
+
+
+def turns(left: list[int]) -> list[int]:
+    """The periods of one round: from the bound upward, the middle, and the longest ones."""
+    return list(dict.fromkeys([*left[:2], *left[len(left) // 2:len(left) // 2 + 1], *left[:-3:-1]]))
+
+
+class Finder:
+    """A search, with the best plan so far."""
+
+    def __init__(self, problem: Problem, start: Places | None, wanted: Wanted, say: Callable[[str], None]) -> None:
+        self.problem, self.wanted, self.say = problem, wanted, say
+        self.best = start
+        bounds = Bounds(problem)
+        bound = bounds.least()
+        self.known = Known(bound, bounds.reason(bound))
+        self.rng, self.turn, self.began = Random(wanted.seed), 0, time.monotonic()
+        # Of periods plans for whose registers there is no room.
+        self.crowded: dict[int, Places] = {}
+        # Periods in which the solver's plan has other buses than the first that are free.
+        self.unrouted: set[int] = set()
+        self.radius, self.is_stopped = RADIUS, False
+
+    def run(self) -> None:
+        """Searches until the time is over, all is known, or it is interrupted."""
+        share = PERIODS if self.wanted.lessens_registers else 1.0
+        if self.best and self.wanted.period is not None:
+            share = 0.0
+        try:
+            self.find(self.began + share * self.wanted.seconds)
+            if self.best and self.wanted.lessens_registers:
+                self.lessen(time.monotonic() + (1 - share) * self.wanted.seconds)
+        except KeyboardInterrupt:
+            self.is_stopped = True
+
+    def limit(self) -> int:
+        """The least period that need not be searched."""
+        if self.wanted.period is not None:
+            return self.wanted.period + (self.best is None)
+        return self.best.period if self.best else self.problem.datapath["period"] + 1
+
+    def low(self) -> int:
+        return max(self.known.bound, self.wanted.period or 0)
+
+    def left(self) -> list[int]:
+        """The periods below the best that are open, but for those whose plans have no room for their registers."""
+        return [period for period in self.known.open(self.limit()) if period >= self.low()
+                and period not in self.crowded and period not in self.unrouted]
+
+    def find(self, until: float) -> None:
+        """Looks by heuristics first, and then solves periods, each in its turn for twice as long as before. Where only
+        plans without room for their registers are left, it looks for room again."""
+        now = time.monotonic()
+        self.look(now + FIRST * (until - now))
+        share = max(LEAST_SHARE, FIRST_SHARE * (until - now))
+        while time.monotonic() < until:
+            left = self.left()
+            if left and self.wanted.solver:
+                self.descend(until, share)
+                for period in turns(self.left()):
+                    if time.monotonic() < until and period in self.left():
+                        self.solve(Encoding(self.problem, period), min(until, time.monotonic() + share))
+                share, self.radius = 2 * share, 2 * self.radius
+            elif left:
+                self.slice(until)
+            elif crowded := [period for period in self.crowded if period < self.limit()]:
+                self.keep(self.crowded[max(crowded)], "other places")
+            else:
+                return
+        if self.wanted.solver and (left := self.left()):
+            self.say(f"{self.wanted.solver} did not end in its time for period {spans(left)}")
+
+    def descend(self, until: float, share: float) -> None:
+        """Solves the next shorter period near the best plan, as often as that goes."""
+        while self.best and (left := self.left()) and time.monotonic() < until:
+            encoding = Encoding(self.problem, left[-1], self.best, self.radius)
+            self.solve(encoding, min(until, time.monotonic() + share))
+            if left[-1] in self.left():
+                return
+
+    def look(self, until: float) -> None:
+        """Halves what is left between the bound and the best, by heuristics alone."""
+        low, high = self.low(), self.limit()
+        while low < high and time.monotonic() < until:
+            middle = (low + high) // 2
+            if self.tried(middle, min(until, time.monotonic() + LONGEST_LOOK)):
+                high = self.limit()
+            else:
+                low = middle + 1
+
+    def tried(self, period: int, until: float) -> bool:
+        """Several short searches for a plan in a period."""
+        while time.monotonic() < until:
+            places = found(self.problem, period, self.rng, self.turn, min(until, time.monotonic() + LONGEST_LOOK / 4))
+            self.turn += 1
+            if places and self.keep(places, "modulo scheduling"):
+                return True
+        return False
+
+    def slice(self, until: float) -> None:
+        """One short search below the best, where it is not refuted."""
+        left = self.left()
+        if not left:
+            return
+        period = self.rng.choice(left[-2:])
+        self.tried(period, min(until, time.monotonic() + SLICE))
+
+    def solve(self, encoding: Encoding, until: float) -> None:
+        """Has the solver say whether a period has a plan, or near the best plan one."""
+        assert self.wanted.solver
+        solving = Solving(self.wanted.solver, encoding)
+        try:
+            while solving.status() is None and time.monotonic() < until and encoding.period < self.limit():
+                time.sleep(WAIT)
+            self.told(encoding, solving)
+        finally:
+            solving.stop()
+
+    def told(self, encoding: Encoding, solving: Solving) -> None:
+        """What a solver says of a period, or that it has not ended."""
+        status, period = solving.status(), encoding.period
+        if status == REFUTED and encoding.is_whole:
+            self.known.refuted[period] = solving.solver
+            self.say(f"period {period} is refuted by {solving.solver}")
+        elif status == FOUND and period < self.limit():
+            places = solving.places()
+            try:
+                places.route()
+            except Unfit as why:
+                self.say(f"a plan with period {period} is there, but not with the first buses that are free: {why}")
+                self.unrouted.add(period)
+                return
+            self.keep(places, solving.solver)
+
+    def keep(self, places: Places, by: str) -> bool:
+        """Takes a plan for the best where its registers fit, if need be after some annealing."""
+        if not self.wanted.is_roomy and places.lacking():
+            annealing = Annealing(places, self.wanted.inputs, self.rng, False)
+            annealing.run(max(LONGEST_LOOK, FIT * self.wanted.seconds), until_fit=True)
+            places, by = annealing.best, f"{by} and annealing"
+            if lacking := places.lacking():
+                if places.period not in self.crowded:
+                    self.say(f"period {places.period} by {by}, but the files lack {lacking} registers so far")
+                self.crowded[places.period] = places
+                return False
+        self.best = places
+        self.say(f"period {places.period} by {by}, {places.count()} registers")
+        return True
+
+    def lessen(self, until: float) -> None:
+        """Fewer bits of registers for the best plan, by several runs."""
+        assert self.best
+        for run in range(3):
+            left = until - time.monotonic()
+            if left <= 0:
+                return
+            annealing = Annealing(self.best, self.wanted.inputs, self.rng, self.wanted.is_roomy)
+            try:
+                annealing.run(left / (3 - run))
+            finally:
+                if annealing.best is not self.best:
+                    self.best = annealing.best
+                    _, unroll, bits = annealing.judged
+                    self.say(f"{bits} bits of registers ({self.best.count()} of them), unroll {unroll}")
+
+
+def first_of(problem: Problem, period: int, is_roomy: bool) -> Places | None:
+    """The plan of the rules, whose text the problem is made from, in a period in which it ends."""
+    ruled = problem.ruled
+    places = Places(problem, period, [problem.numbers[node.unit] for node in ruled.nodes],
+                    [node.cycle for node in ruled.nodes])
+    try:
+        places.route()
+    except Unfit:
+        return None
+    return places if is_roomy or not places.lacking() else None
