@@ -7,6 +7,7 @@ usage: tests/check_batch.py
 Scripts play `silc`, and the way to another machine. Without GNU parallel it is skipped, and ends with 77.
 """
 import os
+import re
 import shutil
 import signal
 import subprocess
@@ -37,6 +38,8 @@ shift
 export HOME="$FAR_HOME"
 cd "$HOME" && exec sh -c "$*"
 """
+# How far it is, which it says of a run that takes long.
+PROGRESS = re.compile(r"^batch: \d+ of \d+\n", re.MULTILINE)
 NET = 'inputs = 1\n[[proc]]\nsrc = "../p.sil"\ndp = "../p.toml"\nfeed = ["in.0"]\n'
 
 
@@ -63,10 +66,10 @@ class Room:
                        "XDG_STATE_HOME": str(self.top / "states")} | more
 
     def run(self, *words: str, within: str = "", **more: str) -> tuple[int, str]:
-        """The exit status, and what is said on standard error."""
+        """The exit status, and what is said on standard error but for how far it is."""
         done = subprocess.run([TOOL, *words], cwd=self.top / within, stdin=subprocess.DEVNULL, capture_output=True,
                               text=True, timeout=SECONDS, env=self.variables(**more))
-        return done.returncode, done.stderr
+        return done.returncode, PROGRESS.sub("", done.stderr)
 
     def runs(self) -> int:
         """How often `silc` ran since this was last asked, but for the look at the program itself."""
