@@ -21,8 +21,8 @@ ROOT = Path(__file__).resolve().parent.parent.parent
 SILC = Path(os.environ.get("SILC", ROOT / "crates" / "silc_main" / "out" / "silc_main")).resolve()
 REVERB = ROOT / "examples" / "reverb"
 SKIPPED, ROWS, CELLS, DELAY = 77, 1200, 1100, 1023
-# A delay of 1,023 samples by a memory of a latency: its store begins in cycle 1, and its load in one whose address comes
-# in the cycle before.
+# A delay of 1,023 samples by a memory of a latency: its store begins in cycle 1, and its load in one whose address
+# comes in the cycle before.
 HEAD = """\
 input 0 width 16
 unit 0 in latency 1 gap 1
