@@ -72,14 +72,14 @@ class Ruled:
             yield own
         if self.stages == 1:
             ends = max(self.problem.ruled.written(node) + 1 for node in self.problem.ruled.nodes)
-            places = places_of(self.problem, self.problem.ruled, ends)
-            if self.is_roomy or not places.lacking():
-                yield places
+            first = places_of(self.problem, self.problem.ruled, ends)
+            if self.is_roomy or not first.lacking():
+                yield first
             return
         last = self.datapath["period"] if own else LONGEST
         for period in range(Bounds(self.problem).least(), last):
-            if places := self.planned(period):
-                yield places
+            if least := self.planned(period):
+                yield least
                 return
 
     def planned(self, period: int) -> Places | None:
