@@ -31,6 +31,8 @@ class Places:
     units: list[int]
     cycles: list[int]
     buses: dict[tuple[int, Port], int] = field(default_factory=dict)
+    # Whether some of these are not the first that are free in the order of the nodes.
+    has_own_buses: bool = False
 
     def written(self, v: int) -> int:
         """The cycle in which the result of a node is there."""

@@ -5,9 +5,9 @@ from collections.abc import Iterator
 from typing import Any
 
 from silc.exploring.template import text_of
-from silc.planning.places import Places
-from silc.planning.problem import Problem
-from silc.planning.search import first_of
+from silc.pictures.plan import Plan
+from silc.planning.places import Places, Unfit
+from silc.planning.problem import Port, Problem
 from silc.planning.windows import LONGEST, Bounds
 from silc.running import ran
 
@@ -72,13 +72,14 @@ class Ruled:
             yield own
         if self.stages == 1:
             ends = max(self.problem.ruled.written(node) + 1 for node in self.problem.ruled.nodes)
-            if places := first_of(self.problem, ends, self.is_roomy):
-                yield places
+            first = places_of(self.problem, self.problem.ruled, ends)
+            if self.is_roomy or not first.lacking():
+                yield first
             return
         last = self.datapath["period"] if own else LONGEST
         for period in range(Bounds(self.problem).least(), last):
-            if places := self.planned(period):
-                yield places
+            if least := self.planned(period):
+                yield least
                 return
 
     def planned(self, period: int) -> Places | None:
@@ -86,16 +87,28 @@ class Ruled:
         status, said = self.said(self.datapath | {"period": period})
         if status:
             return None
-        ruled = Problem(said, self.datapath, self.stages)
-        places = Places(self.problem, period, [ruled.numbers[node.unit] for node in ruled.ruled.nodes],
-                        [node.cycle for node in ruled.ruled.nodes])
-        places.route()
-        return places
+        return places_of(self.problem, Problem(said, self.datapath, self.stages).ruled, period)
 
     def best(self) -> Places | None:
         """The shortest plan of the rules."""
         starts = list(self.starts())
         return min(starts, key=period_of) if starts else None
+
+
+def places_of(problem: Problem, ruled: Plan, period: int) -> Places:
+    """The places of a plan by the rules, with the first buses that are free or else with its own."""
+    places = Places(problem, period, [problem.numbers[node.unit] for node in ruled.nodes],
+                    [node.cycle for node in ruled.nodes])
+    try:
+        places.route()
+    except Unfit:
+        for node in ruled.nodes:
+            for transfer in node.transfers:
+                unit, _, port = transfer.file.rpartition(".")
+                file = Port(problem.numbers[unit], int(port))
+                places.buses[node.number, file] = problem.buses.index(transfer.bus)
+        places.has_own_buses = True
+    return places
 
 
 def period_of(places: Places) -> int:

@@ -231,15 +231,3 @@ class Finder:
                     self.best = annealing.best
                     _, unroll, bits = annealing.judged
                     self.say(f"{bits} bits of registers ({self.best.count()} of them), unroll {unroll}")
-
-
-def first_of(problem: Problem, period: int, is_roomy: bool) -> Places | None:
-    """The plan of the rules, whose text the problem is made from, in a period in which it ends."""
-    ruled = problem.ruled
-    places = Places(problem, period, [problem.numbers[node.unit] for node in ruled.nodes],
-                    [node.cycle for node in ruled.nodes])
-    try:
-        places.route()
-    except Unfit:
-        return None
-    return places if is_roomy or not places.lacking() else None
