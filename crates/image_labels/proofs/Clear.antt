@@ -26,7 +26,8 @@ use Rattle.image_labels.specs.Labels.{turn_of, word_in, delay_on, issued_in, end
 use Rattle.image_labels.specs.Labelled.{IsDrive, IsTaken}
 use Rattle.image_labels.specs.Run.{Run, rows_of, IsRight}
 use Rattle.image_labels.proofs.Frames.{cell_below}
-use Rattle.image_labels.proofs.Turns.{word_is, issue_is, issued_fit, issued_among, ends_in_turn, some_cycle, same_number}
+use Rattle.image_labels.proofs.Turns.{word_is, issue_is, issued_fit, issued_among, ends_in_turn, some_cycle}
+use Rattle.image_labels.proofs.Turns.{same_number}
 use Rattle.image_labels.proofs.Issues.{address_says, unit_valid, on_unit}
 use Rattle.image_labels.proofs.Steps.{result_is}
 use Rattle.image_labels.proofs.AllRight.{all_right}
@@ -88,7 +89,8 @@ module _ {g : Graph} {image : Image} {certificate : Certificate} (run : Run g im
           sym (issue_is run q r u in-r) ∙ ap (λ t. issue_at micro t u) (sym whole) ∙ was in
           let unit : issue.unit ≡ u = (issued_among run c u issue now).1 in
           let in-u : u < length image.units =
-          subst (λ u. u < length image.units) unit (on_unit run c issue below (issued_among run c u issue now).0).there in
+          subst (λ u. u < length image.units) unit
+          (on_unit run c issue below (issued_among run c u issue now).0).there in
           let gap : (unit_of micro u).gap ≤ (unit_of micro u).latency = (unit_valid run u in-u).gap.1 in
           let ends : r + delay_on image u < T = ends_in_turn run r u earlier in-r then' in
           let free : (b : ℕ) → b < c → c < b + (unit_of micro u).gap → issued_in (word_in image b) u ≡ None =

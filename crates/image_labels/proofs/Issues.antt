@@ -214,6 +214,6 @@ module _ {g : Graph} {image : Image} {certificate : Certificate} (run : Run g im
     -- what it comes to
     pub issue_says :
         Says run k (issue_label certificate c issue.unit)
-        (value (microprogram_of image) (rows_of run)
-        (Log (microprogram_of image) (rows_of run) (k * turn_of image + c)) (k * turn_of image + c) issue)
+        (value (microprogram_of image) (rows_of run) (Log (microprogram_of image) (rows_of run) (k * turn_of image + c))
+        (k * turn_of image + c) issue)
     issue_says = label_says (issue_label certificate c issue.unit) fit.label

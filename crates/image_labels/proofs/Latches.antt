@@ -149,8 +149,7 @@ module _ {g : Graph} {image : Image} {certificate : Certificate} (run : Run g im
 
     all_writes : (e j : ℕ)
         → e < P
-        → Each (WritesAt (Latch j) (wanted j))
-        (entries_by micro z (Log micro z (k * T + cycle e)) (k * T + cycle e))
+        → Each (WritesAt (Latch j) (wanted j)) (entries_by micro z (Log micro z (k * T + cycle e)) (k * T + cycle e))
     all_writes e j less =
         each_write micro z (Log micro z (k * T + cycle e)) (k * T + cycle e) (WritesAt (Latch j) (wanted j))
         (λ take driver v among drives is h. absurd (cc))
@@ -199,8 +198,7 @@ module _ {g : Graph} {image : Image} {certificate : Certificate} (run : Run g im
     -- at the end of the sample the latch holds the word of its node
     pub latch_right : (j : ℕ)
         → j < image.outs
-        → Content (microprogram_of image) (rows_of run) (Latch j)
-        ((k * image.unroll + m + 1) * image.period)
+        → Content (microprogram_of image) (rows_of run) (Latch j) ((k * image.unroll + m + 1) * image.period)
         ≡ run.words (first_output g + j) (pos (k * image.unroll + m))
     latch_right j in-j =
         let row : IsRowWord image m j = run.fits.rows m j in-turn in-j in

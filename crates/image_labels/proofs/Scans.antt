@@ -1,5 +1,6 @@
 -- How the labels of places are found: from a cycle back to the last write.
-use Rattle.std.proofs.Common.{◌≡◌, ℕ, suc, ◌+◌, ◌-◌, ◌*◌, ◌<◌, ◌≤◌, ◌==◌, nat_le, refl, sym, ap, ◌∙◌, arith, Option, Some, None}
+use Rattle.std.proofs.Common.{◌≡◌, ℕ, suc, ◌+◌, ◌-◌, ◌*◌, ◌<◌, ◌≤◌, ◌==◌, nat_le, refl, sym, ap, ◌∙◌, arith, Option}
+use Rattle.std.proofs.Common.{Some, None}
 use Rattle.std.proofs.Common.{find, if◌then◌else◌, Bool, true, false, subst}
 use Rattle.fix_word.specs.declared.operation.Op.{Op}
 use Rattle.fix_word.specs.declared.operation.Op.TheVariants as op
@@ -45,7 +46,8 @@ module _ (image : Image) (certificate : Certificate) (c back before : ℕ) (less
       → cell_label image certificate u x (c - back) ≡ label
   cell_written u x o label ends stored =
       ap (cell_label image certificate u x) (some_before c back before less is)
-      ∙ ap (λ o. stored_label image certificate (before - delay_on image u) x o (cell_label image certificate u x before))
+      ∙ ap (λ o.
+      stored_label image certificate (before - delay_on image u) x o (cell_label image certificate u x before))
       ends
       ∙ stored
 
@@ -63,8 +65,7 @@ none_left c = omega arith
 
 pub register_first : (image : Image) (certificate : Certificate) (u p r c back : ℕ)
     → c ≤ back
-    → register_label image certificate u p r (c - back)
-    ≡ nth certificate.registers (u * 1024 + p * 256 + r) Unknown
+    → register_label image certificate u p r (c - back) ≡ nth certificate.registers (u * 1024 + p * 256 + r) Unknown
 register_first image certificate u p r c back le =
     ap (register_label image certificate u p r) (let e : c - back ≡ 0 = omega (arith, le) in e)
 

@@ -34,7 +34,8 @@ use Rattle.image_labels.specs.Labels.{stored_label, cell_label}
 use Rattle.image_labels.specs.Labelled.{IsFit, IsDrive, IsTaken}
 use Rattle.image_labels.specs.Run.{Run, rows_of, Says, IsRight}
 use Rattle.image_labels.proofs.Frames.{one_offset}
-use Rattle.image_labels.proofs.Turns.{word_is, issued_among, issued_fit, ending_is, Ended, ended_is, began_in, same_number}
+use Rattle.image_labels.proofs.Turns.{word_is, issued_among, issued_fit, ending_is, Ended, ended_is, began_in}
+use Rattle.image_labels.proofs.Turns.{same_number}
 use Rattle.image_labels.proofs.Entries.{each_write, taken_among, stored_among, only_one, taken_write, stored_write}
 use Rattle.image_labels.proofs.Issues.{issue_says, operand_says, address_says}
 
@@ -132,7 +133,8 @@ module _ {g : Graph} {image : Image} {certificate : Certificate} (run : Run g im
           subst (λ a. Says run k (issue_label certificate b u) (value micro z log a issue)) (sym begun)
           (subst (Says run k (issue_label certificate b u))
           (sym (value-old micro z (k * T + b) t issue (omega (arith, early))))
-          (subst (λ u. Says run k (issue_label certificate b u) (value micro z (Log micro z (k * T + b)) (k * T + b) issue))
+          (subst
+          (λ u. Says run k (issue_label certificate b u) (value micro z (Log micro z (k * T + b)) (k * T + b) issue))
           on_it
           (issue_says run k b in_turn in_run (right b early) issue among)))
 
@@ -280,14 +282,16 @@ module _ {g : Graph} {image : Image} {certificate : Certificate} (run : Run g im
 
     -- cells
 
-    module _ (u x : ℕ) (in-u : u < length image.units) (in-x : x < length (unit_of (microprogram_of image) u).cells) where
+    module _ (u x : ℕ) (in-u : u < length image.units)
+        (in-x : x < length (unit_of (microprogram_of image) u).cells) where
       abbrev m : ℕ
       m = length (unit_of micro u).cells
 
       abbrev place : Place
       place = Cell u (cell_in m 0 x (k * image.unroll))
 
-      unstored : ((v : ℕ) (issue : Issue)
+      unstored :
+          ((v : ℕ) (issue : Issue)
           → ending micro t v ≡ Some issue
           → issue.op ≡ op.Store
           → Cell issue.unit (to_nat (operand micro log (began micro t v) issue 0)) ≡ place
@@ -319,7 +323,9 @@ module _ {g : Graph} {image : Image} {certificate : Certificate} (run : Run g im
       stored_is issue ends is y at =
           let unit : issue.unit ≡ u = on_it u issue ends in
           subst
-          (λ v. operand_label image certificate (c - delay_on image u) issue 0 ≡ Address (length (unit_of micro v).cells) y
+          (λ v.
+          operand_label image certificate (c - delay_on image u) issue 0
+          ≡ Address (length (unit_of micro v).cells) y
           → operand micro log (began micro t u) issue 0
           ≡ pos (cell_in (length (unit_of micro v).cells) 0 y (k * image.unroll)))
           unit (cell_is u issue ends y (subst IsMemory (sym is) (tt {0}))) at
@@ -332,7 +338,8 @@ module _ {g : Graph} {image : Image} {certificate : Certificate} (run : Run g im
           (λ v.
           (y : ℕ)
           × (y < length (unit_of micro v).cells)
-          × (operand_label image certificate (c - delay_on image u) issue 0 ≡ Address (length (unit_of micro v).cells) y))
+          × (operand_label image certificate (c - delay_on image u) issue 0
+          ≡ Address (length (unit_of micro v).cells) y))
           (on_it u issue ends)
           ((fits u issue ends).in_ram (subst IsMemory (sym is) (tt {0})))
 
@@ -380,7 +387,8 @@ module _ {g : Graph} {image : Image} {certificate : Certificate} (run : Run g im
           (each_write micro z log t (WritesAt place v)
           (λ take driver v among' drives is h. absurd (cc))
           (λ w found ends' is' h.
-          let to : Cell found.unit (to_nat (operand micro log (began micro t w) found 0)) ≡ place = same_sound _ place h in
+          let to : Cell found.unit (to_nat (operand micro log (began micro t w) found 0)) ≡ place =
+          same_sound _ place h in
           let now : ended_in image c u ≡ Some found = its_ram w found _ ends' to in
           let there : found.unit ≡ w = on_it w found (sym (ending_is run k c w below) ∙ ends') in
           let here : found.unit ≡ u = on_it u found now in
@@ -419,7 +427,8 @@ module _ {g : Graph} {image : Image} {certificate : Certificate} (run : Run g im
           → (b : Bool)
           → (y == x) ≡ b
           → Before
-          → After (if b then operand_label image certificate (c - delay_on image u) issue 1
+          → After (if b
+          then operand_label image certificate (c - delay_on image u) issue 1
           else cell_label image certificate u x c)
       unfolding After
       store_by issue ends is y in-y at true same before =

@@ -20,8 +20,7 @@ module _ (g : Graph) (image : Image) (certificate : Certificate) (valid : IsVali
   unit_valid : (u : ℕ) → u < length image.units → IsUnit image.units (unit_of (microprogram_of image) u)
   unit_valid u below = valid.units u no_unit below
 
-  pub labelled :
-      image.outs ≡ g.outs
+  pub labelled : image.outs ≡ g.outs
       → ((c : ℕ) → c < turn → IsFitCycle g image certificate c)
       → ((u : ℕ) → u < 32 → (p : ℕ) → p < 3 → (r : ℕ) → r < 256 → IsRegisterStart g image certificate turn u p r)
       → ((u : ℕ)
