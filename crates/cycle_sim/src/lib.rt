@@ -17,5 +17,4 @@ mod values;
 
 pub use machine::{LoadFault, Machine};
 pub use micro_image::{Conflict, ConflictKind};
-pub use microcode::Microcode;
 pub use order::{Spot, Wrote};

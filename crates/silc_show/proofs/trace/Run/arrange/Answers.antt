@@ -3,7 +3,9 @@ use Rattle.silc_show.proofs.trace.Run.arrange.Goals as goal
 
 pub returns-in-Some : goal.returns-in-Some
 returns-in-Some c = record {
-  sound = c.requires.sound;
+  valid = c.requires.valid;
+  same = c.requires.same;
+  alone = c.requires.alone;
   all_units = IsPermutation-trans _ _ _ c.requires.all_units c.arrange.ensures;
   time = c.requires.time;
 }
