@@ -73,7 +73,6 @@ show manifests|words *
 show image *.mic
 show guarded *.sil *.toml -
 show trace *.mic * - - -
-show trace *.sil *.toml - * - - -
 show datapath *.toml
 show rows - *
 show repeat - - *

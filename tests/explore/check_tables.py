@@ -391,7 +391,8 @@ def dsp_faults(room: Path, silc: Path) -> Iterator[str]:
         done = tried(room, silc, "--pool", "--area", "ice40", *options, source="dsp.sil", template="dsp.ranges",
                      out="dsp")
         script = (room / "yosys.log").read_text() if done.returncode == 0 else ""
-        if ("synth_ice40 -dsp" in script) != is_dsp or ",multipliers\n" not in (room / "dsp.area.csv").read_text():
+        columns = (room / "dsp.area.csv").read_text().splitlines()[0].split(",")
+        if ("synth_ice40 -dsp" in script) != is_dsp or "multipliers" not in columns:
             yield f"--area ice40 {options}: {done.returncode} {done.stderr} {script}"
 
 
