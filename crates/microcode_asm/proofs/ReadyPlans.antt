@@ -22,8 +22,8 @@ use Rattle.plan_soundness.specs.Feasible.{IsFeasiblePlanOver}
 use Rattle.plan_soundness.proofs.FromLowered.{made_at, made_as, own_below, graph_node}
 use Rattle.plan_soundness.proofs.Instances.{finds_instances}
 use Rattle.plan_soundness.proofs.RunsSolution.{plan_feasible, image_runs_solution}
-use Rattle.plan_soundness.proofs.Valid.{image_valid, image_short}
-use Rattle.microcode_asm.specs.Planned.{IsPlanned}
+use Rattle.plan_soundness.proofs.Valid.{feasible_valid, feasible_short, image_valid, image_short}
+use Rattle.microcode_asm.specs.Planned.{IsPlanned, IsAssemblable}
 use Rattle.microcode_asm.specs.Private.Ready.{IsReady, samples_of}
 
 pub machine_of : (d : Datapath) → IsDatapath d → IsMachine d
@@ -68,19 +68,47 @@ module _ {o : Overlap} {hold spare : ℕ} (g : Graph) (d : Datapath) (p : Plan) 
             none_rise _ (ap (λ (node : Node). node.inits) made.is)
 
 -- a plan that is assembled is ready
+pub assemblable_ready : (d : Datapath) (p : Plan) → IsDatapath d → IsAssemblable d p → IsReady d p
+assemblable_ready d p path of = record {
+  graph = of.graph;
+  machine = machine_of d path;
+  plan = of.plan;
+  arcs = of.arcs;
+  slot_count = of.slot_count;
+  register_count = of.register_count;
+  copies = of.copies;
+  inits = inits_rise of.graph d p of.sound of.plan;
+}
+
+-- a plan by the rules can be assembled
+assemblable : (d : Datapath) (p : Plan) → IsDatapath d → IsPlanned d p → IsAssemblable d p
+assemblable d p path planned = record {
+  graph = planned.graph;
+  sound = planned.sound;
+  plan = plan_feasible planned.graph d p planned.sound (machine_of d path) planned.plan;
+  arcs = planned.plan.arcs.order;
+  slot_count = planned.plan.schedule.count;
+  register_count = planned.plan.registers.count;
+  copies = planned.plan.registers.copies;
+}
+
 pub ready : (d : Datapath) (p : Plan) → IsDatapath d → IsPlanned d p → IsReady d p
-ready d p path planned =
-    let machine = machine_of d path in
-    let feasible = plan_feasible planned.graph d p planned.sound machine planned.plan in record {
-      graph = planned.graph;
-      machine = machine;
-      plan = feasible;
-      arcs = planned.plan.arcs.order;
-      slot_count = planned.plan.schedule.count;
-      register_count = planned.plan.registers.count;
-      copies = planned.plan.registers.copies;
-      inits = inits_rise planned.graph d p planned.sound feasible;
-    }
+ready d p path planned = assemblable_ready d p path (assemblable d p path planned)
+
+-- the image of a feasible plan is valid, what spells it is short, and it runs the solution of the graph
+pub assemblable_valid : (d : Datapath) (p : Plan) (image : Image)
+    → IsDatapath d
+    → IsAssemblable d p
+    → IsImageOf d p image
+    → IsValid image
+assemblable_valid d p image path is of = feasible_valid is.graph d p is.sound (machine_of d path) is.plan image of
+
+pub assemblable_short : (d : Datapath) (p : Plan) (image : Image)
+    → IsDatapath d
+    → IsAssemblable d p
+    → IsImageOf d p image
+    → IsShort image
+assemblable_short d p image path is of = feasible_short is.graph d p is.sound (machine_of d path) is.plan image of
 
 -- its image is valid
 pub planned_valid : (d : Datapath) (p : Plan) (image : Image)
