@@ -8,6 +8,7 @@ use Rattle.signal_graph.specs.declared.graph.Node.{Node}
 use Rattle.signal_graph.specs.declared.graph.Graph.{Graph}
 use Rattle.plan_core.specs.IsPlan.{IsPlan}
 use Rattle.plan_core.specs.Lowered.{Origin, own, address, store, load, IsNumber, IsOwnOver, IsAddress, IsStore, IsLoad}
+use Rattle.plan_core.specs.declared.schedule.Schedule.{Schedule}
 use Rattle.plan_core.specs.declared.plan.Plan.{Plan}
 use Rattle.micro_image.specs.declared.image.Image.{Image}
 use Rattle.micro_image.specs.Size.{IsShort}
@@ -18,10 +19,11 @@ use Rattle.plan_soundness.specs.Machine.{IsMachine}
 use Rattle.plan_soundness.specs.Parts.{nodes_of, node_at}
 use Rattle.plan_soundness.specs.Run.{RunsSolution}
 use Rattle.plan_soundness.specs.Overlap.{Overlap}
+use Rattle.plan_soundness.specs.Placed.{IsPlacedPlan}
 use Rattle.plan_soundness.specs.Feasible.{IsFeasiblePlanOver}
 use Rattle.plan_soundness.proofs.FromLowered.{made_at, made_as, own_below, graph_node}
 use Rattle.plan_soundness.proofs.Instances.{finds_instances}
-use Rattle.plan_soundness.proofs.RunsSolution.{plan_feasible, image_runs_solution}
+use Rattle.plan_soundness.proofs.RunsSolution.{placed_feasible, placed_plan, image_runs_solution}
 use Rattle.plan_soundness.proofs.Valid.{feasible_valid, feasible_short, image_valid, image_short}
 use Rattle.microcode_asm.specs.Planned.{IsPlanned, IsAssemblable}
 use Rattle.microcode_asm.specs.Private.Ready.{IsReady, samples_of}
@@ -80,20 +82,27 @@ assemblable_ready d p path of = record {
   inits = inits_rise of.graph d p of.sound of.plan;
 }
 
--- a plan by the rules can be assembled
-assemblable : (d : Datapath) (p : Plan) → IsDatapath d → IsPlanned d p → IsAssemblable d p
-assemblable d p path planned = record {
-  graph = planned.graph;
-  sound = planned.sound;
-  plan = plan_feasible planned.graph d p planned.sound (machine_of d path) planned.plan;
-  arcs = planned.plan.arcs.order;
-  slot_count = planned.plan.schedule.count;
-  register_count = planned.plan.registers.count;
-  copies = planned.plan.registers.copies;
+-- a plan whose nodes are placed by whatever rule can be assembled
+pub placed_assemblable :
+    {Allows : Schedule → (height : ℕ → ℕ) → (v t : ℕ) → Type 0} (g : Graph) (d : Datapath) (p : Plan)
+    → IsDatapath d
+    → IsGraph g
+    → IsPlacedPlan Allows g d p
+    → IsAssemblable d p
+placed_assemblable g d p path sound plan = record {
+  graph = g;
+  sound = sound;
+  plan = placed_feasible g d p sound (machine_of d path) plan;
+  arcs = plan.arcs.order;
+  slot_count = plan.schedule.count;
+  register_count = plan.registers.count;
+  copies = plan.registers.copies;
 }
 
 pub ready : (d : Datapath) (p : Plan) → IsDatapath d → IsPlanned d p → IsReady d p
-ready d p path planned = assemblable_ready d p path (assemblable d p path planned)
+ready d p path planned =
+    assemblable_ready d p path
+    (placed_assemblable planned.graph d p path planned.sound (placed_plan planned.plan))
 
 -- the image of a feasible plan is valid, what spells it is short, and it runs the solution of the graph
 pub assemblable_valid : (d : Datapath) (p : Plan) (image : Image)

@@ -16,7 +16,8 @@ pub record IsPlanned (d : Datapath) (p : Plan) : Type 0 where
   pub sound : IsGraph graph
   pub plan : IsPlan graph d p
 
--- it is a feasible plan of some sound graph, with its lifetimes in order and with a slot for each node and registers for
+-- it is a feasible plan of some sound graph, with its lifetimes in order and with a slot for each node and registers
+-- for
 -- each lifetime
 pub record IsAssemblable (d : Datapath) (p : Plan) : Type 0 where
   pub graph : Graph

@@ -113,8 +113,8 @@ module _ (g : Graph) (stream : Rows) (words : Words) (sound : IsGraph g) (solves
       from n ago le = omega (arith, le)
 
 module _ {hold spare : ℕ} (g : Graph) (d : Datapath) (p : Plan) (sound : IsGraph g)
-    (lowered : IsLoweredOver hold spare g d p.assigned.lowered) (assigned : AreOnRightUnits d p.assigned) (stream : Rows)
-    (words : Words) (solves : GraphSolves g stream words) where
+    (lowered : IsLoweredOver hold spare g d p.assigned.lowered) (assigned : AreOnRightUnits d p.assigned)
+    (stream : Rows) (words : Words) (solves : GraphSolves g stream words) where
   -- the words of the nodes of the lowered list
   abbrev pub lowered_words : Counted
   lowered_words i s = word_by g d p words (slice_get (origins lowered.delays) i) i s
