@@ -15,26 +15,18 @@ use Rattle.micro_image.specs.Size.{IsShort}
 use Rattle.micro_image.specs.Valid.{IsValid}
 use Rattle.plan_soundness.specs.ImageOf.{IsImageOf}
 use Rattle.plan_soundness.specs.Instances.{FindsInstances}
-use Rattle.plan_soundness.specs.Machine.{IsMachine}
 use Rattle.plan_soundness.specs.Parts.{nodes_of, node_at}
 use Rattle.plan_soundness.specs.Run.{RunsSolution}
 use Rattle.plan_soundness.specs.Overlap.{Overlap}
 use Rattle.plan_soundness.specs.Placed.{IsPlacedPlan}
 use Rattle.plan_soundness.specs.Feasible.{IsFeasiblePlanOver}
+use Rattle.plan_soundness.proofs.Machines.{machine_of}
 use Rattle.plan_soundness.proofs.FromLowered.{made_at, made_as, own_below, graph_node}
 use Rattle.plan_soundness.proofs.Instances.{finds_instances}
 use Rattle.plan_soundness.proofs.RunsSolution.{placed_feasible, placed_plan, image_runs_solution}
 use Rattle.plan_soundness.proofs.Valid.{feasible_valid, feasible_short, image_valid, image_short}
 use Rattle.microcode_asm.specs.Planned.{IsPlanned, IsAssemblable}
 use Rattle.microcode_asm.specs.Private.Ready.{IsReady, samples_of}
-
-pub machine_of : (d : Datapath) → IsDatapath d → IsMachine d
-machine_of d is = record {
-  period = is.period;
-  unit_count = is.unit_count;
-  units = is.units;
-  bus_count = is.bus_count;
-}
 
 none_rise : (inits : List (ℕ × ℤ)) → inits ≡ [] → IsStrictlyIncreasing (samples_of inits)
 none_rise inits e =

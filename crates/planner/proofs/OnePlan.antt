@@ -50,7 +50,7 @@ use Rattle.planner.specs.declared.fault.PlanFault.TheVariants.{Memory}
 use Rattle.plan_soundness.proofs.Units.{on_right_units}
 use Rattle.planner.proofs.Asked.{schedulable, allottable}
 
-plan_from : (p q : Plan)
+pub plan_from : (p q : Plan)
     → p.assigned ≡ q.assigned
     → p.schedule ≡ q.schedule
     → p.arcs ≡ q.arcs
