@@ -1,7 +1,8 @@
 -- What `plan_at` answers.
 use Rattle.std.proofs.Common.{◌≡◌, ◌⊎◌, ◌∙◌, inl, inr, ⊎_elim, refl, sym, ap, subst, arith, ℕ, ◌+◌, ◌<◌, ◌≤◌, List}
 use Rattle.std.proofs.Common.{length, ext_get_or, Result, Ok, Err}
-use Rattle.std.specs.Prelude.{IfOk, IfErr}
+use Rattle.std.specs.Prelude.{IfOk, IfErr, IsErrAnd}
+use Rattle.std.proofs.lemmas.Result.{err_from_is_err_and}
 use Rattle.operations.specs.declared.units.PortRef.{PortRef}
 use Rattle.fix_word.specs.declared.types.SigType.{SigType}
 use Rattle.datapath.specs.Allowed.{IsDatapath}
@@ -61,6 +62,9 @@ use Rattle.placed_plan.specs.declared.fault.PlaceFault.TheVariants.{Memory}
 use Rattle.placed_plan.proofs.Placings.{at_alike}
 use Rattle.placed_plan.proofs.Units.{on_right}
 
+pub told : (r : Result Plan PlaceFault) (f : PlaceFault) → IsErrAnd r (λ (h : PlaceFault). h ≡ f) → r ≡ Err f
+told r f is = let x = err_from_is_err_and r is in x.1 ∙ ap (λ (h : PlaceFault). Err h) x.2
+
 -- What holds of a plan with its places.
 module _ (g : Graph) (d : Datapath) (places : List Place) (allowed : IsDatapath d) (sound : IsGraph g) (p : Plan)
     (is : IsPlanAt places g d p) where
@@ -95,7 +99,8 @@ module _ (g : Graph) (d : Datapath) (places : List Place) (allowed : IsDatapath 
     same_assigned : (b : Assigned) → IsLowered g d b.lowered → AreOnGivenUnits places d b → b ≡ a
     same_assigned b its there =
         let same = same_lowered b.lowered a.lowered its low in
-        let count : length b.units ≡ length a.units = there.count ∙ ap (λ (l : Lowered). length l.nodes) same ∙ sym on.count in
+        let count : length b.units ≡ length a.units =
+        there.count ∙ ap (λ (l : Lowered). length l.nodes) same ∙ sym on.count in
         let units = ext_get_or 0 b.units a.units count (λ i less.
         there.given i (omega (arith, less, there.count)) ∙ sym (on.given i (omega (arith, less, count, on.count)))) in
         ap (λ (l : Lowered). record { lowered = l; units = b.units }) same
@@ -253,6 +258,12 @@ module _ (g : Graph) (d : Datapath) (places : List Place) (allowed : IsDatapath 
         ⊎_elim (λ (e : f ≡ Memory). inr (ap (λ (x : PlaceFault). Err x) e))
         (λ (h : IsPlaceFault g d places f). absurd (plan_or_not p is f h)) why;
   }
+
+  pub answers : (r : Result Plan PlaceFault) (f : PlaceFault)
+      → r ≡ Err f
+      → (f ≡ Memory) ⊎ IsPlaceFault g d places f
+      → IsAnswer r
+  answers r f same why = subst IsAnswer (sym same) (fails f why)
 
   -- The faults of the passes.
 
