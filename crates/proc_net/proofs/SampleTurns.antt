@@ -1,5 +1,6 @@
 -- Turns of one processor for all cycles of a sample, and lists of turns one after the other.
-use Rattle.std.proofs.Common.{append_assoc, sym, ◌≡◌, ℕ, zero, suc, ◌+◌, ◌<◌, ◌==◌, Bool, true, false, not, ◌||◌, List, [], ◌∷◌, ◌++◌, length}
+use Rattle.std.proofs.Common.{append_assoc, sym, ◌≡◌, ℕ, zero, suc, ◌+◌, ◌<◌, ◌==◌, Bool, true, false, not, ◌||◌, List}
+use Rattle.std.proofs.Common.{[], ◌∷◌, ◌++◌, length}
 use Rattle.std.proofs.Common.{replicate, refl, ap, ◌∙◌, arith}
 use Rattle.std.specs.Prelude.{slice_set}
 use Rattle.std.specs.List.{All}
@@ -76,7 +77,8 @@ module _ (shape : NetShape) (p : ℕ) where
       → after_turns shape points (replicate (suc n) p)
       ≡ slice_set points p (record { taken = point.taken; ran = point.ran + 1; cycle = 0 })
   turns_left zero points point inside at later left =
-      turn_runs points _ (lacks_none points (rw at later)) (rw at (next_last (period_of shape p) point later (omega arith)))
+      turn_runs points _ (lacks_none points (rw at later))
+      (rw at (next_last (period_of shape p) point later (omega arith)))
   turns_left (suc n) points point inside at later left =
       let mid : Point = record { taken = point.taken; ran = point.ran; cycle = point.cycle + 1 } in
       ap (λ (qs : List Point). after_turns shape qs (replicate (suc n) p))

@@ -1,5 +1,6 @@
 -- What the samples of some processors have done so far, and those of all.
-use Rattle.std.proofs.Common.{◌≡◌, ℕ, ◌<◌, ◌≤◌, Bool, true, false, ◌||◌, List, [], ◌++◌, length, refl, ap, sym, ◌∙◌, subst}
+use Rattle.std.proofs.Common.{◌≡◌, ℕ, ◌<◌, ◌≤◌, Bool, true, false, ◌||◌, List, [], ◌++◌, length, refl, ap, sym, ◌∙◌}
+use Rattle.std.proofs.Common.{subst}
 use Rattle.std.proofs.Common.{arith, zero-add, ◌+◌, ◌∷◌}
 use Rattle.std.specs.List.{All, range_with_len}
 use Rattle.std.proofs.lemmas.List.Elements.{All-append}
@@ -11,7 +12,8 @@ use Rattle.net_turns.proofs.Rounds.{cycles_bound, turns_add, turns_keep}
 use Rattle.net_solution.specs.Solutions.{Parts, shape_of, IsNetSolution}
 use Rattle.proc_net.specs.Nets.{NetState, parts_of, points_of, sample_turns, turns_of_samples, all_samples, IsNetAt}
 use Rattle.proc_net.specs.Private.States.{IsState, TookTurns}
-use Rattle.proc_net.proofs.SampleTurns.{all_same_number, turns_after, runs_after, turns_lacking, turns_first, turns_later}
+use Rattle.proc_net.proofs.SampleTurns.{all_same_number, turns_after, runs_after, turns_lacking, turns_first}
+use Rattle.proc_net.proofs.SampleTurns.{turns_later}
 use Rattle.proc_net.proofs.SampleTurns.{turns_push}
 use Rattle.proc_net.proofs.Standing.{feeds_length, at_solution}
 
@@ -132,13 +134,11 @@ module _ (old new : NetState) (moved : Bool) (is : IsState old) (so : IsSoFar ol
         (turns_of_samples (shape_of (parts_of old)) (points_of old) (range_with_len 0 n)) moved)
         (sym (feeds_length old is)) so.took
 
-    pub samples_points :
-        points_of new
+    pub samples_points : points_of new
         ≡ after_turns (shape_of (parts_of old)) (points_of old) (all_samples (shape_of (parts_of old)) (points_of old))
     samples_points = all_took.points
 
-    pub samples_run :
-        moved
+    pub samples_run : moved
         ≡ some_runs (shape_of (parts_of old)) (points_of old) (all_samples (shape_of (parts_of old)) (points_of old))
     samples_run = all_took.some
 

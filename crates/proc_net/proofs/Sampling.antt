@@ -4,7 +4,8 @@ use Rattle.std.proofs.Common.{get_or, take, drop, replicate, Some, ℤ, refl, ap
 use Rattle.std.proofs.Common.{mul-le-mul_right}
 use Rattle.std.specs.Prelude.{slice_get, slice_set}
 use Rattle.std.proofs.Math.Nat.{mul-mod_left}
-use Rattle.std.proofs.lemmas.List.{length-append, length-replicate, length-map, get_or-map, map-set, append-nil, take_more}
+use Rattle.std.proofs.lemmas.List.{length-append, length-replicate, length-map, get_or-map, map-set, append-nil}
+use Rattle.std.proofs.lemmas.List.{take_more}
 use Rattle.std.proofs.lemmas.Option.{slice_get_read}
 use Rattle.lists.specs.Rows.{Rows}
 use Rattle.lists.proofs.Places.{some_at, some_once}
@@ -33,7 +34,8 @@ use Rattle.proc_net.proofs.Keeping.{keeps_more}
 use Rattle.proc_net.proofs.Reading.{feed_is}
 use Rattle.proc_net.proofs.SampleTurns.{all_same_number, turns_of_sample, sample_runs, turns_first}
 use Rattle.proc_net.proofs.Turned.{Begins, BeginsBy, lacks_says, row_now, row_there}
-use Rattle.proc_net.proofs.Turning.{inside, feed_inside, image_inside, at, point, more, more_fed, period, cycle, program}
+use Rattle.proc_net.proofs.Turning.{inside, feed_inside, image_inside, at, point, more, more_fed, period, cycle}
+use Rattle.proc_net.proofs.Turning.{program}
 use Rattle.proc_net.proofs.Turning.{read, row_count, row_words, micro_period, stands, small, width, can_run}
 
 -- the cycles of a whole sample
@@ -177,7 +179,8 @@ module _ (net : NetState) (is : IsState net) (p : ℕ) (own : Processor) (old_ro
 
     point_new : point_at new ≡ record { taken = own.taken + 1; ran = own.ran + 1; cycle = 0 }
     point_new =
-        ran.point ∙ ap (λ (n : ℕ). let x : Point = record { taken = own.taken + 1; ran = own.ran + 1; cycle = n } in x) first
+        ran.point
+        ∙ ap (λ (n : ℕ). let x : Point = record { taken = own.taken + 1; ran = own.ran + 1; cycle = n } in x) first
 
     points_inside : p < length (points_of net)
     points_inside =
@@ -239,10 +242,12 @@ module _ (net : NetState) (is : IsState net) (p : ℕ) (own : Processor) (old_ro
         ≡ latches micro (so_far ++ sample_rows micro row) (length so_far + micro.period))
         (program net is p own old_row row there old_there runs_now row_is same) (ran.row_is so_far stands_own) in
         row_put (program_of (parts_of net) p) (fed (parts_of net) is.puts p) (get_or is.puts p [])
-        (is.solved.solution.runs p (image_inside net is p own old_row row there old_there runs_now row_is same)) own.ran 0
+        (is.solved.solution.runs p (image_inside net is p own old_row row there old_there runs_now row_is same)) own.ran
+        0
         row fed_more row_is some_cycles (row_in new.put (own.ran % own.places))
         (latched
-        ∙ ap (λ (z : Rows). latches (program_of (parts_of net) p) z (length so_far + (program_of (parts_of net) p).period))
+        ∙ ap (λ (z : Rows).
+            latches (program_of (parts_of net) p) z (length so_far + (program_of (parts_of net) p).period))
         all
         ∙ ap (λ (n : ℕ). latches (program_of (parts_of net) p)
         (spread (program_of (parts_of net) p).period (take (own.ran + 1) (fed (parts_of net) is.puts p))) n) count)

@@ -17,11 +17,13 @@ loop-p-preserved c =
       | then-sample w ↦
           one_sample_more c.args.self.now c.loop-p.self c.sample.new.self c.loop-p.p c.loop-p.moved
           c.sample.result c.if-sample.moved c.loop-p.invariant c.sample.ensures.turns c.sample.ensures.unchanged
-          c.sample.ensures.at (w.moved-is ∙ after_one c.loop-p.moved ∙ ap (λ b. c.loop-p.moved || b) (sym w.if-sample.true))
+          c.sample.ensures.at
+          (w.moved-is ∙ after_one c.loop-p.moved ∙ ap (λ b. c.loop-p.moved || b) (sym w.if-sample.true))
       | else-sample w ↦
           one_sample_more c.args.self.now c.loop-p.self c.sample.new.self c.loop-p.p c.loop-p.moved
           c.sample.result c.if-sample.moved c.loop-p.invariant c.sample.ensures.turns c.sample.ensures.unchanged
-          c.sample.ensures.at (w.moved-is ∙ after_none c.loop-p.moved ∙ ap (λ b. c.loop-p.moved || b) (sym w.if-sample.false))
+          c.sample.ensures.at
+          (w.moved-is ∙ after_none c.loop-p.moved ∙ ap (λ b. c.loop-p.moved || b) (sym w.if-sample.false))
     ]
 
 state : (c : goal.After-loop-p) → IsState c.args.self.now
