@@ -31,7 +31,7 @@ pub fn sample_at(image: &Image, cycle: u16) -> u32
     1024 + u32::from(cycle / image.period)
 }
 
-fn edge_at(edges: &Edges, port: u32) -> Edge
+pub fn edge_at(edges: &Edges, port: u32) -> Edge
     ensures { result ≡ nth edges.now port no_edge }
 {
     let port = port as usize;
@@ -74,7 +74,11 @@ fn reads_operands(
         if (port as usize) < reads(issue.op) {
             let edge = edge_at(&node.edges, port);
             let label = operand_label(image, certificate, cycle, issue, port);
-            if !is_signal(label, edge.node, sample.saturating_sub(u32::from(edge.delay))) {
+            if !is_signal(
+                label,
+                edge.node,
+                sample.saturating_sub(u32::from(edge.delay)),
+            ) {
                 return false;
             }
         }
@@ -198,7 +202,7 @@ fn is_access(image: &Image, certificate: &Certificate, cycle: u16, issue: &Issue
     }
 }
 
-fn first_output(graph: &Graph) -> usize
+pub fn first_output(graph: &Graph) -> usize
     ensures { result ≡ first_output_in graph.now }
 {
     graph.nodes.len().saturating_sub(usize::from(graph.outs))
@@ -232,8 +236,7 @@ fn is_put(
     let unit = u32::from(issue.unit);
     let label = issue_label(certificate, cycle, unit);
     let ends = u32::from(cycle % image.period) + u32::from(delay_on(image, unit));
-    ends < u32::from(image.period)
-        && is_output(graph, label, issue.arg, sample_at(image, cycle))
+    ends < u32::from(image.period) && is_output(graph, label, issue.arg, sample_at(image, cycle))
 }
 
 /// Whether an issue is no output, or puts its word in its sample.

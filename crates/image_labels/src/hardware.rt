@@ -119,11 +119,7 @@ pub fn register_at(regs: &PortRegisters, port: u32) -> u8
     ensures { result ≡ nth regs.now port 0 }
 {
     let port = port as usize;
-    if port < regs.len() {
-        regs[port]
-    } else {
-        0
-    }
+    if port < regs.len() { regs[port] } else { 0 }
 }
 
 /// Whether an operation gives a result; a store and an output write a place.
@@ -145,11 +141,7 @@ fn word_at(words: &List<i64>, index: u32) -> i64
     ensures { result ≡ nth words.now index (pos 0) }
 {
     let index = index as usize;
-    if index < words.len() {
-        words[index]
-    } else {
-        0
-    }
+    if index < words.len() { words[index] } else { 0 }
 }
 
 fn word_of_file(files: &List<List<i64>>, port: u32, reg: u32) -> i64

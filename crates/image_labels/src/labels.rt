@@ -5,9 +5,7 @@ ghost use Rattle.micro_image.specs.Fields.{nth};
 ghost use Rattle.image_labels.specs.declared.label.Label.TheVariants.{Unknown, Signal};
 ghost use Rattle.image_labels.specs.Labels.{issue_label as label_of_issue, driven_label as label_of_bus, register_label as label_of_register, operand_label as label_of_operand, cell_label as label_of_cell, stored_label, word_in as word_of, is_address as is_address_of};
 
-use crate::hardware::{
-    delay_on, driver_of, ended_in, issued_in, register_at, take_into, word_in,
-};
+use crate::hardware::{delay_on, driver_of, ended_in, issued_in, register_at, take_into, word_in};
 use crate::label::{Certificate, Label};
 use fix_word::Op;
 use lists::List;
@@ -46,10 +44,7 @@ fn label_at(labels: &List<Label>, index: usize) -> Label
 pub fn issue_label(certificate: &Certificate, cycle: u16, unit: u32) -> Label
     ensures { result ≡ label_of_issue certificate.now cycle unit }
 {
-    label_at(
-        &certificate.issues,
-        usize::from(cycle) * 32 + unit as usize,
-    )
+    label_at(&certificate.issues, usize::from(cycle) * 32 + unit as usize)
 }
 
 /// The label that a register starts a turn with.
@@ -122,7 +117,7 @@ pub fn operand_label(
 }
 
 /// Whether the issue of a cycle stores into a cell.
-fn stores_into(
+pub fn stores_into(
     image: &Image,
     certificate: &Certificate,
     cycle: u16,

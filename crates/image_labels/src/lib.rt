@@ -8,10 +8,12 @@ mod hardware;
 mod label;
 mod labels;
 mod mismatch;
+mod recovery;
 mod rows;
 mod starts;
 mod validation;
 
 pub use label::{Certificate, Label};
 pub use mismatch::Mismatch;
+pub use recovery::recover;
 pub use validation::validate;

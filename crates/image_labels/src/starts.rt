@@ -50,12 +50,16 @@ fn is_register_start(
     match first_register(certificate, unit, port, reg) {
         Label::Unknown => true,
         Label::Signal(node, sample) => {
-            is_before(graph, node, sample, initial_register(image, unit, port, reg))
-                && is_signal(
-                    register_label(image, certificate, unit, port, reg, turn),
-                    node,
-                    later(sample, image.unroll),
-                )
+            is_before(
+                graph,
+                node,
+                sample,
+                initial_register(image, unit, port, reg),
+            ) && is_signal(
+                register_label(image, certificate, unit, port, reg, turn),
+                node,
+                later(sample, image.unroll),
+            )
         }
         Label::Address(_, _) => false,
     }

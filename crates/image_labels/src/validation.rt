@@ -13,11 +13,7 @@ use micro_image::Image;
 use signal_graph::Graph;
 
 /// Checks an image against a graph by labels. Nothing is asked of the certificate.
-pub fn validate(
-    graph: &Graph,
-    image: &Image,
-    certificate: &Certificate,
-) -> Result<(), Mismatch>
+pub fn validate(graph: &Graph, image: &Image, certificate: &Certificate) -> Result<(), Mismatch>
     requires graph { IsGraph graph.now }
     requires image { IsValid image.now }
     ensures runs { OnOk result (RunsSolution graph.now image.now) }
