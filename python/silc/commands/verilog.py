@@ -146,7 +146,7 @@ def check_inputs(parser: argparse.ArgumentParser, options: argparse.Namespace, l
     if options.stages and (options.datapath or options.full):
         parser.error("--stages has its datapath and its program")
     options.microcode = options.inputs[0]
-    if options.large and (options.stages or options.full or is_net(options.microcode)):
+    if getattr(options, "large", False) and (options.stages or options.full or is_net(options.microcode)):
         parser.error("--large is for a core of microcode, for its program alone")
     # --full is true alone, or a text.
     if is_net(options.microcode) and (options.datapath is not None or options.full not in (None, False)):
