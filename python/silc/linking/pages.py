@@ -60,12 +60,14 @@ of a block that has the name of a function.
 - The source's own lines stay where they are, so that a line of `silc` for the plain source is a line of the source; \
 the blocks come behind it, each function behind a comment of the file and line that it is from. `silc link --where \
 LINE plain.sil` says it for a line.
-- `silc check`, `silc explain` with each command that has a SRC, and `silc draw schedule` take the source with its \
-head too, as the language server does (`editor/README.md`): they link it, in a folder that vanishes where a program \
-has to read it, and tell places, lines and names in the source. What is in a block is told at the place in its file, \
-with the line of the source that uses it: `library/gate.sil:22:3-4: .. (of gate<W=16, T=9, S=6>, by amplifier.sil:1)`. \
-With `--library FOLDER` blocks of the folder come first. A block alone is looked at with its own numbers. Cures are \
-offered as edits where they are of the source itself, outside braces.
+- `silc check`, `silc explain` with each command that has a SRC, `silc draw schedule`, `silc values`, `silc ranges`, \
+`silc noise` and, in Python, `silc.Source(..)` take the source with its head too, as the language server does \
+(`editor/README.md`): they link it, in a folder that vanishes where a program has to read it, and tell places, lines \
+and names in the source. What is in a block is told at the place in its file, with the line of the source that uses \
+it: `library/gate.sil:22:3-4: .. (of gate<W=16, T=9, S=6>, by amplifier.sil:1)`. With `--library FOLDER` blocks of \
+the folder come first. A block alone is looked at with its own numbers. Cures are offered as edits where they are of \
+the source itself, outside braces; what would be one of a block, which others use too, is said in words alone. \
+Elements have the names that they have in the plain source.
 - What is wrong is told with file and place, and nothing is made: a block, a number or a value that there is not, a \
 block that uses itself, a name twice, and each fault that `silc eval` finds in the plain source, in the source or in \
 the block that has it.
