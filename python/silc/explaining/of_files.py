@@ -13,6 +13,8 @@ from silc.explaining.report import Report
 from silc.nets import NetFault, net_file_of
 
 INPUTS = ("SRC", "DP", "MIC", "NET", "SAMPLES")
+# The number of `/dev/full`, which is the same on every Linux.
+FULL_DEVICE = os.makedev(1, 7)
 
 
 def inputs_of(case: Case) -> Iterator[tuple[str, str]]:
@@ -121,14 +123,16 @@ def stat_fault(name: str) -> int | None:
     return None
 
 
+def is_full_device(found: os.stat_result) -> bool:
+    """Whether it is `/dev/full`, by its number."""
+    return stat.S_ISCHR(found.st_mode) and found.st_rdev == FULL_DEVICE
+
+
 def no_room(name: str, folder: str) -> tuple[str | None, str] | None:
-    """What the system says where there is no room for more, and the cure."""
-    try:
-        if os.path.exists(name) and stat.S_ISCHR(os.stat(name).st_mode):
-            with open(name, "wb", 0) as device:
-                device.write(b"\0")
-    except OSError as fault:
-        return fault.strerror, "give a name on a disk with room."
+    """What the system says where there is no room for more, and the cure. Nothing is written: a device may be a line to
+    a machine."""
+    if os.path.exists(name) and is_full_device(os.stat(name)):
+        return os.strerror(errno.ENOSPC), "give a name on a disk with room."
     room = os.statvfs(folder)
     if room.f_blocks > 0 and room.f_bavail == 0 or room.f_files > 0 and room.f_favail == 0:
         return os.strerror(errno.ENOSPC), f"make room on the disk of {place_of(folder)}, or give a name on another one."
