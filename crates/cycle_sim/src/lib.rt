@@ -17,4 +17,5 @@ mod values;
 
 pub use machine::{LoadFault, Machine};
 pub use micro_image::{Conflict, ConflictKind};
+pub use microcode::Microcode;
 pub use order::{Spot, Wrote};

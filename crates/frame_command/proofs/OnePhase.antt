@@ -1,5 +1,5 @@
 -- Where a frame is one sample, `frame` is `compile`.
-use Rattle.std.proofs.Common.{◌≡◌, ℕ, List, [], ap, ap₂, ◌∙◌, subst, inl, inr, arith}
+use Rattle.std.proofs.Common.{◌≡◌, ℕ, List, [], map, ap, ap₂, ◌∙◌, subst, inl, inr, arith}
 use Rattle.desk_core.specs.View.{Name, Content, View}
 use Rattle.desk_core.specs.Desk.{content_of}
 use Rattle.flow_graph.specs.PrunedGraph.{IsPrunedGraphOf}
@@ -19,6 +19,7 @@ use Rattle.plan_commands.specs.Plans.{IsUnplannedOver}
 use Rattle.plan_commands.specs.Refusals.{IsRefusal, IsRefused, IsPlanError}
 use Rattle.plan_commands.proofs.Compiled.{runs_the_solution}
 use Rattle.plan_commands.proofs.Complete.{path_allowed}
+use Rattle.plan_soundness.specs.ImageOf.{width_of}
 use Rattle.rate_unfold.proofs.OnePhase.{one_phase, same_program}
 use Rattle.rate_unfold.proofs.OneUnfolded.{one_unfolded}
 use Rattle.signal_graph.specs.Flat as flat
@@ -75,6 +76,8 @@ compiled_too s d microcode is =
       image_of = is.image_of;
       spelled = is.spelled;
       short = is.short;
+      inputs = is.image_of.inputs ∙ ap (map width_of) (over.planned.inputs ∙ graph.keeps.inputs);
+      outs = is.image_of.outs ∙ over.planned.outs ∙ graph.keeps.outs;
       runs =
           runs_the_solution is.program over.graph is.image graph
           (planned_runs over.graph is.path is.plan is.image (path_allowed d is.path over.described) graph.sound

@@ -45,7 +45,7 @@ pub enum NetFault {
     /// The processor has not one wire for each of its input words.
     #[error("wrong feeds of processor {0}")]
     Count(u8),
-    /// A wire brings a word that is not there, or that has another type than the input word.
+    /// A wire brings a word that is not there, or that has another shape than the input word.
     #[error("feed {word} of processor {proc} does not fit")]
     Feed {
         /// The processor that the wire leads to.

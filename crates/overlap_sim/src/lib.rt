@@ -16,5 +16,5 @@ mod words;
 
 pub use guarded::{Guarded, GuardedWord, Staged};
 pub use guarding::guard;
-pub use machine::GuardedMachine;
+pub use machine::{GuardedMachine, Unguarded, unguard};
 pub use stream::run_guarded;

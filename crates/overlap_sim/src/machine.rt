@@ -4,14 +4,15 @@ ghost use Rattle.std.specs.List.{All};
 ghost use Rattle.micro_image.specs.Run.{Stands};
 ghost use Rattle.micro_image.specs.Valid.{IsValid};
 ghost use Rattle.cycle_sim.specs.Machine.{IsOperand, state_of, sample_rows, IsAtSample, RanRows, MeetsConflictInSample, StoppedAt, IsOutputRow, AreLatches};
-ghost use Rattle.cycle_sim.specs.Microcode.{micro_of, inputs_of, IsSound};
+ghost use Rattle.cycle_sim.specs.Microcode.{micro_of, inputs_of, code_after, IsSound};
 ghost use Rattle.overlap_sim.specs.Guarded.{of_guarded, unguarded};
 ghost use Rattle.overlap_sim.specs.Private.Stages.{AllUpTo};
 
 use crate::guarded::Guarded;
 use crate::prologue::{last_stage, prologue, whole_words};
 use cycle_sim::Machine;
-use micro_image::{Conflict, Image};
+use lists::List;
+use micro_image::{Conflict, Image, Word};
 use overlap_plan::GuardFault;
 use std::alloc::Global;
 use std::marker::Model;
@@ -31,6 +32,15 @@ impl Model for GuardedMachine {
     ghost view = { λ guarded. guarded.machine };
 }
 
+/// What a guarded image comes to, for a machine that knows no stages.
+#[derive(Drop)]
+pub struct Unguarded {
+    /// The words of the first cycles, each of which leaves out what is not due yet.
+    pub prologue: List<Word>,
+    /// The image without the stages, whose words come from then on.
+    pub image: Image,
+}
+
 /// The image without the stages.
 fn whole_image(alloc: Global, guarded: Guarded, last: u8) -> Result<Image, GuardFault>
     requires { AllUpTo last guarded.words }
@@ -48,10 +58,26 @@ fn whole_image(alloc: Global, guarded: Guarded, last: u8) -> Result<Image, Guard
     })
 }
 
+/// What a machine obeys of a guarded image, which without its stages is a valid image: for so many samples as its latest
+/// stage says words of their own, and after these all of each word. Page `docs/MACHINE.md`, "Guarded words".
+///
+/// # Errors
+///
+/// `Memory` where no memory is left. The guarded image is dropped then.
+pub fn unguard(alloc: Global, guarded: Guarded) -> Result<Unguarded, GuardFault>
+    requires { IsValid (unguarded guarded) }
+    ensures sound { IfOk result (λ parts. IsSound (code_after parts.prologue parts.image)) }
+    ensures obeys { IfOk result (λ parts. micro_of (code_after parts.prologue parts.image) ≡ of_guarded guarded) }
+    ensures inputs { IfOk result (λ parts. parts.image.inputs ≡ guarded.inputs) }
+{
+    let last = last_stage(&guarded.words);
+    let prologue = prologue(alloc, &guarded, last)?;
+    let image = whole_image(alloc, guarded, last)?;
+    Ok(Unguarded { prologue, image })
+}
+
 impl GuardedMachine {
-    /// A machine before the first cycle of a guarded image, which without its stages is a valid image. For so many
-    /// samples as its latest stage says the machine has words of its own, which leave out what is not due yet; after
-    /// these all of each word is due.
+    /// A machine before the first cycle of a guarded image, which without its stages is a valid image.
     ///
     /// # Errors
     ///
@@ -62,10 +88,8 @@ impl GuardedMachine {
         ensures inputs { IfOk result (λ machine. inputs_of machine.code ≡ guarded.inputs) }
         ensures stands { IfOk result (λ machine. Stands (state_of machine) (of_guarded guarded) []) }
     {
-        let last = last_stage(&guarded.words);
-        let first = prologue(alloc, &guarded, last)?;
-        let image = whole_image(alloc, guarded, last)?;
-        match Machine::load_after(alloc, first, image) {
+        let parts = unguard(alloc, guarded)?;
+        match Machine::load_after(alloc, parts.prologue, parts.image) {
             Ok(machine) => Ok(GuardedMachine { machine }),
             Err(_) => Err(GuardFault::Memory),
         }

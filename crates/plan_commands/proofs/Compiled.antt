@@ -1,5 +1,5 @@
 -- Microcode that spells the image of a plan is compiled from the source that the plan is of.
-use Rattle.std.proofs.Common.{sym, subst, List, ℕ}
+use Rattle.std.proofs.Common.{◌∙◌, sym, ap, subst, List, ℕ, map}
 use Rattle.desk_core.specs.View.{Name, Content, View}
 use Rattle.loop_expand.proofs.ProgramSystem.{solves_system}
 use Rattle.micro_file.proofs.Unique.{Spells-unique, in_either}
@@ -8,6 +8,7 @@ use Rattle.micro_image.specs.Run.{IsRunOut}
 use Rattle.micro_image.specs.Spells.{SpellsIn}
 use Rattle.micro_image.specs.declared.image.Image.{Image}
 use Rattle.micro_image.specs.declared.version.Version.TheVariants.{Two}
+use Rattle.plan_soundness.specs.ImageOf.{width_of}
 use Rattle.plan_soundness.specs.Run.{RunsSolution}
 use Rattle.signal_graph.specs.declared.graph.Graph.{Graph}
 use Rattle.silage_syntax.specs.Tree.{Program}
@@ -49,6 +50,8 @@ module _ (src datapath : Name) (old new : View) (planned : Planned)
       image_of = of.image_of;
       spelled = of.spelled;
       short = of.short;
+      inputs = of.image_of.inputs ∙ ap (map width_of) (plan.plan.inputs ∙ plan.keeps.keeps.inputs);
+      outs = of.image_of.outs ∙ plan.plan.outs ∙ plan.keeps.keeps.outs;
       runs =
           runs_the_solution plan.program plan.graph of.image plan.keeps (of.runs plan.graph plan.keeps.sound plan.plan);
       period = of.image_of.period;

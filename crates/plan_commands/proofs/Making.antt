@@ -94,6 +94,8 @@ carries source datapath microcode h =
       described = over.described;
       image = h.image;
       spelled = h.spelled;
+      inputs = h.inputs;
+      outs = h.outs;
       runs = h.runs;
       period = h.period;
     }

@@ -1,5 +1,5 @@
 -- What `compile` promises of the microcode that it writes.
-use Rattle.std.specs.Prelude.{◌≡◌, ◌≤◌, ℕ, List, length}
+use Rattle.std.specs.Prelude.{◌≡◌, ◌≤◌, ℕ, List, length, map}
 use Rattle.lists.specs.Rows.{Rows}
 use Rattle.datapath.specs.Described.{IsPathOf}
 use Rattle.datapath.specs.declared.types.Datapath.{Datapath}
@@ -9,13 +9,13 @@ use Rattle.micro_image.specs.Run.{IsRunOut}
 use Rattle.micro_image.specs.declared.version.Version.TheVariants.{Two}
 use Rattle.micro_image.specs.Spells.{SpellsIn, Spells}
 use Rattle.plan_core.specs.declared.plan.Plan.{Plan}
-use Rattle.plan_soundness.specs.ImageOf.{IsImageOf}
+use Rattle.plan_soundness.specs.ImageOf.{IsImageOf, width_of}
 use Rattle.silage_lex.specs.Tokens.{HasTokens}
 use Rattle.silage_lex.specs.declared.Token.{Token}
 use Rattle.silage_parse.specs.Answers.{IsOnly}
 use Rattle.silage_syntax.specs.Tree.{Program}
 use Rattle.silage_meaning.specs.Value.{Words}
-use Rattle.silage_meaning.specs.Solves.{IsStream, IsOneSolution, out}
+use Rattle.silage_meaning.specs.Solves.{IsStream, IsOneSolution, input_types, output_types, out}
 use Rattle.silc_files.specs.Limits.{microcode_limit}
 use Rattle.plan_commands.specs.Plans.{IsPlannedOver}
 
@@ -32,9 +32,9 @@ RunsTheSolution program image =
     → (words : Words) × IsOneSolution program stream words
     × IsRunOut (microprogram_of image) stream (out program words (length stream))
 
--- The bytes of the source are one program, and the file describes a datapath. The microcode spells an image in version
--- 2
--- and nothing else, and that image runs the program's one solution in the datapath's period.
+-- The bytes of the source are one program, and the file describes a datapath. The microcode spells an image in version 2
+-- and nothing else. That image takes the program's input words in their widths, puts its output words, and runs the
+-- program's one solution in the datapath's period.
 pub record CarriesTheSolution (source datapath microcode : List ℕ) : Type 0 where
   pub tokens : List Token
   pub lexed : HasTokens source tokens
@@ -44,6 +44,8 @@ pub record CarriesTheSolution (source datapath microcode : List ℕ) : Type 0 wh
   pub described : IsPathOf datapath path
   pub image : Image
   pub spelled : SpellsOnly microcode image
+  pub inputs : image.inputs ≡ map width_of (input_types program)
+  pub outs : image.outs ≡ length (output_types program)
   pub runs : RunsTheSolution program image
   pub period : image.period ≡ path.period
 
@@ -59,5 +61,7 @@ pub record IsCompiled (source datapath microcode : List ℕ) : Type 0 where
   pub spelled : SpellsOnly microcode image
   -- so that every command reads it
   pub short : length microcode ≤ microcode_limit
+  pub inputs : image.inputs ≡ map width_of (input_types program)
+  pub outs : image.outs ≡ length (output_types program)
   pub runs : RunsTheSolution program image
   pub period : image.period ≡ path.period

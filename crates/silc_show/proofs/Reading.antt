@@ -20,6 +20,9 @@ use Rattle.micro_image.specs.Operations.{reads, kind_of}
 use Rattle.micro_image.specs.Spells.{Spells}
 use Rattle.micro_image.specs.Valid.{IsValid, IsWordOf, IsIssue, IsIssueOn, IsUnit, IsFormatFor, HasRegister, ports}
 use Rattle.micro_file.proofs.Unique.{Spells-unique}
+use Rattle.cycle_sim.specs.declared.microcode.Microcode.{Microcode}
+use Rattle.cycle_sim.specs.Microcode.{micro_of, IsSound}
+use Rattle.cycle_sim.proofs.ValidImage.{word_valid as word_valid_in}
 
 pub same_image : (bytes : List ℕ) (a b : Image) → Spells bytes a → Spells bytes b → a ≡ b
 same_image = Spells-unique
@@ -43,6 +46,10 @@ pub word_valid : (image : Image) (cycle : ℕ) → IsValid image → IsWordOf im
 word_valid image cycle valid =
     let count : length image.words ≡ image.unroll * image.period = omega (arith, valid.word_count) in
     valid.words _ no_word (rw count (mod-lt cycle (cycle_count image valid)))
+
+-- and the word that microcode obeys at a cycle is one that its image may have
+pub obeyed_valid : (code : Microcode) (cycle : ℕ) → IsSound code → IsWordOf code.image ((micro_of code).word_at cycle)
+obeyed_valid code cycle sound = word_valid_in code sound cycle
 
 -- a sample has no greater number than its cycles
 pub sample_below : (cycle period sample : ℕ) → cycle < 2 ^ 60 → sample ≡ cycle / period → sample < 2 ^ 60

@@ -1,5 +1,5 @@
 -- What the trace of a run rests on.
-use Rattle.std.specs.Prelude.{◌≡◌, ℕ, List, [], length, ℤ, slice_get, IsSomeAnd}
+use Rattle.std.specs.Prelude.{◌≡◌, ℕ, List, length, ℤ, slice_get, IsSomeAnd}
 use Rattle.std.specs.List.{All, range_with_len}
 use Rattle.std.specs.List.Sorted.{IsPermutation}
 use Rattle.lists.specs.Rows.{Rows}
@@ -7,9 +7,8 @@ use Rattle.operations.specs.declared.units.Kind.{Kind}
 use Rattle.operations.specs.Operations.{IsOperand}
 use Rattle.micro_image.specs.declared.image.Image.{Image}
 use Rattle.micro_image.specs.Spells.{Spells}
-use Rattle.micro_image.specs.Valid.{IsValid}
 use Rattle.cycle_sim.specs.Machine.{Snapshot}
-use Rattle.cycle_sim.specs.Microcode.{code_of}
+use Rattle.cycle_sim.specs.Microcode.{code_of, IsSound}
 
 -- the unit is there, and of the kind
 abbrev pub IsOfKind : Image → Kind → ℕ → Type 0
@@ -29,10 +28,8 @@ pub record IsMachineOf (bytes : List ℕ) (machine : Snapshot) : Type 0 where
   pub spelled : Spells bytes image
   pub code : machine.code ≡ code_of image
 
--- the machine obeys the image and is at this cycle, and the units are in some order
-pub record IsRunOf (image : Image) (order : List ℕ) (machine : Snapshot) (cycle : ℕ) : Type 0 where
-  pub valid : IsValid image
-  pub same : machine.code.image ≡ image
-  pub alone : machine.code.prologue ≡ []
-  pub all_units : IsPermutation (range_with_len 0 (length image.units)) order
+-- the machine obeys sound microcode and is at this cycle, and its units are in some order
+pub record IsRunAt (order : List ℕ) (machine : Snapshot) (cycle : ℕ) : Type 0 where
+  pub sound : IsSound machine.code
+  pub all_units : IsPermutation (range_with_len 0 (length machine.code.image.units)) order
   pub time : machine.cycle ≡ cycle

@@ -1,13 +1,14 @@
 //! The cycle of a conflict: its microword, with a mark at what is in conflict.
 
 ghost use Rattle.std.specs.Prelude.{◌<◌, length};
-ghost use Rattle.micro_image.specs.Valid.{IsIssue, IsValid};
+ghost use Rattle.cycle_sim.specs.Microcode.{IsSound};
+ghost use Rattle.micro_image.specs.Valid.{IsIssue, IsValid, IsWordOf};
 
 use crate::contents::Contents;
 use crate::image::{put_drive, put_issue, put_take};
 use crate::page::Page;
-use cycle_sim::{Conflict, ConflictKind};
-use micro_image::{Enable, Image, Issue, Take};
+use cycle_sim::{Conflict, ConflictKind, Microcode};
+use micro_image::{Enable, Image, Issue, Take, Word};
 
 /// Ends a line, with a mark where it is in conflict.
 fn end_line(page: &mut Page, in_conflict: bool) {
@@ -17,17 +18,26 @@ fn end_line(page: &mut Page, in_conflict: bool) {
     page.end();
 }
 
-/// The last cycle before this one in which a unit was issued something with which it is busy.
-fn busy_since(image: &Image, unit: u8, cycle: u64) -> Option<u64>
-    requires valid { IsValid image.now }
-    requires unit { unit < length image.now.units }
+/// The word that is obeyed at a cycle.
+#[tactic(auto, using(crate::proofs::Reading::obeyed_valid))]
+pub fn word_at(code: &Microcode, cycle: u64) -> &Word
+    requires { IsSound code.now }
+    ensures { IsWordOf code.now.image result.now }
 {
-    for back in 1..image.units[unit as usize].gap {
+    code.word_at(cycle as usize)
+}
+
+/// The last cycle before this one in which a unit was issued something with which it is busy.
+fn busy_since(code: &Microcode, unit: u8, cycle: u64) -> Option<u64>
+    requires sound { IsSound code.now }
+    requires unit { unit < length code.now.image.units }
+{
+    for back in 1..code.image.units[unit as usize].gap {
         let back = u64::from(back);
         if back > cycle {
             return None;
         }
-        for issue in &image.word_at(cycle - back).issues {
+        for issue in &word_at(code, cycle - back).issues {
             if issue.unit == unit {
                 return Some(cycle - back);
             }
@@ -36,11 +46,11 @@ fn busy_since(image: &Image, unit: u8, cycle: u64) -> Option<u64>
     None
 }
 
-fn put_busy(page: &mut Page, image: &Image, unit: u8, cycle: u64)
-    requires valid { IsValid image.now }
-    requires unit { unit < length image.now.units }
+fn put_busy(page: &mut Page, code: &Microcode, unit: u8, cycle: u64)
+    requires sound { IsSound code.now }
+    requires unit { unit < length code.now.image.units }
 {
-    if let Some(began) = busy_since(image, unit, cycle) {
+    if let Some(began) = busy_since(code, unit, cycle) {
         page.number("  busy with the issue of cycle ", began);
         page.end();
     }
@@ -58,24 +68,24 @@ fn put_address(page: &mut Page, image: &Image, contents: &Contents, issue: &Issu
 
 fn put_issue_in(
     page: &mut Page,
-    image: &Image,
+    code: &Microcode,
     contents: &Contents,
     conflict: Conflict,
     issue: &Issue,
 )
-    requires valid { IsValid image.now }
-    requires issue { IsIssue image.now issue.now }
+    requires sound { IsSound code.now }
+    requires issue { IsIssue code.now.image issue.now }
 {
     let there = u16::from(issue.unit) == conflict.place;
     let early = there && conflict.kind == ConflictKind::Busy;
     let outside = there && conflict.kind == ConflictKind::Address;
     put_issue(page, issue);
     if outside {
-        put_address(page, image, contents, issue);
+        put_address(page, &code.image, contents, issue);
     }
     end_line(page, early || outside);
     if early {
-        put_busy(page, image, issue.unit, conflict.cycle);
+        put_busy(page, code, issue.unit, conflict.cycle);
     }
 }
 
@@ -105,16 +115,15 @@ fn put_take_in(page: &mut Page, conflict: Conflict, take: Take) {
 }
 
 /// Ends the line of the conflict's cycle, and puts those of its microword.
-#[tactic(auto, using(crate::proofs::Reading::word_valid))]
-pub fn put_conflict(page: &mut Page, image: &Image, contents: &Contents, conflict: Conflict)
-    requires { IsValid image.now }
+pub fn put_conflict(page: &mut Page, code: &Microcode, contents: &Contents, conflict: Conflict)
+    requires { IsSound code.now }
 {
     page.shown(" conflict: ", &conflict.kind);
     page.number(" ", conflict.place);
     page.end();
-    let word = image.word_at(conflict.cycle);
+    let word = word_at(code, conflict.cycle);
     for issue in &word.issues {
-        put_issue_in(page, image, contents, conflict, issue);
+        put_issue_in(page, code, contents, conflict, issue);
     }
     for drive in &word.enables {
         put_drive_in(page, conflict, *drive);

@@ -2,7 +2,10 @@
 
 ghost use Rattle.std.specs.Prelude.{◌≤◌, IfOk};
 ghost use Rattle.datapath.specs.Allowed.{IsDatapath};
+ghost use Rattle.cycle_sim.specs.Microcode.{code_after, IsSound};
+ghost use Rattle.micro_image.specs.Valid.{IsValid};
 ghost use Rattle.overlap_plan.specs.StagePlanned.{IsStagePlanned};
+ghost use Rattle.overlap_sim.specs.Guarded.{unguarded};
 ghost use Rattle.signal_graph.specs.GraphRules.{IsGraph};
 ghost use Rattle.signal_graph.specs.GraphSolves.{IsGraphLoopless};
 
@@ -12,7 +15,7 @@ use crate::page::{Page, Refused};
 use crate::path::datapath_of;
 use datapath::Datapath;
 use overlap_plan::{GuardFault, StageFault, StagePlan, stage_plan};
-use overlap_sim::{Guarded, GuardedWord, guard};
+use overlap_sim::{Guarded, GuardedWord, Unguarded, guard, unguard};
 use signal_graph::Graph;
 
 /// How many stages a plan has.
@@ -105,16 +108,43 @@ fn put_guarded(page: &mut Page, guarded: &Guarded) {
     }
 }
 
-/// Puts the guarded image of a source over so many stages on the datapath of a file.
-pub fn put(page: &mut Page, source: &[u8], path: &[u8], stages: Stages) -> Result<(), Refused> {
+/// The guarded image of a source over so many stages on the datapath of a file.
+fn guarded_of(
+    page: &mut Page,
+    source: &[u8],
+    path: &[u8],
+    stages: Stages,
+) -> Result<Guarded, Refused>
+    ensures { IfOk result (λ guarded. IsValid (unguarded guarded)) }
+{
     let graph = graph_of(page, source)?;
     let path = datapath_of(page, path)?;
     let plan = stage_plan_over(page, &graph, &path, stages)?;
     match guard(page.alloc, &plan, &path) {
-        Ok(guarded) => {
-            put_guarded(page, &guarded);
-            Ok(())
-        }
+        Ok(guarded) => Ok(guarded),
         Err(GuardFault::Memory) => Err(page.cut()),
     }
+}
+
+/// What a machine obeys of the guarded image of a source.
+pub fn unguarded_of(
+    page: &mut Page,
+    source: &[u8],
+    path: &[u8],
+    stages: Stages,
+) -> Result<Unguarded, Refused>
+    ensures { IfOk result (λ parts. IsSound (code_after parts.prologue parts.image)) }
+{
+    let guarded = guarded_of(page, source, path, stages)?;
+    match unguard(page.alloc, guarded) {
+        Ok(parts) => Ok(parts),
+        Err(GuardFault::Memory) => Err(page.cut()),
+    }
+}
+
+/// Puts the guarded image of a source over so many stages on the datapath of a file.
+pub fn put(page: &mut Page, source: &[u8], path: &[u8], stages: Stages) -> Result<(), Refused> {
+    let guarded = guarded_of(page, source, path, stages)?;
+    put_guarded(page, &guarded);
+    Ok(())
 }

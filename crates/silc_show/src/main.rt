@@ -34,7 +34,7 @@ use crate::guarded::stages_named;
 use crate::page::{Page, Refused};
 use crate::plans::plan_call_named;
 use crate::repeat::call_named;
-use crate::trace::{Span, View};
+use crate::trace::{Program, Span, Staged, View};
 use anyhow::{Context, Result};
 use std::process::ExitCode;
 use std::rt::{Env, Files};
@@ -42,7 +42,8 @@ use std::{env, fs};
 
 const USAGE: &str =
     "usage: silc_show tokens|tree|text|names|elements|types|graph SRC | origins SRC DP | values SRC SAMPLES \
-     | manifests|words TABLE | image MIC | guarded SRC DP S | trace MIC SAMPLES [FROM TO [ORDER]] | datapath DP \
+     | manifests|words TABLE | image MIC | guarded SRC DP S | trace MIC SAMPLES [FROM TO [ORDER]] \
+     | trace SRC DP S SAMPLES [FROM TO [ORDER]] | datapath DP \
      | rows WIDTHS SAMPLES | repeat CALL TURNS FILE | repeat assign|plan|stages-S|allot|assemble TURNS SRC DP";
 
 const BAD_WORDS: u8 = 2;
@@ -200,7 +201,38 @@ fn show_trace<R: Files + Print + AllocGlobal>(
         return Ok(false);
     };
     let (mic, samples) = read_both(rt, mic.as_str(), samples.as_str())?;
-    trace::print(rt, page, &mic, &samples, view)
+    trace::print(rt, page, Program::Microcode(&mic), &samples, view)
+}
+
+/// Shows a run of a source over stages in the same way. `false`: there is no such number of stages either.
+fn show_staged_trace<R: Files + Print + AllocGlobal>(
+    rt: &R,
+    page: &mut Page,
+    words: &[String],
+) -> Result<bool> {
+    let [source, path, stages, samples, view @ ..] = words else {
+        return Ok(false);
+    };
+    let (Some(stages), Some(view)) = (stages_named(stages.as_str()), view_of(view)) else {
+        return Ok(false);
+    };
+    let (source, path) = read_both(rt, source.as_str(), path.as_str())?;
+    let samples = read(rt, samples.as_str())?;
+    let staged = Staged {
+        source: &source,
+        path: &path,
+        stages,
+    };
+    trace::print(rt, page, Program::Staged(staged), &samples, view)
+}
+
+/// Whether the words of a trace are those of a source over stages: four with no number at their end, or more than a run
+/// of microcode has.
+fn names_stages(words: &[String]) -> bool {
+    match words {
+        [_, _, _, last] => last.as_str().parse::<u64>().is_err(),
+        _ => words.len() > 5,
+    }
 }
 
 /// Puts what the turns of a call add up to. `false`: no call has this name, or the turns are no number.
@@ -245,6 +277,7 @@ fn show<R: Env + Files + Print + AllocGlobal>(rt: &R) -> Result<bool> {
         "guarded" => show_guarded(rt, &mut page, words),
         "values" => show_values(rt, &mut page, words),
         "rows" => show_rows(rt, &mut page, words),
+        "trace" if names_stages(words) => show_staged_trace(rt, &mut page, words),
         "trace" => show_trace(rt, &mut page, words),
         "repeat" if words.len() == 3 => show_repeat(rt, &mut page, words),
         "repeat" => show_plans(rt, &mut page, words),

@@ -1,20 +1,23 @@
-//! A run of microcode cycle by cycle: what each unit issues, what each bus carries, and what is written.
+//! A run cycle by cycle, of microcode or of a source over stages: what each unit issues, what each bus carries, and what
+//! is written.
 
 ghost use Rattle.std.specs.Prelude.{◌≡◌, ◌<◌, ◌≤◌, ◌^◌, length, All, IsTrue, IfOk, OnOk};
 ghost use Rattle.std.specs.List.{range_with_len};
 ghost use Rattle.std.specs.List.Sorted.{IsPermutation};
 ghost use Rattle.micro_image.specs.Valid.{IsValid, IsWordOf};
 ghost use Rattle.operations.specs.Operations.{IsOperand};
-ghost use Rattle.silc_show.specs.Trace.{AreInputRows, IsInputRow, IsRunOf};
+ghost use Rattle.cycle_sim.specs.Microcode.{inputs_of, IsSound};
+ghost use Rattle.silc_show.specs.Trace.{AreInputRows, IsInputRow, IsRunAt};
 
-use crate::conflicts::put_conflict;
+use crate::conflicts::{put_conflict, word_at};
 use crate::contents::Contents;
-use crate::image::{image_of, put_issue};
+use crate::guarded::{Stages, unguarded_of};
+use crate::image::put_issue;
 use crate::page::{Page, Refused};
 use crate::repeat::machine_of;
 use crate::rows::{MAX_CHANNELS, put_words, read_widths};
 use anyhow::Result;
-use cycle_sim::{Conflict, Machine, Spot, Wrote};
+use cycle_sim::{Conflict, Machine, Microcode, Spot, Wrote};
 use lists::List;
 use micro_image::{Image, Word};
 use operations::reads;
@@ -193,14 +196,13 @@ fn put_wrote(page: &mut Page, wrote: Wrote) {
 }
 
 /// Shows a cycle that was run, by what was known at its start, and by what it wrote.
-#[tactic(auto, using(crate::proofs::Reading::word_valid))]
-fn put_cycle(page: &mut Page, image: &Image, state: &State, cycle: u64, log: &[Wrote])
-    requires { IsValid image.now }
+fn put_cycle(page: &mut Page, code: &Microcode, state: &State, cycle: u64, log: &[Wrote])
+    requires { IsSound code.now }
 {
-    let word = image.word_at(cycle);
-    put_time(page, image, cycle);
+    let word = word_at(code, cycle);
+    put_time(page, &code.image, cycle);
     page.end();
-    put_issues(page, image, word, &state.contents);
+    put_issues(page, &code.image, word, &state.contents);
     put_buses(page, word, state, cycle);
     for wrote in log {
         put_wrote(page, *wrote);
@@ -218,7 +220,6 @@ fn put_latches(page: &mut Page, machine: &Machine) {
 /// A run that is shown.
 #[derive(Drop)]
 struct Run {
-    image: Image,
     /// The units, in their order.
     order: List<u8>,
     machine: Machine,
@@ -229,12 +230,12 @@ struct Run {
 
 impl Run {
     /// Runs the cycle that comes with a row of input words, and shows it where the span has it.
-    #[tactic(auto, using(crate::proofs::Reading::word_valid, crate::proofs::Reading::sample_below))]
+    #[tactic(auto, using(crate::proofs::Reading::sample_below))]
     fn put_cycle(&mut self, page: &mut Page, row: &[i64], span: Span) -> Result<(), Stop>
-        requires run { IsRunOf self.old.image self.old.order self.old.machine self.old.cycle }
-        requires row { IsInputRow self.old.image.inputs row.now }
-        ensures image { self.new.image ≡ self.old.image }
-        ensures run { OnOk result (IsRunOf self.new.image self.new.order self.new.machine self.new.cycle) }
+        requires run { IsRunAt self.old.order self.old.machine self.old.cycle }
+        requires row { IsInputRow (inputs_of self.old.machine.code) row.now }
+        ensures code { self.new.machine.code ≡ self.old.machine.code }
+        ensures run { OnOk result (IsRunAt self.new.order self.new.machine self.new.cycle) }
     {
         if !span.reaches(self.cycle) {
             return Err(Stop::Span);
@@ -247,10 +248,11 @@ impl Run {
         let mut log = [NO_WRITE; MOST_WRITES];
         let count = self.machine.clock_in_order(row, &self.order, &mut log)?;
         let wrote = &log[..count];
-        let word = self.image.word_at(time.cycle);
-        self.state.begin(&self.image, word, time);
+        let code = self.machine.microcode();
+        self.state
+            .begin(&code.image, word_at(code, time.cycle), time);
         if span.has(time.cycle) {
-            put_cycle(page, &self.image, &self.state, time.cycle, wrote);
+            put_cycle(page, code, &self.state, time.cycle, wrote);
         }
         self.state.write(wrote)?;
         self.cycle += 1;
@@ -259,13 +261,13 @@ impl Run {
 
     /// Runs a sample, and shows those of its cycles that the span has.
     fn put_sample(&mut self, page: &mut Page, row: &[i64], span: Span) -> Result<(), Stop>
-        requires run { IsRunOf self.old.image self.old.order self.old.machine self.old.cycle }
-        requires row { IsInputRow self.old.image.inputs row.now }
-        ensures image { self.new.image ≡ self.old.image }
-        ensures run { OnOk result (IsRunOf self.new.image self.new.order self.new.machine self.new.cycle) }
+        requires run { IsRunAt self.old.order self.old.machine self.old.cycle }
+        requires row { IsInputRow (inputs_of self.old.machine.code) row.now }
+        ensures code { self.new.machine.code ≡ self.old.machine.code }
+        ensures run { OnOk result (IsRunAt self.new.order self.new.machine self.new.cycle) }
     {
         let mut shown = false;
-        for _phase in 0..self.image.period {
+        for _phase in 0..self.machine.microcode().image.period {
             shown = span.has(self.cycle);
             self.put_cycle(page, row, span)?;
         }
@@ -277,8 +279,8 @@ impl Run {
 
     /// Lets the units act in the order of the numbers, if there are some. `false`: they don't name each unit once.
     fn arrange(&mut self, numbers: Option<&str>) -> bool
-        requires { IsRunOf self.old.image self.old.order self.old.machine self.old.cycle }
-        ensures { IsRunOf self.new.image self.new.order self.new.machine self.new.cycle }
+        requires { IsRunAt self.old.order self.old.machine self.old.cycle }
+        ensures { IsRunAt self.new.order self.new.machine self.new.cycle }
     {
         match numbers {
             Some(numbers) => arrange(&mut self.order, numbers),
@@ -287,17 +289,16 @@ impl Run {
     }
 
     /// Shows why no further cycle is run.
-    fn put_stop(&self, page: &mut Page, stop: Stop)
-        requires { IsValid self.now.image }
-    {
+    fn put_stop(&self, page: &mut Page, stop: Stop) {
         match stop {
             Stop::Span => {}
             Stop::Memory => {
                 page.cut();
             }
             Stop::Conflict(conflict) => {
-                put_time(page, &self.image, conflict.cycle);
-                put_conflict(page, &self.image, &self.state.contents, conflict);
+                let code = self.machine.microcode();
+                put_time(page, &code.image, conflict.cycle);
+                put_conflict(page, code, &self.state.contents, conflict);
             }
         }
     }
@@ -350,17 +351,50 @@ fn units_in_order(alloc: Global, image: &Image) -> Result<List<u8>, AllocError>
     Ok(order)
 }
 
-/// A run of microcode before its first cycle.
-fn run_of(page: &mut Page, mic: &[u8]) -> Result<Run, Refused>
-    ensures { IfOk result (λ run. IsRunOf run.image run.order run.machine run.cycle) }
+/// A source over so many stages, on the datapath of a file.
+#[derive(Clone, Copy)]
+pub struct Staged<'a> {
+    pub source: &'a [u8],
+    pub path: &'a [u8],
+    pub stages: Stages,
+}
+
+/// What a machine runs.
+#[derive(Clone, Copy)]
+pub enum Program<'a> {
+    Microcode(&'a [u8]),
+    Staged(Staged<'a>),
+}
+
+/// The machine of a source over stages, before its first cycle.
+fn staged_machine(page: &mut Page, staged: Staged<'_>) -> Result<Machine, Refused>
+    ensures { IfOk result (λ machine. machine.cycle ≡ 0) }
 {
-    let image = image_of(page, mic)?;
-    let Ok(order) = units_in_order(page.alloc, &image) else {
+    let parts = unguarded_of(page, staged.source, staged.path, staged.stages)?;
+    match Machine::load_after(page.alloc, parts.prologue, parts.image) {
+        Ok(machine) => Ok(machine),
+        Err(_) => Err(page.cut()),
+    }
+}
+
+fn program_machine(page: &mut Page, program: Program<'_>) -> Result<Machine, Refused>
+    ensures { IfOk result (λ machine. machine.cycle ≡ 0) }
+{
+    match program {
+        Program::Microcode(mic) => machine_of(page, mic),
+        Program::Staged(staged) => staged_machine(page, staged),
+    }
+}
+
+/// A run before its first cycle.
+fn run_of(page: &mut Page, program: Program<'_>) -> Result<Run, Refused>
+    ensures { IfOk result (λ run. IsRunAt run.order run.machine run.cycle) }
+{
+    let machine = program_machine(page, program)?;
+    let Ok(order) = units_in_order(page.alloc, &machine.microcode().image) else {
         return Err(page.cut());
     };
-    let machine = machine_of(page, mic)?;
     Ok(Run {
-        image,
         order,
         machine,
         cycle: 0,
@@ -376,8 +410,8 @@ fn print_rows(
     rows: &[List<i64>],
     span: Span,
 ) -> Result<()>
-    requires run { IsRunOf run.old.image run.old.order run.old.machine run.old.cycle }
-    requires rows { AreInputRows run.old.image.inputs rows.now }
+    requires run { IsRunAt run.old.order run.old.machine run.old.cycle }
+    requires rows { AreInputRows (inputs_of run.old.machine.code) rows.now }
 {
     for row in rows {
         let ran = run.put_sample(page, row, span);
@@ -408,27 +442,27 @@ fn print_run(
     samples: &[u8],
     view: View<'_>,
 ) -> Result<bool>
-    requires { IsRunOf run.old.image run.old.order run.old.machine run.old.cycle }
+    requires { IsRunAt run.old.order run.old.machine run.old.cycle }
 {
     if !run.arrange(view.order) {
         return Ok(false);
     }
-    if let Ok(rows) = read_widths(page, &run.image.inputs, samples) {
+    if let Ok(rows) = read_widths(page, run.machine.inputs(), samples) {
         print_rows(rt, page, run, &rows, view.span)?;
     }
     Ok(true)
 }
 
-/// Prints the run of microcode over the rows of a sample file, up to the page that is left. `false`: the units have no
+/// Prints the run of a program over the rows of a sample file, up to the page that is left. `false`: the units have no
 /// such order.
 pub fn print(
     rt: &impl Print,
     page: &mut Page,
-    mic: &[u8],
+    program: Program<'_>,
     samples: &[u8],
     view: View<'_>,
 ) -> Result<bool> {
-    match run_of(page, mic) {
+    match run_of(page, program) {
         Ok(mut run) => print_run(rt, page, &mut run, samples, view),
         Err(_) => Ok(true),
     }

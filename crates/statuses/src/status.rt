@@ -67,7 +67,7 @@ pub enum SampleFault {
         /// line, the line's length.
         at: u64,
     },
-    /// There are 2^32 bytes or more.
+    /// There are 2^32 bytes or more, of `net` more than 1 MiB.
     #[error("samples too long")]
     TooLong,
 }

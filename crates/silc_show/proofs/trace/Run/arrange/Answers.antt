@@ -3,9 +3,7 @@ use Rattle.silc_show.proofs.trace.Run.arrange.Goals as goal
 
 pub returns-in-Some : goal.returns-in-Some
 returns-in-Some c = record {
-  valid = c.requires.valid;
-  same = c.requires.same;
-  alone = c.requires.alone;
+  sound = c.requires.sound;
   all_units = IsPermutation-trans _ _ _ c.requires.all_units c.arrange.ensures;
   time = c.requires.time;
 }
