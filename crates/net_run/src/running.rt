@@ -20,13 +20,13 @@ pub struct RanNet {
     pub text: Bytes,
 }
 
-/// Runs all samples.
+/// Runs all samples, each processor's as a whole where it can: no order of turns changes a row.
 fn run_all(net: &mut Net)
     ensures parts { parts_of net.new ≡ parts_of net.old }
     ensures finished { is_finished (shape_in net.new) (points_of net.new) ≡ true }
     ensures at { (puts : Listed Rows) → IsNetSolution (parts_of net.new) puts → IsNetAt net.new puts }
 {
-    'rounds: while net.round() {}
+    'rounds: while net.samples() || net.round() {}
 }
 
 /// Runs a net of these images over the rows of the list. What is asked is what `Net::new` asks.

@@ -3,7 +3,11 @@ pub mod Writing
 pub mod Queues
 pub mod Standing
 pub mod Reading
+pub mod Changing
 pub mod Turning
+pub mod SampleTurns
+pub mod Sampling
+pub mod Samples
 pub mod Turned
 pub mod Loading
 pub mod Making

@@ -90,7 +90,7 @@ module _ (net : NetState) (is : IsState net) (p : ℕ) (inside : p < length net.
   takes own there first = all_readable net is p own there has first
 
   module _ (rows : List (List ℤ)) (begun : Begins net rows p) where
-    row_now : (own : Processor) (old : List ℤ)
+    pub row_now : (own : Processor) (old : List ℤ)
         → slice_get net.processors p ≡ Some own
         → slice_get net.rows p ≡ Some old
         → (row : List ℤ)
@@ -109,7 +109,7 @@ module _ (net : NetState) (is : IsState net) (p : ℕ) (inside : p < length net.
           later,
         )
 
-    row_there : (row : List ℤ) → rows ≡ slice_set net.rows p row → slice_get rows p ≡ Some row
+    pub row_there : (row : List ℤ) → rows ≡ slice_set net.rows p row → slice_get rows p ≡ Some row
     row_there row rows_are =
         ap (λ (rs : List (List ℤ)). slice_get rs p) rows_are
         ∙ at_set_same net.rows p row (omega (arith, inside, is.rows))

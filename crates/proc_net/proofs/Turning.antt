@@ -1,19 +1,16 @@
 -- A turn keeps a net's state: the processor runs a cycle, and nothing else changes.
-use Rattle.std.proofs.Common.{◌≡◌, ℕ, ◌+◌, ◌*◌, ◌%◌, ◌<◌, ◌≤◌, ◌^◌, false, List, [], ◌∷◌, ◌++◌, length, get_or, map}
+use Rattle.std.proofs.Common.{◌≡◌, ℕ, ◌+◌, ◌*◌, ◌%◌, ◌<◌, ◌≤◌, ◌^◌, false, List, [], ◌∷◌, ◌++◌, length, get_or}
 use Rattle.std.proofs.Common.{replicate}
 use Rattle.std.proofs.Common.{take, Some, ℤ, refl, ap, ap₂, sym, ◌∙◌, subst, arith, inl, inr}
 use Rattle.std.specs.Prelude.{slice_get, slice_set}
 use Rattle.std.specs.List.{All}
 use Rattle.std.proofs.Math.ListN.{set}
-use Rattle.std.proofs.Math.Seq.{map-set_same}
-use Rattle.std.proofs.lemmas.List.{length-set, map-set, get_or-map, append-nil}
+use Rattle.std.proofs.lemmas.List.{map-set, get_or-map, append-nil}
 use Rattle.std.proofs.lemmas.Bool.{cases_lt}
 use Rattle.std.proofs.Common.{mul-le-mul_left}
 use Rattle.lists.specs.Rows.{Rows}
 use Rattle.lists.proofs.Numbers.{same_or_not}
-use Rattle.lists.proofs.Places.{at_set_same, at_set_other, some_once}
 use Rattle.micro_image.specs.declared.conflict.Conflict.{Conflict}
-use Rattle.micro_image.specs.declared.image.Image.{Image}
 use Rattle.micro_image.specs.Fields.{Microprogram}
 use Rattle.micro_image.specs.Run.{Stands, spread, latches}
 use Rattle.cycle_sim.specs.Machine.{IsOperand, state_of, MeetsConflict}
@@ -23,14 +20,15 @@ use Rattle.net_turns.specs.Turns.{Point, point_of, period_of, next, lacks, after
 use Rattle.net_turns.specs.Marking.{IsMarking}
 use Rattle.net_turns.proofs.Kept.{Runs, runs, next-ends, next-goes, turn_keeps}
 use Rattle.proc_net.specs.declared.processor.Processor.{Processor}
-use Rattle.net_solution.specs.RowLists.{row_in, rows_of}
+use Rattle.net_solution.specs.RowLists.{row_in}
 use Rattle.net_solution.specs.Solutions.{Parts, no_image, image_of, program_of, shape_of, fed}
 use Rattle.proc_net.specs.Nets.{NetState, parts_of, points_of, IsProcessorAt}
 use Rattle.proc_net.specs.Private.Reading.{point_at, HasRoom}
 use Rattle.proc_net.specs.Private.Runs.{Advanced, RanCycle}
-use Rattle.net_solution.specs.Private.Solved.{IsReadRow, AreSolved}
+use Rattle.net_solution.specs.Private.Solved.{IsReadRow}
 use Rattle.proc_net.specs.Private.States.{Keeps, IsProcessorIn, IsState}
 use Rattle.net_solution.proofs.Cycles.{length-so_far, so_far-goes, so_far-ends, no_conflict, row_put}
+use Rattle.proc_net.proofs.Changing.{parts_kept, state_kept}
 use Rattle.proc_net.proofs.Keeping.{keeps_on, keeps_more}
 use Rattle.proc_net.proofs.Reading.{feed_is}
 use Rattle.net_solution.proofs.Solving.{length-fed}
@@ -40,42 +38,42 @@ module _ (net : NetState) (is : IsState net) (p : ℕ) (own : Processor) (old_ro
     (there : slice_get net.processors p ≡ Some own) (old_there : slice_get net.rows p ≡ Some old_row)
     (runs_now : lacks (shape_of (parts_of net)) (points_of net) p ≡ false)
     (row_is : row ≡ get_or (fed (parts_of net) is.puts p) own.ran []) (same_row : 0 < own.cycle → row ≡ old_row) where
-  inside : p < length net.processors
+  pub inside : p < length net.processors
   inside = (at_there net.processors p own there).0
 
-  image_inside : p < length (parts_of net).images
+  pub image_inside : p < length (parts_of net).images
   image_inside = omega (arith, inside, images_length net is)
 
-  feed_inside : p < length (parts_of net).feeds
+  pub feed_inside : p < length (parts_of net).feeds
   feed_inside = omega (arith, inside, feeds_length net is)
 
-  at : IsProcessorIn (parts_of net) is.puts p own old_row
+  pub at : IsProcessorIn (parts_of net) is.puts p own old_row
   at = is.each p own old_row there old_there
 
   has : Runs (shape_of (parts_of net)) (points_of net) p
   has = runs (shape_of (parts_of net)) (points_of net) is.marking p feed_inside runs_now
 
-  point : point_of (points_of net) p ≡ point_at own
+  pub point : point_of (points_of net) p ≡ point_at own
   point = point_there net is p own there
 
-  more : own.ran < length (parts_of net).stream
+  pub more : own.ran < length (parts_of net).stream
   more = omega (arith, has.input, ap (λ (x : Point). x.ran) point)
 
-  more_fed : own.ran < length (fed (parts_of net) is.puts p)
+  pub more_fed : own.ran < length (fed (parts_of net) is.puts p)
   more_fed = omega (arith, more, length-fed (parts_of net) is.puts p)
 
-  period : period_of (shape_of (parts_of net)) p ≡ own.period
+  pub period : period_of (shape_of (parts_of net)) p ≡ own.period
   period = get_or-map (λ image. image.period) (parts_of net).images p no_image 1 image_inside ∙ sym at.period
 
-  cycle : own.cycle < own.period
+  pub cycle : own.cycle < own.period
   cycle =
       omega (arith, (is.marking.each p feed_inside).cycle, period, ap (λ (x : Point). x.cycle) point)
 
-  program : micro_of own.machine.code ≡ program_of (parts_of net) p
+  pub program : micro_of own.machine.code ≡ program_of (parts_of net) p
   program = ap micro_of at.code
 
   -- the row is one that the machine can take
-  read : IsReadRow (image_of (parts_of net) p) row
+  pub read : IsReadRow (image_of (parts_of net) p) row
   read = rw row_is (is.solved.reads p image_inside own.ran [] more_fed)
 
   pub row_count : length row ≡ length (inputs_of own.machine.code)
@@ -84,7 +82,7 @@ module _ (net : NetState) (is : IsState net) (p : ℕ) (own : Processor) (old_ro
   pub row_words : All IsOperand row
   row_words = read.words
 
-  micro_period : (program_of (parts_of net) p).period ≡ own.period
+  pub micro_period : (program_of (parts_of net) p).period ≡ own.period
   micro_period = sym at.period
 
   same_cycles : replicate own.cycle old_row ≡ replicate own.cycle row
@@ -95,7 +93,7 @@ module _ (net : NetState) (is : IsState net) (p : ℕ) (own : Processor) (old_ro
       ]
 
   -- where the machine stands, by the row
-  stands :
+  pub stands :
       Stands (state_of own.machine) (program_of (parts_of net) p)
       (spread (program_of (parts_of net) p).period (take own.ran (fed (parts_of net) is.puts p))
       ++ replicate own.cycle row)
@@ -154,30 +152,8 @@ module _ (net : NetState) (is : IsState net) (p : ℕ) (own : Processor) (old_ro
     advanced : Advanced (record own { machine = new.machine }) new
     advanced = ran.advanced
 
-    own_there : get_or net.processors p own ≡ own
-    own_there = (at_there net.processors p own there).1
-
-    images_same : map (λ processor. processor.machine.code.image) (slice_set net.processors p new)
-        ≡ map (λ processor. processor.machine.code.image) net.processors
-    images_same =
-        map-set_same (λ processor. processor.machine.code.image) net.processors p new own
-        (ap (λ code. code.image) ran.code ∙ ap (λ (x : Processor). x.machine.code.image) (sym own_there))
-
-    feeds_same : map (λ processor. processor.feed) (slice_set net.processors p new)
-        ≡ map (λ processor. processor.feed) net.processors
-    feeds_same =
-        map-set_same (λ processor. processor.feed) net.processors p new own
-        (advanced.feed ∙ ap (λ (x : Processor). x.feed) (sym own_there))
-
     pub parts_same : parts_of after ≡ parts_of net
-    parts_same =
-        ap₂ (λ (images : List Image) (feeds : List (List Wire)).
-        let parts : Parts = record {
-          images = images;
-          feeds = feeds;
-          capacity = net.capacity;
-          stream = rows_of net.stream;
-        } in parts) images_same feeds_same
+    parts_same = parts_kept net p own new row there ran.code advanced.feed
 
     pub points_next : points_of after ≡ after_turn (shape_of (parts_of net)) (points_of net) p
     unfolding after_turn
@@ -294,33 +270,5 @@ module _ (net : NetState) (is : IsState net) (p : ℕ) (own : Processor) (old_ro
       last = λ ends. omega (arith, at.last ends, advanced.places);
     }
 
-    each_next : (q : ℕ) (processor : Processor) (r : List ℤ)
-        → slice_get (slice_set net.processors p new) q ≡ Some processor
-        → slice_get (slice_set net.rows p row) q ≡ Some r
-        → IsProcessorIn (parts_of net) is.puts q processor r
-    each_next q processor r processor_there r_there =
-        elim (same_or_not q p) [
-          | inl same ↦
-              let is_new : new ≡ processor =
-              some_once (at_set_same net.processors p new inside) (rw same at processor_there) in
-              let is_row : row ≡ r =
-              some_once (at_set_same net.rows p row (omega (arith, inside, is.rows))) (rw same at r_there) in
-              rw (same, ← is_new, ← is_row) new_in
-          | inr apart ↦
-              is.each q processor r (sym (at_set_other net.processors p q new apart) ∙ processor_there)
-              (sym (at_set_other net.rows p q row apart) ∙ r_there)
-        ]
-
     pub state_next : IsState after
-    state_next = record {
-      puts = is.puts;
-      solved = subst (λ (parts : Parts). AreSolved parts is.puts) (sym parts_same) is.solved;
-      stream = is.stream;
-      some = omega (arith, is.some, length-set net.processors p new);
-      few = omega (arith, is.few, length-set net.processors p new);
-      rows = omega (arith, is.rows, length-set net.processors p new, length-set net.rows p row);
-      marking = marking_next;
-      each = λ q processor r processor_there r_there.
-          subst (λ (parts : Parts). IsProcessorIn parts is.puts q processor r) (sym parts_same)
-          (each_next q processor r processor_there r_there);
-    }
+    state_next = state_kept net p own new row there ran.code advanced.feed is marking_next new_in

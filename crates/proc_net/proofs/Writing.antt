@@ -4,7 +4,7 @@ use Rattle.std.proofs.Common.{refl, ap, ◌∙◌}
 use Rattle.std.proofs.Common.{subst, arith}
 use Rattle.std.specs.Prelude.{slice_get, slice_set}
 use Rattle.std.proofs.Math.ListN.{set}
-use Rattle.std.proofs.lemmas.List.{take_at}
+use Rattle.std.proofs.lemmas.List.{take_at, length-take-le, length-drop}
 use Rattle.lists.proofs.Places.{some_is}
 use Rattle.net_solution.specs.declared.row_list.RowList.{RowList}
 use Rattle.net_solution.proofs.RowListLaws.{length-written, written_other, rows_apart, row_within}
@@ -49,3 +49,23 @@ is_written old new words latches places place width room below width_is count wo
           ∙ written_other (place * old.width) old.width old.words latches count_is fits (k * old.width)
           (omega (arith, row_within old.width k places h, room.words)) (rows_apart old.width k place apart);
     }
+
+-- a row that is written has so many words
+pub count_written : (old : RowList) (words new : List ℤ) (places place width : ℕ)
+    → HasRoom old places
+    → place < places
+    → width ≡ old.width
+    → words ≡ old.words
+    → length new ≡ length words
+    → length (take width (drop (place * width) new)) ≡ width
+count_written old words new places place width room below width_is words_is long =
+    let fits : place * width + width ≤ length new =
+    omega (
+      arith,
+      row_within width place places below,
+      room.words,
+      ap (λ (w : ℕ). places * w) width_is,
+      long,
+      ap (λ (l : List ℤ). length l) words_is,
+    ) in
+    length-take-le width (drop (place * width) new) (omega (arith, fits, length-drop (place * width) new))

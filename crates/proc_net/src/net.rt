@@ -1,6 +1,6 @@
 //! The net.
 
-ghost use Rattle.std.specs.Prelude.{◌≡◌, ◌↔◌, ◌<◌, ◌≤◌, ◌^◌, ◌==◌, List as Listed, [], length, map, true, false, Some, slice_get, slice_set, IfOk};
+ghost use Rattle.std.specs.Prelude.{◌≡◌, ◌↔◌, ℕ, ◌<◌, ◌≤◌, ◌^◌, ◌==◌, List as Listed, [], length, map, true, false, Some, slice_get, slice_set, IfOk};
 ghost use Rattle.std.specs.List.{All, list_all};
 ghost use Rattle.lists.specs.Rows.{Rows as Stream};
 ghost use Rattle.micro_image.specs.Fields.{nth};
@@ -8,9 +8,9 @@ ghost use Rattle.micro_image.specs.Valid.{IsValid};
 ghost use Rattle.net_turns.specs.Marking.{starts};
 ghost use Rattle.net_turns.specs.Progress.{cycles_run, enough_rounds, after_rounds};
 ghost use Rattle.net_turns.specs.Turns.{after_turn, after_round, lacks, some_runs, processors, is_finished};
-ghost use Rattle.proc_net.specs.Nets.{NetState, parts_of, shape_in, points_of, last_of, count_of, IsNetAt};
+ghost use Rattle.proc_net.specs.Nets.{NetState, parts_of, shape_in, points_of, last_of, count_of, IsNetAt, TookTurns};
 ghost use Rattle.proc_net.specs.Private.Reading.{word_by, IsReadable};
-ghost use Rattle.proc_net.specs.Private.Runs.{RanCycle, CanRun};
+ghost use Rattle.proc_net.specs.Private.Runs.{RanCycle, CanRun, RanSample, CanRunSample};
 ghost use Rattle.proc_net.specs.Private.States.{AreFresh, AreRowsFor};
 ghost use Rattle.net_solution.specs.RowLists.{IsRowList};
 ghost use Rattle.net_solution.specs.Solutions.{IsNetSolution, AreParts, parts_given};
@@ -150,6 +150,18 @@ fn run_cycle(processors: &mut List<Processor>, rows: &[List<i64>], number: usize
     processors[number].run(rows[number].as_slice());
 }
 
+/// Runs a sample of a processor with its row.
+fn run_sample(processors: &mut List<Processor>, rows: &[List<i64>], number: usize)
+    requires processor { number < length processors.old }
+    requires row { number < length rows.now }
+    requires ready { (own : _) (row : _) → slice_get processors.old number ≡ Some own
+        → slice_get rows.now number ≡ Some row → CanRunSample own row }
+    ensures { (own : _) (row : _) → slice_get processors.old number ≡ Some own → slice_get rows.now number ≡ Some row
+        → (new : _) × RanSample row own new × (processors.new ≡ slice_set processors.old number new) }
+{
+    processors[number].sample(rows[number].as_slice());
+}
+
 /// Takes the row of the next sample, where the processor is at the first cycle of one.
 fn begin(processors: &[Processor], stream: &RowList, rows: &mut List<List<i64>>, number: usize)
     requires processor { number < length processors.now }
@@ -243,6 +255,49 @@ impl Net {
         let mut moved = false;
         for number in 0..self.processors.len() {
             if self.turn(number as u8).has_run() {
+                moved = true;
+            }
+        }
+        moved
+    }
+
+    /// The turns of a processor for all cycles of a sample, one after the other. Where it is within a sample, or lacks
+    /// something at the first cycle of one, nothing changes.
+    fn sample(&mut self, number: usize) -> bool
+        requires { number < length self.old.processors }
+        ensures turns { (turns : Listed ℕ) × TookTurns self.old self.new turns result }
+        ensures unchanged { result ≡ false → self.new ≡ self.old }
+        ensures at { (puts : Listed Stream) → IsNetSolution (parts_of self.new) puts → IsNetAt self.new puts }
+    {
+        let samples = self.stream.count();
+        let processors = self.processors.as_slice();
+        if processors[number].cycle > 0 {
+            return false;
+        }
+        if lacks(processors, self.capacity, samples, number) {
+            return false;
+        }
+        begin(processors, &self.stream, &mut self.rows, number);
+        run_sample(&mut self.processors, self.rows.as_slice(), number);
+        true
+    }
+
+    /// Some turns: each processor in order that is at the first cycle of a sample and lacks nothing has as many, one
+    /// after the other, as the sample has cycles. Says whether one ran; else nothing changes. They run the sample as a
+    /// whole, which takes less than so many calls of `turn`.
+    pub fn samples(&mut self) -> bool
+        ensures parts { parts_of self.new ≡ parts_of self.old }
+        ensures turns { (turns : Listed ℕ) × TookTurns self.old self.new turns result }
+        ensures unchanged { result ≡ false → self.new ≡ self.old }
+        ensures rises { result ≡ true → cycles_run (shape_in self.old) (points_of self.old)
+            < cycles_run (shape_in self.new) (points_of self.new) }
+        ensures bound { cycles_run (shape_in self.new) (points_of self.new)
+            ≤ enough_rounds (shape_in self.new) }
+        ensures at { (puts : Listed Stream) → IsNetSolution (parts_of self.new) puts → IsNetAt self.new puts }
+    {
+        let mut moved = false;
+        for p in 0..self.processors.len() {
+            if self.sample(p) {
                 moved = true;
             }
         }

@@ -1,13 +1,13 @@
 //! A processor of a net: its machine, how far it is, and the rows that it has put last.
 
 ghost use Rattle.std.specs.Prelude.{◌≡◌, ◌+◌, ◌<◌, ◌≤◌, ◌^◌, ◌++◌, length, take, drop, replicate, pos, IfOk};
-ghost use Rattle.std.specs.List.{list_any};
+ghost use Rattle.std.specs.List.{All, list_any};
 ghost use Rattle.micro_image.specs.Valid.{IsValid};
-ghost use Rattle.cycle_sim.specs.Machine.{AreLatches};
-ghost use Rattle.cycle_sim.specs.Microcode.{micro_of};
+ghost use Rattle.cycle_sim.specs.Machine.{IsOperand, IsAtSample, MeetsConflictInSample, RanRows, sample_rows, IsOutputRow, AreLatches};
+ghost use Rattle.cycle_sim.specs.Microcode.{inputs_of, micro_of};
 ghost use Rattle.net_turns.specs.Turns.{is_from};
 ghost use Rattle.proc_net.specs.Private.Reading.{HasRoom};
-ghost use Rattle.proc_net.specs.Private.Runs.{IsWritten, Advanced, RanCycle, CanRun};
+ghost use Rattle.proc_net.specs.Private.Runs.{IsWritten, Advanced, RanCycle, CanRun, RanSample, CanRunSample};
 ghost use Rattle.proc_net.specs.Private.States.{IsFresh};
 ghost use Rattle.net_solution.specs.RowLists.{row_in};
 
@@ -78,6 +78,45 @@ fn put_row(machine: &Machine, list: &mut RowList, place: usize, places: usize)
 {
     let width = usize::from(list.width);
     put_latches(machine, &mut list.words, place * width, width);
+}
+
+/// Runs a sample of a machine with its row, and puts what the latches hold then into words.
+fn put_sample(machine: &mut Machine, row: &[i64], words: &mut [i64], from: usize, width: usize)
+    requires count { length row.now ≡ length (inputs_of machine.old.code) }
+    requires operands { All IsOperand row.now }
+    requires at { IsAtSample machine.old }
+    requires clear { (conflict : _) → MeetsConflictInSample machine.old row.now conflict → ⊥ }
+    requires width { width ≡ (micro_of machine.old.code).outs }
+    requires room { from + width ≤ length words.old }
+    ensures code { machine.new.code ≡ machine.old.code }
+    ensures ran { RanRows machine.old machine.new (sample_rows (micro_of machine.old.code) row.now) }
+    ensures row { IsOutputRow machine.old row.now (take width (drop from words.new)) }
+    ensures words { words.new
+        ≡ take from words.old ++ take width (drop from words.new) ++ drop (from + width) words.old }
+    ensures whole { length words.new ≡ length words.old }
+{
+    match machine.sample(row, &mut words[from..from + width]) {
+        Ok(()) => {}
+        Err(_) => unreachable!(),
+    }
+}
+
+/// Runs a sample of a machine with its row, and writes the row that it puts to a place of the list.
+fn write_sample(machine: &mut Machine, row: &[i64], list: &mut RowList, place: usize, places: usize)
+    requires count { length row.now ≡ length (inputs_of machine.old.code) }
+    requires operands { All IsOperand row.now }
+    requires at { IsAtSample machine.old }
+    requires clear { (conflict : _) → MeetsConflictInSample machine.old row.now conflict → ⊥ }
+    requires width { list.old.width ≡ (micro_of machine.old.code).outs }
+    requires room { HasRoom list.old places }
+    requires place { place < places }
+    ensures code { machine.new.code ≡ machine.old.code }
+    ensures ran { RanRows machine.old machine.new (sample_rows (micro_of machine.old.code) row.now) }
+    ensures row { IsOutputRow machine.old row.now (row_in list.new place) }
+    ensures others { IsWritten list.old list.new places place }
+{
+    let width = usize::from(list.width);
+    put_sample(machine, row, &mut list.words, place * width, width);
 }
 
 impl Processor {
@@ -156,5 +195,20 @@ impl Processor {
             Ok(()) => self.advance(),
             Err(_) => unreachable!(),
         }
+    }
+    /// Runs all cycles of a sample with its row, and puts the row that they give. It meets no conflict.
+    pub(crate) fn sample(&mut self, row: &[i64])
+        requires { CanRunSample self.old row.now }
+        ensures { RanSample row.now self.old self.new }
+    {
+        write_sample(
+            &mut self.machine,
+            row,
+            &mut self.put,
+            self.ran % self.places,
+            self.places,
+        );
+        self.taken += 1;
+        self.ran += 1;
     }
 }
