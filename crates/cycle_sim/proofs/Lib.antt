@@ -30,6 +30,7 @@ pub mod Partition
 pub mod NextCycle
 pub mod WholeCycle
 pub mod SampleSteps
+pub mod PlainFormats
 pub mod Leading
 pub mod SampleRuns
 mod Pipelined
