@@ -447,7 +447,7 @@ fn print_run(
     if !run.arrange(view.order) {
         return Ok(false);
     }
-    if let Ok(rows) = read_widths(page, run.machine.inputs(), samples) {
+    if let Ok(rows) = read_widths(page, &run.machine.microcode().image.inputs, samples) {
         print_rows(rt, page, run, &rows, view.span)?;
     }
     Ok(true)
