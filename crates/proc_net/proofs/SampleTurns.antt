@@ -1,12 +1,15 @@
 -- Turns of one processor for all cycles of a sample, and lists of turns one after the other.
-use Rattle.std.proofs.Common.{◌≡◌, ℕ, zero, suc, ◌+◌, ◌<◌, ◌==◌, Bool, true, false, not, ◌||◌, List, [], ◌∷◌, ◌++◌, length}
+use Rattle.std.proofs.Common.{append_assoc, sym, ◌≡◌, ℕ, zero, suc, ◌+◌, ◌<◌, ◌==◌, Bool, true, false, not, ◌||◌, List}
+use Rattle.std.proofs.Common.{[], ◌∷◌, ◌++◌, length}
 use Rattle.std.proofs.Common.{replicate, refl, ap, ◌∙◌, arith}
 use Rattle.std.specs.Prelude.{slice_set}
 use Rattle.std.specs.List.{All}
 use Rattle.std.proofs.lemmas.Bool.Decides.{nat_tests}
-use Rattle.std.proofs.lemmas.List.{length-set, get_or-set_same, set-set}
+use Rattle.std.proofs.lemmas.List.{length-set, get_or-set_same, set-set, append-nil}
 use Rattle.net_turns.specs.Turns.{NetShape, Point, start, point_of, period_of, next, lacks, after_turn, after_turns}
 use Rattle.net_turns.specs.Turns.{some_runs}
+use Rattle.net_turns.proofs.Moves.{turn-lacks}
+use Rattle.proc_net.specs.Nets.{sample_turns, turns_of_samples}
 
 -- the same number in all places
 pub all_same_number : (P : ℕ → Type 0) (n p : ℕ) → P p → All P (replicate n p)
@@ -74,7 +77,8 @@ module _ (shape : NetShape) (p : ℕ) where
       → after_turns shape points (replicate (suc n) p)
       ≡ slice_set points p (record { taken = point.taken; ran = point.ran + 1; cycle = 0 })
   turns_left zero points point inside at later left =
-      turn_runs points _ (lacks_none points (rw at later)) (rw at (next_last (period_of shape p) point later (omega arith)))
+      turn_runs points _ (lacks_none points (rw at later))
+      (rw at (next_last (period_of shape p) point later (omega arith)))
   turns_left (suc n) points point inside at later left =
       let mid : Point = record { taken = point.taken; ran = point.ran; cycle = point.cycle + 1 } in
       ap (λ (qs : List Point). after_turns shape qs (replicate (suc n) p))
@@ -129,3 +133,42 @@ runs_after shape points [] qs = refl
 runs_after shape points (p ∷ ps) qs =
     ap (λ (b : Bool). not (lacks shape points p) || b) (runs_after shape (after_turn shape points p) ps qs)
     ∙ or_assoc (not (lacks shape points p)) (some_runs shape (after_turn shape points p) ps) _
+
+-- where it lacks something, none of its turns changes anything or runs
+pub turns_lacking : (shape : NetShape) (points : List Point) (p n : ℕ)
+    → lacks shape points p ≡ true
+    → (after_turns shape points (replicate n p) ≡ points) × (some_runs shape points (replicate n p) ≡ false)
+turns_lacking shape points p zero none = (refl, refl)
+turns_lacking shape points p (suc n) none =
+    let here = turn-lacks shape points p none in
+    let later = turns_lacking shape points p n none in (
+      ap (λ (qs : List Point). after_turns shape qs (replicate n p)) here ∙ later.0,
+      rw none (ap (λ (qs : List Point). some_runs shape qs (replicate n p)) here ∙ later.1),
+    )
+
+-- the turns of a sample, by whether its first cycle comes
+pub turns_first : (shape : NetShape) (points : List Point) (p : ℕ)
+    → (point_of points p).cycle ≡ 0
+    → sample_turns shape points p ≡ replicate (period_of shape p) p
+turns_first shape points p first =
+    let starts : ((point_of points p).cycle == 0) ≡ true = grind (arith, nat_tests) in rw starts refl
+
+pub turns_later : (shape : NetShape) (points : List Point) (p : ℕ)
+    → 0 < (point_of points p).cycle
+    → sample_turns shape points p ≡ []
+turns_later shape points p later =
+    let started : ((point_of points p).cycle == 0) ≡ false = grind (arith, nat_tests) in rw started refl
+
+-- those of one processor more
+pub turns_push : (shape : NetShape) (points : List Point) (ps : List ℕ) (p : ℕ)
+    → turns_of_samples shape points (ps ++ p ∷ [])
+    ≡ turns_of_samples shape points ps
+    ++ sample_turns shape (after_turns shape points (turns_of_samples shape points ps)) p
+turns_push shape points [] p = append-nil (sample_turns shape points p)
+turns_push shape points (q ∷ ps) p =
+    let first = sample_turns shape points q in
+    let rest = turns_of_samples shape (after_turns shape points first) ps in
+    ap (λ (l : List ℕ). first ++ l) (turns_push shape (after_turns shape points first) ps p)
+    ∙ sym (append_assoc first rest
+    (sample_turns shape (after_turns shape (after_turns shape points first) rest) p))
+    ∙ ap (λ (qs : List Point). (first ++ rest) ++ sample_turns shape qs p) (sym (turns_after shape points first rest))

@@ -4,7 +4,8 @@ use Rattle.std.proofs.Common.{get_or, take, drop, replicate, Some, ℤ, refl, ap
 use Rattle.std.proofs.Common.{mul-le-mul_right}
 use Rattle.std.specs.Prelude.{slice_get, slice_set}
 use Rattle.std.proofs.Math.Nat.{mul-mod_left}
-use Rattle.std.proofs.lemmas.List.{length-append, length-replicate, length-map, map-set, append-nil, take_more}
+use Rattle.std.proofs.lemmas.List.{length-append, length-replicate, length-map, get_or-map, map-set, append-nil}
+use Rattle.std.proofs.lemmas.List.{take_more}
 use Rattle.std.proofs.lemmas.Option.{slice_get_read}
 use Rattle.lists.specs.Rows.{Rows}
 use Rattle.lists.proofs.Places.{some_at, some_once}
@@ -17,23 +18,24 @@ use Rattle.micro_image.proofs.Streams.{spread-append}
 use Rattle.cycle_sim.specs.Machine.{state_of, sample_rows, IsAtSample, IsFirstOfSample, MeetsConflictInSample}
 use Rattle.cycle_sim.specs.Microcode.{micro_of}
 use Rattle.net_core.specs.declared.types.Wire.{Wire}
-use Rattle.net_turns.specs.Turns.{Point, point_of, period_of, lacks, after_turns}
+use Rattle.net_turns.specs.Turns.{Point, start, point_of, period_of, lacks, after_turns}
 use Rattle.net_turns.specs.Marking.{IsMarking}
 use Rattle.net_turns.proofs.Rounds.{turns_keep}
 use Rattle.proc_net.specs.declared.processor.Processor.{Processor}
 use Rattle.net_solution.specs.RowLists.{row_in, count_in}
 use Rattle.net_solution.specs.Solutions.{Parts, program_of, shape_of, fed}
 use Rattle.net_solution.proofs.Cycles.{all_cycles, length-so_far, row_put}
-use Rattle.proc_net.specs.Nets.{NetState, parts_of, points_of, IsProcessorAt, TookTurns}
+use Rattle.proc_net.specs.Nets.{NetState, parts_of, points_of, IsProcessorAt, sample_turns}
 use Rattle.proc_net.specs.Private.Reading.{point_at, points_by, shape_by}
 use Rattle.proc_net.specs.Private.Runs.{RanSample, CanRunSample}
-use Rattle.proc_net.specs.Private.States.{IsProcessorIn, IsState}
+use Rattle.proc_net.specs.Private.States.{IsProcessorIn, IsState, TookTurns}
 use Rattle.proc_net.proofs.Changing.{parts_kept, state_kept}
 use Rattle.proc_net.proofs.Keeping.{keeps_more}
 use Rattle.proc_net.proofs.Reading.{feed_is}
-use Rattle.proc_net.proofs.SampleTurns.{all_same_number, turns_of_sample, sample_runs}
+use Rattle.proc_net.proofs.SampleTurns.{all_same_number, turns_of_sample, sample_runs, turns_first}
 use Rattle.proc_net.proofs.Turned.{Begins, BeginsBy, lacks_says, row_now, row_there}
-use Rattle.proc_net.proofs.Turning.{inside, feed_inside, image_inside, at, point, more, more_fed, period, cycle, program}
+use Rattle.proc_net.proofs.Turning.{inside, feed_inside, image_inside, at, point, more, more_fed, period, cycle}
+use Rattle.proc_net.proofs.Turning.{program}
 use Rattle.proc_net.proofs.Turning.{read, row_count, row_words, micro_period, stands, small, width, can_run}
 
 -- the cycles of a whole sample
@@ -177,7 +179,8 @@ module _ (net : NetState) (is : IsState net) (p : ℕ) (own : Processor) (old_ro
 
     point_new : point_at new ≡ record { taken = own.taken + 1; ran = own.ran + 1; cycle = 0 }
     point_new =
-        ran.point ∙ ap (λ (n : ℕ). let x : Point = record { taken = own.taken + 1; ran = own.ran + 1; cycle = n } in x) first
+        ran.point
+        ∙ ap (λ (n : ℕ). let x : Point = record { taken = own.taken + 1; ran = own.ran + 1; cycle = n } in x) first
 
     points_inside : p < length (points_of net)
     points_inside =
@@ -239,10 +242,12 @@ module _ (net : NetState) (is : IsState net) (p : ℕ) (own : Processor) (old_ro
         ≡ latches micro (so_far ++ sample_rows micro row) (length so_far + micro.period))
         (program net is p own old_row row there old_there runs_now row_is same) (ran.row_is so_far stands_own) in
         row_put (program_of (parts_of net) p) (fed (parts_of net) is.puts p) (get_or is.puts p [])
-        (is.solved.solution.runs p (image_inside net is p own old_row row there old_there runs_now row_is same)) own.ran 0
+        (is.solved.solution.runs p (image_inside net is p own old_row row there old_there runs_now row_is same)) own.ran
+        0
         row fed_more row_is some_cycles (row_in new.put (own.ran % own.places))
         (latched
-        ∙ ap (λ (z : Rows). latches (program_of (parts_of net) p) z (length so_far + (program_of (parts_of net) p).period))
+        ∙ ap (λ (z : Rows).
+            latches (program_of (parts_of net) p) z (length so_far + (program_of (parts_of net) p).period))
         all
         ∙ ap (λ (n : ℕ). latches (program_of (parts_of net) p)
         (spread (program_of (parts_of net) p).period (take (own.ran + 1) (fed (parts_of net) is.puts p))) n) count)
@@ -273,14 +278,21 @@ module _ (net : NetState) (is : IsState net) (p : ℕ) (own : Processor) (old_ro
     pub state_sampled : IsState after
     state_sampled = state_kept net p own new row there ran.code ran.feed is marking_next new_in
 
-    pub turns_taken : TookTurns net after turns true
-    turns_taken = record {
+    turns_run : TookTurns net after turns true
+    turns_run = record {
       parts = parts_same;
       within = turns_within;
       points = points_next;
       some = sample_runs (shape_of (parts_of net)) p (points_of net) (point_at own) points_inside point_now first
           runs_now (period_of (shape_of (parts_of net)) p) some_turns;
     }
+
+    pub turns_taken : TookTurns net after (sample_turns (shape_of (parts_of net)) (points_of net) p) true
+    turns_taken =
+        subst (λ (ps : List ℕ). TookTurns net after ps true)
+        (sym (turns_first (shape_of (parts_of net)) (points_of net) p
+        (ap (λ (x : Point). x.cycle) point_now ∙ first)))
+        turns_run
 
 -- after the second step
 abbrev pub SamplesOne : NetState → List (List ℤ) → ℕ → List Processor → Type 0
@@ -291,7 +303,7 @@ SamplesOne net rows p processors =
 
 -- after both
 pub record IsSampled (old new : NetState) (p : ℕ) : Type 0 where
-  pub took : TookTurns old new (replicate (period_of (shape_of (parts_of old)) p) p) true
+  pub took : TookTurns old new (sample_turns (shape_of (parts_of old)) (points_of old) p) true
   pub state : IsState new
 
 module _ (net : NetState) (is : IsState net) (p : ℕ) (inside_now : p < length net.processors)
@@ -382,3 +394,12 @@ sample_done net is number inside_now list list_is samples samples_is says says_i
     (first_now net list number list_is first) rows
     (subst (λ (l : List Processor). BeginsBy l net rows number) list_is begun) processors
     (subst (λ (rs : List (List ℤ)). SamplesOne net rs number processors) slice_is one)
+
+-- where a processor is, by what was read
+pub cycle_read : (net : NetState) (list : List Processor) (number : ℕ) (read : Processor)
+    → list ≡ net.processors
+    → number < length net.processors
+    → (point_of (points_of net) number).cycle ≡ (get_or list number read).cycle
+cycle_read net list number read list_is inside_now =
+    ap (λ (x : Point). x.cycle) (get_or-map point_at net.processors number read start inside_now)
+    ∙ ap (λ (l : List Processor). (get_or l number read).cycle) (sym list_is)

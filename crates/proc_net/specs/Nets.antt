@@ -1,14 +1,14 @@
 -- Where a net is after any turns: each machine where its image is after so many cycles, and in each queue the rows that
 -- were put and not taken.
 use Rattle.std.specs.Prelude.{◌≡◌, ℕ, ◌-◌, ◌%◌, ◌<◌, List, [], ◌++◌, length, map, take, drop, replicate, ℤ}
-use Rattle.std.specs.Prelude.{Some, Contains, slice_get, Bool}
-use Rattle.std.specs.List.{All, range_with_len}
+use Rattle.std.specs.Prelude.{Some, Contains, slice_get, ◌==◌, ◌∷◌, if◌then◌else◌}
+use Rattle.std.specs.List.{range_with_len}
 use Rattle.lists.specs.Rows.{Rows}
 use Rattle.micro_image.specs.Fields.{nth}
 use Rattle.micro_image.specs.Run.{Stands, spread}
 use Rattle.cycle_sim.specs.Machine.{state_of}
 use Rattle.net_core.specs.declared.types.Wire.TheVariants.{From}
-use Rattle.net_turns.specs.Turns.{NetShape, Point, point_of, after_turns, some_runs}
+use Rattle.net_turns.specs.Turns.{NetShape, Point, point_of, period_of, processors, after_turns}
 use Rattle.proc_net.specs.declared.processor.Processor.{Processor}
 use Rattle.net_solution.specs.declared.row_list.RowList.{RowList}
 use Rattle.net_solution.specs.RowLists.{row_in, rows_of}
@@ -87,9 +87,17 @@ pub record IsNetAt (net : NetState) (puts : List Rows) : Type 0 where
       (drop (point_of (points_of net) p).taken (take (point_of (points_of net) q).ran (nth puts q [])))
   pub rows : IsPut net (take (count_of net) (nth puts (last_of net) []))
 
--- the new net is the old one after these turns of its processors, and whether one of them ran a cycle
-pub record TookTurns (old new : NetState) (turns : List ℕ) (ran : Bool) : Type 0 where
-  pub parts : parts_of new ≡ parts_of old
-  pub within : All (λ p. p < length (shape_in old).feeds) turns
-  pub points : points_of new ≡ after_turns (shape_in old) (points_of old) turns
-  pub some : ran ≡ some_runs (shape_in old) (points_of old) turns
+-- the turns of a processor that is at the first cycle of a sample, one after the other: as many as the sample has
+-- cycles
+abbrev pub sample_turns : NetShape → List Point → ℕ → List ℕ
+sample_turns shape points p = if (point_of points p).cycle == 0 then replicate (period_of shape p) p else []
+
+-- those of these processors in order
+abbrev pub turns_of_samples : NetShape → List Point → List ℕ → List ℕ
+turns_of_samples shape points [] = []
+turns_of_samples shape points (p ∷ ps) =
+    sample_turns shape points p ++ turns_of_samples shape (after_turns shape points (sample_turns shape points p)) ps
+
+-- those of all processors
+abbrev pub all_samples : NetShape → List Point → List ℕ
+all_samples shape points = turns_of_samples shape points (processors shape)

@@ -1,17 +1,17 @@
 //! The net.
 
-ghost use Rattle.std.specs.Prelude.{◌≡◌, ◌↔◌, ℕ, ◌<◌, ◌≤◌, ◌^◌, ◌==◌, List as Listed, [], length, map, true, false, Some, slice_get, slice_set, IfOk};
+ghost use Rattle.std.specs.Prelude.{◌≡◌, ◌↔◌, ◌<◌, ◌≤◌, ◌^◌, ◌==◌, List as Listed, [], length, map, true, false, Some, slice_get, slice_set, IfOk};
 ghost use Rattle.std.specs.List.{All, list_all};
 ghost use Rattle.lists.specs.Rows.{Rows as Stream};
 ghost use Rattle.micro_image.specs.Fields.{nth};
 ghost use Rattle.micro_image.specs.Valid.{IsValid};
 ghost use Rattle.net_turns.specs.Marking.{starts};
 ghost use Rattle.net_turns.specs.Progress.{cycles_run, enough_rounds, after_rounds};
-ghost use Rattle.net_turns.specs.Turns.{after_turn, after_round, lacks, some_runs, processors, is_finished};
-ghost use Rattle.proc_net.specs.Nets.{NetState, parts_of, shape_in, points_of, last_of, count_of, IsNetAt, TookTurns};
+ghost use Rattle.net_turns.specs.Turns.{after_turn, after_turns, after_round, lacks, some_runs, processors, is_finished};
+ghost use Rattle.proc_net.specs.Nets.{NetState, parts_of, shape_in, points_of, last_of, count_of, sample_turns, all_samples, IsNetAt};
 ghost use Rattle.proc_net.specs.Private.Reading.{word_by, IsReadable};
 ghost use Rattle.proc_net.specs.Private.Runs.{RanCycle, CanRun, RanSample, CanRunSample};
-ghost use Rattle.proc_net.specs.Private.States.{AreFresh, AreRowsFor};
+ghost use Rattle.proc_net.specs.Private.States.{AreFresh, AreRowsFor, TookTurns};
 ghost use Rattle.net_solution.specs.RowLists.{IsRowList};
 ghost use Rattle.net_solution.specs.Solutions.{IsNetSolution, AreParts, parts_given};
 
@@ -261,11 +261,11 @@ impl Net {
         moved
     }
 
-    /// The turns of a processor for all cycles of a sample, one after the other. Where it is within a sample, or lacks
-    /// something at the first cycle of one, nothing changes.
+    /// The turns of a processor that is at the first cycle of a sample, as many as the sample has cycles. Says whether
+    /// they ran it; else nothing changes.
     fn sample(&mut self, number: usize) -> bool
         requires { number < length self.old.processors }
-        ensures turns { (turns : Listed ℕ) × TookTurns self.old self.new turns result }
+        ensures turns { TookTurns self.old self.new (sample_turns (shape_in self.old) (points_of self.old) number) result }
         ensures unchanged { result ≡ false → self.new ≡ self.old }
         ensures at { (puts : Listed Stream) → IsNetSolution (parts_of self.new) puts → IsNetAt self.new puts }
     {
@@ -282,12 +282,15 @@ impl Net {
         true
     }
 
-    /// Some turns: each processor in order that is at the first cycle of a sample and lacks nothing has as many, one
-    /// after the other, as the sample has cycles. Says whether one ran; else nothing changes. They run the sample as a
-    /// whole, which takes less than so many calls of `turn`.
+    /// Samples: each processor in order that is at the first cycle of a sample has as many turns, one after the other, as
+    /// the sample has cycles. Says whether one of them ran a cycle; else nothing changes. They run as a whole, which
+    /// takes less than so many calls of `turn`.
     pub fn samples(&mut self) -> bool
         ensures parts { parts_of self.new ≡ parts_of self.old }
-        ensures turns { (turns : Listed ℕ) × TookTurns self.old self.new turns result }
+        ensures points { let turns = all_samples (shape_in self.old) (points_of self.old) in
+            points_of self.new ≡ after_turns (shape_in self.old) (points_of self.old) turns }
+        ensures ran { let turns = all_samples (shape_in self.old) (points_of self.old) in
+            result ≡ some_runs (shape_in self.old) (points_of self.old) turns }
         ensures unchanged { result ≡ false → self.new ≡ self.old }
         ensures rises { result ≡ true → cycles_run (shape_in self.old) (points_of self.old)
             < cycles_run (shape_in self.new) (points_of self.new) }

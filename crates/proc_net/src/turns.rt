@@ -54,7 +54,7 @@ fn lacks_place(processors: &[Processor], capacity: usize, samples: usize, own: u
     ensures { result ≡ lacks_place (shape_by processors.now capacity samples) (points_by processors.now) own }
 {
     for (number, reader) in processors.iter().enumerate() {
-        if reader.reads(own) && queued(processors, own, number) >= capacity {
+        if queued(processors, own, number) >= capacity && reader.reads(own) {
             return true;
         }
     }

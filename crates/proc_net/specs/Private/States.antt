@@ -1,7 +1,7 @@
 -- What holds of a net after any turns, and of what it is made of.
 use Rattle.std.specs.Prelude.{◌≡◌, ℕ, ◌+◌, ◌%◌, ◌<◌, ◌≤◌, ◌==◌, max, if◌then◌else◌, List, [], length, Some, ℤ}
-use Rattle.std.specs.Prelude.{slice_get}
-use Rattle.std.specs.List.{AllZip}
+use Rattle.std.specs.Prelude.{slice_get, Bool}
+use Rattle.std.specs.List.{All, AllZip}
 use Rattle.lists.specs.Rows.{Rows}
 use Rattle.micro_image.specs.declared.image.Image.{Image}
 use Rattle.micro_image.specs.Fields.{nth, microprogram_of}
@@ -9,7 +9,7 @@ use Rattle.micro_image.specs.Run.{Stands}
 use Rattle.cycle_sim.specs.Machine.{state_of}
 use Rattle.cycle_sim.specs.Microcode.{code_of}
 use Rattle.net_core.specs.declared.types.Wire.{Wire}
-use Rattle.net_turns.specs.Turns.{start}
+use Rattle.net_turns.specs.Turns.{start, after_turns, some_runs}
 use Rattle.net_turns.specs.Marking.{IsMarking}
 use Rattle.proc_net.specs.declared.processor.Processor.{Processor}
 use Rattle.net_solution.specs.RowLists.{row_in, IsRowList}
@@ -78,3 +78,10 @@ pub record IsState (net : NetState) : Type 0 where
       → slice_get net.processors p ≡ Some processor
       → slice_get net.rows p ≡ Some row
       → IsProcessorIn (parts_of net) puts p processor row
+
+-- the new net is the old one after these turns of its processors, and whether one of them ran a cycle
+pub record TookTurns (old new : NetState) (turns : List ℕ) (ran : Bool) : Type 0 where
+  pub parts : parts_of new ≡ parts_of old
+  pub within : All (λ p. p < length (shape_of (parts_of old)).feeds) turns
+  pub points : points_of new ≡ after_turns (shape_of (parts_of old)) (points_of old) turns
+  pub some : ran ≡ some_runs (shape_of (parts_of old)) (points_of old) turns

@@ -1,15 +1,16 @@
-use Rattle.std.proofs.Common.{◌≡◌, ◌<◌, List, length, replicate, Some, ap, sym, ◌∙◌, subst, arith, ℤ, true}
+use Rattle.std.proofs.Common.{◌≡◌, ◌<◌, List, length, Some, ap, sym, ◌∙◌, subst, arith, ℤ, true, false}
 use Rattle.std.specs.List.{All}
 use Rattle.std.specs.Prelude.{slice_get}
 use Rattle.lists.specs.Rows.{Rows}
-use Rattle.net_turns.specs.Turns.{period_of}
 use Rattle.net_solution.specs.Solutions.{shape_of, IsNetSolution}
 use Rattle.proc_net.specs.declared.processor.Processor.{Processor}
-use Rattle.proc_net.specs.Nets.{NetState, parts_of, IsNetAt, TookTurns}
+use Rattle.proc_net.specs.Nets.{NetState, parts_of, points_of, sample_turns, IsNetAt}
 use Rattle.proc_net.specs.Private.Reading.{IsReadable}
+use Rattle.proc_net.specs.Private.States.{TookTurns}
 use Rattle.proc_net.specs.Private.Views.{net_of}
-use Rattle.proc_net.proofs.Sampling.{ready_sample, first_by, first_now, sample_done}
-use Rattle.proc_net.proofs.Standing.{at_solution}
+use Rattle.proc_net.proofs.Samples.{within_took, lacking_took}
+use Rattle.proc_net.proofs.Sampling.{ready_sample, first_by, first_now, cycle_read, sample_done}
+use Rattle.proc_net.proofs.Standing.{feeds_length, at_solution}
 use Rattle.proc_net.proofs.Turned.{BeginsBy, lacks_says, takes, row_inside}
 use Rattle.proc_net.proofs.net.Net.sample.Goals as goal
 
@@ -18,6 +19,34 @@ pub returns-then-processors-number-gt0-clause-at : goal.returns-then-processors-
 returns-then-processors-number-gt0-clause-at c =
     subst (λ (net : NetState). (puts : List Rows) → IsNetSolution (parts_of net) puts → IsNetAt net puts) c.self.view_is
     (at_solution (net_of c.self.inside) c.self.invariant)
+
+-- and no turn ran
+pub returns-then-processors-number-gt0-clause-turns : goal.returns-then-processors-number-gt0-clause-turns
+returns-then-processors-number-gt0-clause-turns c =
+    let list = c.as_slice-processors.result.now in
+    let inside : c.args.number < length c.self.inside.processors =
+    omega (arith, c.requires, ap (λ (net : NetState). length net.processors) c.self.view_is) in
+    let at = cycle_read (net_of c.self.inside) list c.args.number c.index-processors-number.result
+    c.as_slice-processors.ensures inside in
+    subst (λ (net : NetState).
+    TookTurns net net (sample_turns (shape_of (parts_of net)) (points_of net) c.args.number) false) c.self.view_is
+    (within_took (net_of c.self.inside) c.args.number (omega (arith, c.if-processors-number-gt0.true, at)))
+
+pub returns-then-lacks-clause-turns : goal.returns-then-lacks-clause-turns
+returns-then-lacks-clause-turns c =
+    let list = c.as_slice-processors.result.now in
+    let inside : c.args.number < length c.self.inside.processors =
+    omega (arith, c.requires, ap (λ (net : NetState). length net.processors) c.self.view_is) in
+    let at = cycle_read (net_of c.self.inside) list c.args.number c.index-processors-number.result
+    c.as_slice-processors.ensures inside in
+    let none =
+    lacks_says (net_of c.self.inside) list c.count-samples.result c.args.number c.lacks.result
+    c.as_slice-processors.ensures c.count-samples.ensures c.lacks.ensures ∙ c.if-lacks.true in
+    subst (λ (net : NetState).
+    TookTurns net net (sample_turns (shape_of (parts_of net)) (points_of net) c.args.number) false) c.self.view_is
+    (lacking_took (net_of c.self.inside) c.args.number
+    (omega (arith, inside, feeds_length (net_of c.self.inside) c.self.invariant)) none
+    (omega (arith, c.if-processors-number-gt0.false, at)))
 
 pub returns-then-lacks-clause-at : goal.returns-then-lacks-clause-at
 returns-then-lacks-clause-at c =
@@ -93,16 +122,13 @@ returns-clause-turns c =
     c.as_slice-processors.ensures c.count-samples.result c.count-samples.ensures c.lacks.result c.lacks.ensures
     c.if-lacks.false first c.begin.new.rows c.begin.ensures c.as_slice.result.now c.as_slice.ensures
     c.run_sample.new.processors c.run_sample.ensures in
-    let turns = replicate (period_of (shape_of (parts_of (net_of c.self.inside))) c.args.number) c.args.number in (
-      turns,
-      subst (λ (old : NetState). TookTurns old (net_of (record {
-        processors = c.run_sample.new.processors;
-        rows = c.begin.new.rows;
-        stream = c.self.inside.stream;
-        capacity = c.self.inside.capacity;
-      }))
-          turns true) c.self.view_is done.took,
-    )
+    subst (λ (old : NetState). TookTurns old (net_of (record {
+      processors = c.run_sample.new.processors;
+      rows = c.begin.new.rows;
+      stream = c.self.inside.stream;
+      capacity = c.self.inside.capacity;
+    }))
+    (sample_turns (shape_of (parts_of old)) (points_of old) c.args.number) true) c.self.view_is done.took
 
 pub returns-clause-at : goal.returns-clause-at
 returns-clause-at c =
