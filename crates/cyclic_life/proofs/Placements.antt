@@ -17,12 +17,12 @@ use Rattle.plan_core.specs.Hardware.{no_unit, latency_on}
 use Rattle.plan_core.specs.Operands.{node_of, edge_of, no_edge, Reads}
 use Rattle.plan_core.specs.Assigned.{unit_in}
 use Rattle.plan_core.specs.Heights.{latency_of}
-use Rattle.plan_core.specs.ListSchedule.{cycle_of, IsListSchedule}
+use Rattle.plan_core.specs.ListSchedule.{cycle_of}
 use Rattle.plan_core.specs.Stages.{IsStageSchedule}
 use Rattle.plan_core.specs.declared.schedule.Assigned.{Assigned}
 use Rattle.plan_core.specs.declared.schedule.Schedule.{Schedule}
 use Rattle.plan_core.proofs.Readers.{operands_few, reader_there, edge_has}
-use Rattle.cyclic_life.specs.Held.{IsHeld}
+use Rattle.cyclic_life.specs.Held.{IsHeld, IsInPeriod}
 use Rattle.cyclic_life.specs.Private.Placed.{last_end, IsPlacement, read_of, IsRead, AreReadsBefore, AreReads}
 use Rattle.cyclic_life.specs.declared.read.Read.{Read}
 
@@ -59,16 +59,13 @@ pub placement_of : (d : Datapath) (a : Assigned) (s : Schedule)
     → IsPlacement d a s
 placement_of d a s is held slots within =
     let nodes = a.lowered.nodes in
-    let unit : (v : ℕ) → v < length nodes → unit_in a.units v < length d.units =
-    λ v there. (held.assigned.units v (let count = held.assigned.count in omega arith)).candidate.right.kind.there
-    in
     record {
       period = is.period.1;
       node_count = held.node_count;
-      unit_count = held.assigned.count;
+      unit_count = held.unit_count;
       slot_count = slots;
-      units = unit;
-      latencies = λ v there. unit_latency d is (unit_in a.units v) (unit v there);
+      units = held.units;
+      latencies = λ v there. unit_latency d is (unit_in a.units v) (held.units v there);
       ends_within = within;
       ports = λ c there.
           let few = operands_few (node_of nodes c).op in
@@ -81,15 +78,14 @@ placement_of d a s is held slots within =
       delays = edge_has (λ (edge : Edge). edge.delay ≤ 3) nodes held.delays;
     }
 
--- those of a schedule end in the period
+-- those that end in the period
 pub placement : (d : Datapath) (a : Assigned) (s : Schedule)
     → IsDatapath d
     → IsHeld d a
-    → IsListSchedule d a s
+    → IsInPeriod d a s
     → IsPlacement d a s
 placement d a s is held schedule =
-    placement_of d a s is held schedule.count
-    (λ v there. omega (arith, (schedule.placed v there).can.fits.period, is.period.1))
+    placement_of d a s is held schedule.count (λ v there. omega (arith, schedule.ends v there, is.period.1))
 
 -- and those of a schedule over several stages in these
 pub stage_placement : (d : Datapath) (a : Assigned) (s : Schedule) (stages : ℕ) (delays : List (List ℕ))

@@ -2,10 +2,9 @@
 
 ghost use Rattle.std.specs.Prelude.{IfOk};
 ghost use Rattle.datapath.specs.Allowed.{IsDatapath};
-ghost use Rattle.plan_core.specs.ListSchedule.{IsListSchedule};
 ghost use Rattle.plan_core.specs.Arcs.{IsArcs};
 ghost use Rattle.plan_core.specs.Stages.{AreStageArcs};
-ghost use Rattle.cyclic_life.specs.Held.{IsHeld, AreReadNow, IsOverStages};
+ghost use Rattle.cyclic_life.specs.Held.{IsHeld, IsInPeriod, AreReadNow, IsOverStages};
 
 use crate::fault::ArcFault;
 use crate::merge::lifetimes;
@@ -30,7 +29,7 @@ pub fn arcs(
 ) -> Result<Arcs, ArcFault>
     requires datapath { IsDatapath datapath.now }
     requires held { IsHeld datapath.now assigned.now }
-    requires schedule { IsListSchedule datapath.now assigned.now schedule.now }
+    requires schedule { IsInPeriod datapath.now assigned.now schedule.now }
     ensures { IfOk result (IsArcs datapath.now assigned.now schedule.now) }
 {
     let placement = Placement {

@@ -197,7 +197,7 @@ module _ (IsAway : (gap t u : ℕ) → Type 0) (IsSame : (w x : ℕ) → Type 0)
           are.buses
 
       -- the nodes before node j of the order are those that are placed before it
-      earlier_index : (j : ℕ)
+      pub earlier_index : (j : ℕ)
           → j < length order
           → (x : ℕ)
           → IsEarlier a b.height (nth order j) x
@@ -227,7 +227,7 @@ module _ (IsAway : (gap t u : ℕ) → Type 0) (IsSame : (w x : ℕ) → Type 0)
 
         -- in a schedule in which the nodes before have the same slots
         module _ (z : Schedule) (agree : (x : ℕ) → IsEarlier a b.height v x → slot_at slots x ≡ slot_of z x) where
-          taken : (u : ℕ) (slot : Slot) → IsTakenBefore a z b.height v u slot → IsTaken table.placed u slot
+          pub taken : (u : ℕ) (slot : Slot) → IsTakenBefore a z b.height v u slot → IsTaken table.placed u slot
           taken u slot t =
               let at = earlier_index k within t.x t.earlier in
               let there = b.taken_to at.0 at.1 in
@@ -237,7 +237,7 @@ module _ (IsAway : (gap t u : ℕ) → Type 0) (IsSame : (w x : ℕ) → Type 0)
               subst (λ (w : ℕ). IsTaken table.placed w slot) unit
               (subst (IsTaken table.placed (unit_in a.units (nth order at.0))) its there)
 
-          taken_back : (u : ℕ) (slot : Slot) → IsTaken table.placed u slot → IsTakenBefore a z b.height v u slot
+          pub taken_back : (u : ℕ) (slot : Slot) → IsTaken table.placed u slot → IsTakenBefore a z b.height v u slot
           taken_back u slot t =
               let at = b.taken_from u slot t in
               let e = index_earlier at.0 k at.1 within in
@@ -288,7 +288,7 @@ module _ (IsAway : (gap t u : ℕ) → Type 0) (IsSame : (w x : ℕ) → Type 0)
                       (x.0, route_from u (result_on d u t) port x.0 x.1);
                 }
 
-            fits_to : (u t : ℕ)
+            pub fits_to : (u t : ℕ)
                 → Fitting (IsTakenBefore a z b.height v) (IsDestination a v) u t
                 → FitsIn table u t ports
             fits_to u t f = fits_there u t ports (record {

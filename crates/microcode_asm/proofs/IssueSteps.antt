@@ -208,8 +208,7 @@ module _ {o : Overlap} {hold spare : ℕ} (d : Datapath) (p : Plan) (ready : IsR
       edges =
           let unit : IsUnit d.units (unit_of d (unit_at p v)) =
           ready.machine.units (unit_at p v) no_unit (feasible.units v in-v) in
-          let kind = (ready.plan.assigned.units v
-          (omega (arith, in-v, ready.plan.assigned.count))).candidate.right.kind.kind in
+          let kind = (ready.plan.assigned.right v in-v).kind.kind in
           omega (
             arith,
             feasible.operand_count v in-v,

@@ -7,7 +7,7 @@ use Rattle.operations.specs.declared.units.PortRef.{PortRef}
 use Rattle.datapath.specs.Allowed.{IsDatapath, IsUnit}
 use Rattle.datapath.specs.declared.types.Datapath.{Datapath}
 use Rattle.plan_core.specs.Hardware.{no_unit, latency_on, port_of}
-use Rattle.plan_core.specs.Assigned.{unit_in, IsAssigned}
+use Rattle.plan_core.specs.Assigned.{unit_in}
 use Rattle.plan_core.specs.Reservations.{IsGapApart, IsOneCycle}
 use Rattle.plan_core.specs.ListSchedule.{slot_of, ends, IsDestination, IsListScheduleOver, AnyCycle}
 use Rattle.plan_core.specs.Stages.{written_around}
@@ -19,6 +19,8 @@ use Rattle.plan_core.specs.declared.schedule.Transfer.{Transfer}
 use Rattle.plan_core.specs.declared.registers.Arc.{Arc}
 use Rattle.plan_core.specs.declared.registers.Registers.{Registers}
 use Rattle.plan_core.proofs.Readers.{reader_there}
+use Rattle.plan_soundness.specs.Units.{AreOnRightUnits}
+use Rattle.plan_soundness.proofs.Units.{on_right_units}
 use Rattle.microcode_asm.specs.Planned.{IsPlanned}
 use Rattle.microcode_asm.specs.Printable.{cycle_count, IsToPort, ArePrintable}
 
@@ -30,11 +32,10 @@ module _ (IsAway : (gap t u : ℕ) → Type 0) (IsSame : (w x : ℕ) → Type 0)
     (Allows : Schedule → (height : ℕ → ℕ) → (v t : ℕ) → Type 0) (written_at : (v : ℕ) → ℕ)
     (read_at : (v c q : ℕ) → ℕ) where
   module _ (d : Datapath) (a : Assigned) (s : Schedule) (arcs : List Arc) (r : Registers) (is : IsDatapath d)
-      (assigned : IsAssigned d a) (schedule : IsListScheduleOver IsAway IsSame end Allows d a s)
+      (assigned : AreOnRightUnits d a) (schedule : IsListScheduleOver IsAway IsSame end Allows d a s)
       (live : IsArcsOver written_at read_at d a arcs) where
     unit_there : (v : ℕ) → v < length a.lowered.nodes → unit_in a.units v < length d.units
-    unit_there v there =
-        (assigned.units v (let count = assigned.count in omega arith)).candidate.right.kind.there
+    unit_there v there = (assigned.right v there).kind.there
 
     to_port : (v : ℕ) (transfer : Transfer)
         → IsDestination a v transfer.port
@@ -104,4 +105,4 @@ module _ (d : Datapath) (p : Plan) (is : IsDatapath d) (planned : IsPlanned d p)
       let plan = planned.plan in
       printable_over IsGapApart IsOneCycle d.period AnyCycle (ends d p.assigned p.schedule)
       (λ (v c q : ℕ). read_cycle d p.assigned p.schedule c q) d p.assigned p.schedule p.arcs p.registers is
-      plan.assigned plan.schedule plan.arcs (omega (arith, is.period.1)) written plan.registers.count
+      (on_right_units plan.assigned) plan.schedule plan.arcs (omega (arith, is.period.1)) written plan.registers.count

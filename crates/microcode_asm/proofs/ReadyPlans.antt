@@ -8,31 +8,25 @@ use Rattle.signal_graph.specs.declared.graph.Node.{Node}
 use Rattle.signal_graph.specs.declared.graph.Graph.{Graph}
 use Rattle.plan_core.specs.IsPlan.{IsPlan}
 use Rattle.plan_core.specs.Lowered.{Origin, own, address, store, load, IsNumber, IsOwnOver, IsAddress, IsStore, IsLoad}
+use Rattle.plan_core.specs.declared.schedule.Schedule.{Schedule}
 use Rattle.plan_core.specs.declared.plan.Plan.{Plan}
 use Rattle.micro_image.specs.declared.image.Image.{Image}
 use Rattle.micro_image.specs.Size.{IsShort}
 use Rattle.micro_image.specs.Valid.{IsValid}
 use Rattle.plan_soundness.specs.ImageOf.{IsImageOf}
 use Rattle.plan_soundness.specs.Instances.{FindsInstances}
-use Rattle.plan_soundness.specs.Machine.{IsMachine}
 use Rattle.plan_soundness.specs.Parts.{nodes_of, node_at}
 use Rattle.plan_soundness.specs.Run.{RunsSolution}
 use Rattle.plan_soundness.specs.Overlap.{Overlap}
+use Rattle.plan_soundness.specs.Placed.{IsPlacedPlan}
 use Rattle.plan_soundness.specs.Feasible.{IsFeasiblePlanOver}
+use Rattle.plan_soundness.proofs.Machines.{machine_of}
 use Rattle.plan_soundness.proofs.FromLowered.{made_at, made_as, own_below, graph_node}
 use Rattle.plan_soundness.proofs.Instances.{finds_instances}
-use Rattle.plan_soundness.proofs.RunsSolution.{plan_feasible, image_runs_solution}
-use Rattle.plan_soundness.proofs.Valid.{image_valid, image_short}
-use Rattle.microcode_asm.specs.Planned.{IsPlanned}
+use Rattle.plan_soundness.proofs.RunsSolution.{placed_feasible, placed_plan, image_runs_solution}
+use Rattle.plan_soundness.proofs.Valid.{feasible_valid, feasible_short, image_valid, image_short}
+use Rattle.microcode_asm.specs.Planned.{IsPlanned, IsAssemblable}
 use Rattle.microcode_asm.specs.Private.Ready.{IsReady, samples_of}
-
-pub machine_of : (d : Datapath) → IsDatapath d → IsMachine d
-machine_of d is = record {
-  period = is.period;
-  unit_count = is.unit_count;
-  units = is.units;
-  bus_count = is.bus_count;
-}
 
 none_rise : (inits : List (ℕ × ℤ)) → inits ≡ [] → IsStrictlyIncreasing (samples_of inits)
 none_rise inits e =
@@ -68,19 +62,54 @@ module _ {o : Overlap} {hold spare : ℕ} (g : Graph) (d : Datapath) (p : Plan) 
             none_rise _ (ap (λ (node : Node). node.inits) made.is)
 
 -- a plan that is assembled is ready
+pub assemblable_ready : (d : Datapath) (p : Plan) → IsDatapath d → IsAssemblable d p → IsReady d p
+assemblable_ready d p path of = record {
+  graph = of.graph;
+  machine = machine_of d path;
+  plan = of.plan;
+  arcs = of.arcs;
+  slot_count = of.slot_count;
+  register_count = of.register_count;
+  copies = of.copies;
+  inits = inits_rise of.graph d p of.sound of.plan;
+}
+
+-- a plan whose nodes are placed by whatever rule can be assembled
+pub placed_assemblable :
+    {Allows : Schedule → (height : ℕ → ℕ) → (v t : ℕ) → Type 0} (g : Graph) (d : Datapath) (p : Plan)
+    → IsDatapath d
+    → IsGraph g
+    → IsPlacedPlan Allows g d p
+    → IsAssemblable d p
+placed_assemblable g d p path sound plan = record {
+  graph = g;
+  sound = sound;
+  plan = placed_feasible g d p sound (machine_of d path) plan;
+  arcs = plan.arcs.order;
+  slot_count = plan.schedule.count;
+  register_count = plan.registers.count;
+  copies = plan.registers.copies;
+}
+
 pub ready : (d : Datapath) (p : Plan) → IsDatapath d → IsPlanned d p → IsReady d p
 ready d p path planned =
-    let machine = machine_of d path in
-    let feasible = plan_feasible planned.graph d p planned.sound machine planned.plan in record {
-      graph = planned.graph;
-      machine = machine;
-      plan = feasible;
-      arcs = planned.plan.arcs.order;
-      slot_count = planned.plan.schedule.count;
-      register_count = planned.plan.registers.count;
-      copies = planned.plan.registers.copies;
-      inits = inits_rise planned.graph d p planned.sound feasible;
-    }
+    assemblable_ready d p path
+    (placed_assemblable planned.graph d p path planned.sound (placed_plan planned.plan))
+
+-- the image of a feasible plan is valid, what spells it is short, and it runs the solution of the graph
+pub assemblable_valid : (d : Datapath) (p : Plan) (image : Image)
+    → IsDatapath d
+    → IsAssemblable d p
+    → IsImageOf d p image
+    → IsValid image
+assemblable_valid d p image path is of = feasible_valid is.graph d p is.sound (machine_of d path) is.plan image of
+
+pub assemblable_short : (d : Datapath) (p : Plan) (image : Image)
+    → IsDatapath d
+    → IsAssemblable d p
+    → IsImageOf d p image
+    → IsShort image
+assemblable_short d p image path is of = feasible_short is.graph d p is.sound (machine_of d path) is.plan image of
 
 -- its image is valid
 pub planned_valid : (d : Datapath) (p : Plan) (image : Image)

@@ -7,10 +7,11 @@ ghost use Rattle.signal_graph.specs.declared.graph.Graph.{Graph};
 ghost use Rattle.plan_core.specs.IsPlan.{IsPlan};
 ghost use Rattle.micro_image.specs.Size.{IsShort};
 ghost use Rattle.micro_image.specs.Valid.{IsValid};
+ghost use Rattle.plan_soundness.specs.Feasible.{IsFeasiblePlan};
 ghost use Rattle.plan_soundness.specs.ImageOf.{IsImageOf, width_of as width_in_file};
 ghost use Rattle.plan_soundness.specs.Instances.{FindsInstances};
 ghost use Rattle.plan_soundness.specs.Run.{RunsSolution};
-ghost use Rattle.microcode_asm.specs.Planned.{IsPlanned};
+ghost use Rattle.microcode_asm.specs.Planned.{IsPlanned, IsAssemblable};
 ghost use Rattle.microcode_asm.specs.Private.Ready.{IsReady};
 
 use crate::fault::AsmFault;
@@ -61,6 +62,23 @@ fn image_of(alloc: Global, plan: &Plan, datapath: &Datapath) -> Result<Image, As
         buses: datapath.buses.len() as u8,
         words: words(alloc, plan, datapath)?,
     })
+}
+
+/// The image of a feasible plan, whose units and cycles may have been chosen by any rule.
+///
+/// # Errors
+///
+/// `Memory` where no memory is left.
+pub fn assemble_feasible(alloc: Global, plan: &Plan, datapath: &Datapath) -> Result<Image, AsmFault>
+    requires datapath { IsDatapath datapath.now }
+    requires plan { IsAssemblable datapath.now plan.now }
+    ensures image { IfOk result (IsImageOf datapath.now plan.now) }
+    ensures valid { IfOk result IsValid }
+    ensures short { IfOk result IsShort }
+    // The image runs the solution.
+    ensures runs { (g : Graph) → IsGraph g → IsFeasiblePlan g datapath.now plan.now → IfOk result (RunsSolution g) }
+{
+    image_of(alloc, plan, datapath)
 }
 
 /// The image of a plan: a microword for each cycle until the microprogram repeats, and the words with which registers

@@ -21,7 +21,7 @@ mod units;
 mod word_lines;
 mod words;
 
-pub use assembler::{assemble, widths_of};
+pub use assembler::{assemble, assemble_feasible, widths_of};
 pub use enables::buses_of;
 pub use fault::AsmFault;
 pub use image_text::listing;

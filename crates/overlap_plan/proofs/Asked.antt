@@ -8,13 +8,13 @@ use Rattle.signal_graph.specs.declared.graph.Edge.{Edge}
 use Rattle.signal_graph.specs.declared.graph.Graph.{Graph}
 use Rattle.plan_core.specs.Operands.{delay_at, Reads}
 use Rattle.plan_core.specs.Lowered.{IsLoweredOver}
-use Rattle.plan_core.specs.Assigned.{IsAssigned}
 use Rattle.plan_core.specs.Stages.{IsLoadOf, IsStageSchedule, IsStageScheduleOver, IsWithoutStage, IsWithoutStageOver}
 use Rattle.plan_core.specs.Stages.{AreStageArcs}
 use Rattle.plan_core.specs.declared.registers.Arc.{Arc}
 use Rattle.plan_core.specs.declared.schedule.Assigned.{Assigned}
 use Rattle.plan_core.specs.declared.schedule.Schedule.{Schedule}
 use Rattle.plan_core.proofs.Readers.{edge_has}
+use Rattle.plan_soundness.specs.Units.{AreOnRightUnits}
 use Rattle.delay_memory.proofs.LoweredNodes as of_list
 use Rattle.schedule_priority.specs.Problem.{IsProblem}
 use Rattle.cyclic_life.specs.Held.{AreReadNow}
@@ -29,7 +29,7 @@ use Rattle.overlap_plan.proofs.SameLoads.{schedule_to, without_to}
 
 module _ (g : Graph) (d : Datapath) (stages : ℕ) (allowed : IsDatapath d) (sound : IsGraph g) where
   module _ (loopless : IsGraphLoopless g) (a : Assigned) (low : IsLoweredOver 0 stages g d a.lowered)
-      (bound : IsAssigned d a) where
+      (bound : AreOnRightUnits d a) where
     pub problem_of : IsProblem d a
     problem_of = record { path = allowed; schedulable = schedulable g d sound a low loopless bound }
 
@@ -43,7 +43,7 @@ module _ (g : Graph) (d : Datapath) (stages : ℕ) (allowed : IsDatapath d) (sou
     }
 
   module _ (some : 1 ≤ stages) (a : Assigned) (low : IsLoweredOver 0 stages g d a.lowered)
-      (bound : IsAssigned d a) where
+      (bound : AreOnRightUnits d a) where
     -- the loads that the code finds behind a store are those of its word
     of_behind : (v x ago : ℕ) → Loads a v x ago → IsLoadOf low.delays v x ago
     of_behind v x ago loads =
@@ -73,7 +73,7 @@ module _ (g : Graph) (d : Datapath) (stages : ℕ) (allowed : IsDatapath d) (sou
         (of_list.edges_short g d a.lowered sound low) c q v reads in
         omega (arith, short)
 
-    pub allottable_of : IsAssigned d a
+    pub allottable_of : AreOnRightUnits d a
         → (s : Schedule)
         → IsStageSchedule stages low.delays d a s
         → (arcs : List Arc)
@@ -81,4 +81,4 @@ module _ (g : Graph) (d : Datapath) (stages : ℕ) (allowed : IsDatapath d) (sou
         → AreAllottable d arcs
     allottable_of bound s scheduled arcs are =
         allottable_around d a s allowed (of_list.edge_count g d a.lowered sound low)
-        (of_list.edges_there g d a.lowered sound low) bound stages low.delays scheduled now arcs are
+        (of_list.edges_there g d a.lowered sound low) bound.right stages low.delays scheduled now arcs are

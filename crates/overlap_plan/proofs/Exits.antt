@@ -38,6 +38,7 @@ use Rattle.overlap_plan.specs.Private.Placing.{Loads}
 use Rattle.overlap_plan.specs.declared.fault.StageFault.{StageFault}
 use Rattle.overlap_plan.specs.declared.fault.StageFault.TheVariants.{Memory}
 use Rattle.overlap_plan.specs.declared.plan.StagePlan.{StagePlan}
+use Rattle.plan_soundness.proofs.Units.{on_right_units}
 use Rattle.overlap_plan.proofs.Asked.{schedule_of, without_of}
 use Rattle.overlap_plan.proofs.OneOutcome.{IsAnswer, planned, refused}
 
@@ -106,7 +107,7 @@ module _ (g : Graph) (d : Datapath) (stages : ℕ) (allowed : IsDatapath d) (sou
             assigned = a;
             is_lowered = low;
             is_assigned = are_units;
-            none = without_of g d stages allowed sound some a low are_units v x;
+            none = without_of g d stages allowed sound some a low (on_right_units are_units) v x;
           })
       period_fails period.Memory x = inl refl
 
@@ -120,7 +121,7 @@ module _ (g : Graph) (d : Datapath) (stages : ℕ) (allowed : IsDatapath d) (sou
       module _ (s : Schedule) (scheduled : IsStageScheduleOver stages (Loads a) d a s) (arcs : List Arc)
           (are : AreStageArcs d a s arcs) where
         its_schedule : IsStageSchedule stages low.delays d a s
-        its_schedule = schedule_of g d stages allowed sound some a low are_units s scheduled
+        its_schedule = schedule_of g d stages allowed sound some a low (on_right_units are_units) s scheduled
 
         file_fails : (f : FileFault) → (f ≡ file.Memory) ⊎ IsFileFault d arcs f → Fails (of_file f)
         file_fails f (inl e) = inl (ap of_file e)

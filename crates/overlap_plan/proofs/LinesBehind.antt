@@ -17,7 +17,7 @@ use Rattle.signal_graph.specs.declared.graph.Edge.{Edge}
 use Rattle.signal_graph.specs.declared.graph.Graph.{Graph}
 use Rattle.plan_core.specs.Hardware.{no_unit, latency_on, cells_on}
 use Rattle.plan_core.specs.Operands.{node_of, edge_of, delay_at, Reads}
-use Rattle.plan_core.specs.Assigned.{unit_in, IsAssigned}
+use Rattle.plan_core.specs.Assigned.{unit_in}
 use Rattle.plan_core.specs.Heights.{ReadsNow, latency_of, AreHeights, IsHeight}
 use Rattle.plan_core.specs.Lowered.{Origin, own, address, store, load, origins, origins_of, stored, IsNumber, IsReadAgo}
 use Rattle.plan_core.specs.Lowered.{IsLoweredOver}
@@ -31,6 +31,7 @@ use Rattle.plan_core.proofs.Readers.{reader_there}
 use Rattle.plan_soundness.specs.Parts.{lines_of, line_at}
 use Rattle.plan_soundness.specs.Overlap.{one_by_one}
 use Rattle.plan_soundness.specs.Memory.{LoadsFrom, StoresTo}
+use Rattle.plan_soundness.specs.Units.{AreOnRightUnits}
 use Rattle.plan_soundness.proofs.FromLowered as from_lowered
 use Rattle.plan_soundness.proofs.SoundLowered.{AreSoundLines}
 use Rattle.plan_soundness.proofs.Origins.{first_of, number_of, own_number, own_once, store_once, store_number, belongs}
@@ -61,7 +62,7 @@ load_late u (k ∷ ks) (suc (suc zero)) w ago e = absurd (cc)
 load_late u (k ∷ ks) (suc (suc (suc j))) w ago e = omega arith
 
 module _ (g : Graph) (d : Datapath) (path : IsDatapath d) (sound : IsGraph g) {hold spare : ℕ} (some : 0 < spare)
-    (a : Assigned) (low : IsLoweredOver hold spare g d a.lowered) (bound : IsAssigned d a) where
+    (a : Assigned) (low : IsLoweredOver hold spare g d a.lowered) (bound : AreOnRightUnits d a) where
   abbrev ds : List (List ℕ)
   ds = low.delays
 

@@ -50,6 +50,7 @@ use Rattle.overlap_plan.specs.declared.fault.StageFault.{StageFault}
 use Rattle.overlap_plan.specs.declared.fault.StageFault.TheVariants.{Line as Unstored, Unit as Unbound, Period, File}
 use Rattle.overlap_plan.specs.declared.fault.StageFault.TheVariants.{Memory}
 use Rattle.overlap_plan.specs.declared.plan.StagePlan.{StagePlan}
+use Rattle.plan_soundness.proofs.Units.{on_right_units}
 use Rattle.overlap_plan.proofs.Asked.{problem_of, allottable_of}
 use Rattle.overlap_plan.proofs.StagedPlacing.{stage_alike}
 
@@ -124,7 +125,7 @@ module _ (g : Graph) (d : Datapath) (stages : ℕ) (allowed : IsDatapath d) (sou
     same_delays b its = one_delays 0 stages g d b.lowered a.lowered its low
 
     problem : IsProblem d a
-    problem = problem_of g d stages allowed sound loopless a low is
+    problem = problem_of g d stages allowed sound loopless a low (on_right_units is)
 
     same_schedule : (s z : Schedule)
         → IsStageSchedule stages low.delays d a s
@@ -188,7 +189,8 @@ module _ (g : Graph) (d : Datapath) (stages : ℕ) (allowed : IsDatapath d) (sou
       same_arcs y.assigned y.is_lowered y.is_assigned y.schedule y.arcs y.is_schedule y.are_arcs x.assigned x.is_lowered
       x.schedule x.arcs x.is_assigned x.is_schedule x.are_arcs in
       one_file_fault d y.arcs
-      (allottable_of g d stages allowed sound y.assigned y.is_lowered y.is_assigned y.schedule y.is_schedule y.arcs
+      (allottable_of g d stages allowed sound y.assigned y.is_lowered (on_right_units y.is_assigned) y.schedule
+       y.is_schedule y.arcs
       y.are_arcs)
       f h (subst (λ (xs : List Arc). IsFileFault d xs f) arcs x.none) y.none
 
@@ -226,7 +228,8 @@ module _ (g : Graph) (d : Datapath) (stages : ℕ) (allowed : IsDatapath d) (sou
       let unroll =
       one_unroll q.arcs p.unroll q.unroll (subst (λ (xs : List Arc). IsUnroll xs p.unroll) arcs x.unroll) y.unroll in
       let order =
-      (allottable_of g d stages allowed sound q.assigned y.lowered y.assigned q.schedule y.schedule q.arcs y.arcs).order
+      (allottable_of g d stages allowed sound q.assigned y.lowered (on_right_units y.assigned) q.schedule y.schedule
+       q.arcs y.arcs).order
       in
       let fit =
       subst (λ (xs : List Arc). IsFirstFit d.period p.unroll xs p.registers.regs) arcs x.registers in
@@ -252,7 +255,8 @@ module _ (g : Graph) (d : Datapath) (stages : ℕ) (allowed : IsDatapath d) (sou
       same_arcs p.assigned is.lowered is.assigned p.schedule p.arcs is.schedule is.arcs h.assigned h.is_lowered
       h.schedule h.arcs h.is_assigned h.is_schedule h.are_arcs in
       allotted_or_not d p.arcs
-      (allottable_of g d stages allowed sound p.assigned is.lowered is.assigned p.schedule is.schedule p.arcs is.arcs)
+      (allottable_of g d stages allowed sound p.assigned is.lowered (on_right_units is.assigned) p.schedule is.schedule
+       p.arcs is.arcs)
       p.registers.regs (allotted p is) f (subst (λ (xs : List Arc). IsFileFault d xs f) arcs h.none)
   plan_or_not p is Memory h = h
 

@@ -21,6 +21,7 @@ use Rattle.plan_core.specs.declared.schedule.Assigned.{Assigned}
 use Rattle.plan_core.specs.declared.schedule.Schedule.{Schedule}
 use Rattle.plan_core.proofs.OneHeight.{live_of}
 use Rattle.plan_core.proofs.Readers.{reader_there, edge_has}
+use Rattle.plan_soundness.proofs.Units.{on_right_units}
 use Rattle.plan_soundness.proofs.FromLowered.{loads_from}
 use Rattle.delay_memory.proofs.LoweredNodes.{edges_there}
 use Rattle.overlap_plan.specs.IsStagePlan.{IsStagePlan, plan_of}
@@ -61,7 +62,8 @@ module _ (g : Graph) (d : Datapath) (path : IsDatapath d) (sound : IsGraph g) wh
       → IsLoadOf low.delays v x ago
       → 0 < ago
   loads_older a low bound p same v x ago loads =
-      (loads_from g d (record (plan_of p) { assigned = a }) sound low bound loads.node ago x loads.its_load).1.before
+      (loads_from g d (record (plan_of p) { assigned = a }) sound low (on_right_units bound) loads.node ago x
+       loads.its_load).1.before
 
   -- The lifetimes of a schedule whose samples do not overlap.
   module _ {hold spare : ℕ} (a : Assigned) (low : IsLoweredOver hold spare g d a.lowered) (s : Schedule)

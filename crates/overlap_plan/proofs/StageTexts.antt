@@ -7,6 +7,7 @@ use Rattle.datapath.specs.declared.types.Datapath.{Datapath}
 use Rattle.plan_core.specs.Stages.{IsGapAround, IsSameAround, IsInStage, IsLoadOf, written_around, read_around}
 use Rattle.microcode_asm.specs.Printable.{ArePrintable}
 use Rattle.microcode_asm.specs.ScheduleText as asm
+use Rattle.plan_soundness.proofs.Units.{on_right_units}
 use Rattle.microcode_asm.proofs.Printables.{printable_over}
 use Rattle.overlap_plan.specs.IsStagePlan.{plan_of}
 use Rattle.overlap_plan.specs.StagePlanned.{IsStagePlanned}
@@ -24,8 +25,8 @@ printable d p is planned =
     let short : p.stages * d.period ≤ 4 * d.period = mul-le-mul_right d.period planned.few in
     printable_over (IsGapAround d.period) (IsSameAround d.period) (p.stages * d.period)
     (IsInStage p.stages (IsLoadOf plan.lowered.delays) d a) (written_around d a s)
-    (λ (v c q : ℕ). read_around d a s v c q) d a s p.arcs p.registers is plan.assigned plan.schedule plan.arcs
-    (omega (arith, short, is.period.1)) (λ v there. refl) plan.registers.count
+    (λ (v c q : ℕ). read_around d a s v c q) d a s p.arcs p.registers is (on_right_units plan.assigned)
+    plan.schedule plan.arcs (omega (arith, short, is.period.1)) (λ v there. refl) plan.registers.count
 
 -- The text differs from that of the plan without its stages in the head line alone.
 pub record IsAlikeBelowHead (d : Datapath) (p : StagePlan) : Type 0 where

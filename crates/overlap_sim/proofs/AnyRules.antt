@@ -8,7 +8,6 @@ use Rattle.std.proofs.lemmas.List.{get_or-map, length-map}
 use Rattle.operations.specs.declared.units.PortRef.{PortRef}
 use Rattle.datapath.specs.declared.types.Datapath.{Datapath}
 use Rattle.plan_core.specs.Hardware.{gap_on, port_of}
-use Rattle.plan_core.specs.Assigned.{IsAssigned}
 use Rattle.plan_core.specs.Heights.{IsPlacedBefore}
 use Rattle.plan_core.specs.Reservations.{IsFirstBusOver}
 use Rattle.plan_core.specs.ListSchedule.{slot_of, IsListScheduleOver, IsDestination, IsPortBefore, IsTakenBefore}
@@ -24,6 +23,7 @@ use Rattle.plan_core.proofs.Readers.{operands_few, reader_there}
 use Rattle.micro_image.specs.Operations.{gives}
 use Rattle.plan_soundness.specs.Parts.{nodes_of, node_at, edge_at, unit_at, cycle_at, transfers_at, arc_at}
 use Rattle.plan_soundness.specs.Parts.{ReadsThrough, IsTransferOf, ends_at}
+use Rattle.plan_soundness.specs.Units.{AreOnRightUnits}
 use Rattle.plan_soundness.specs.Feasible.{AreRegistersApart}
 use Rattle.plan_soundness.proofs.Elements.{default_any}
 use Rattle.plan_soundness.proofs.FromRules.{all_at, in_map}
@@ -88,7 +88,7 @@ arcs_differ a b before port w node =
 module _ {IsAway : (gap t u : ℕ) → Type 0} {IsSame : (w x : ℕ) → Type 0} {end : ℕ}
     {Allows : Schedule → (height : ℕ → ℕ) → (v t : ℕ) → Type 0} {written_at : (v : ℕ) → ℕ}
     {read_at : (v c q : ℕ) → ℕ} (d : Datapath) (p : Plan) (lowered : IsSoundLowered d p)
-    (assigned : IsAssigned d p.assigned)
+    (assigned : AreOnRightUnits d p.assigned)
     (schedule : IsListScheduleOver IsAway IsSame end Allows d p.assigned p.schedule)
     (arcs : IsArcsOver written_at read_at d p.assigned p.arcs) where
   pub placed : (v : ℕ)
@@ -104,7 +104,7 @@ module _ {IsAway : (gap t u : ℕ) → Type 0} {IsSame : (w x : ℕ) → Type 0}
       record { x = u; earlier = record { node = in-u; before = before }; unit = refl; its_slot = refl }
 
   pub units : (v : ℕ) → v < length (nodes_of p) → unit_at p v < length d.units
-  units v in-v = (assigned.units v (omega (arith, in-v, assigned.count))).candidate.right.kind.there
+  units v in-v = (assigned.right v in-v).kind.there
 
   -- two nodes of one unit are away from each other, the one or the other way round
   pub units_away : (u v : ℕ)

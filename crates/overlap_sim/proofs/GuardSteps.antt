@@ -10,7 +10,8 @@ use Rattle.micro_image.specs.Valid.{IsValid}
 use Rattle.plan_soundness.specs.Parts.{lines_of}
 use Rattle.plan_soundness.specs.ImageOf.{IsPreloadOfOver, width_of}
 use Rattle.plan_soundness.specs.Run.{RunsSolutionLate}
-use Rattle.microcode_asm.proofs.ReadyPlans.{machine_of, inits_rise}
+use Rattle.plan_soundness.proofs.Machines.{machine_of}
+use Rattle.microcode_asm.proofs.ReadyPlans.{inits_rise}
 use Rattle.overlap_plan.specs.IsStagePlan.{IsStagePlan, plan_of}
 use Rattle.overlap_plan.specs.declared.plan.StagePlan.{StagePlan}
 use Rattle.overlap_sim.specs.declared.guarded.Guarded.{Guarded}

@@ -7,10 +7,10 @@ use Rattle.signal_graph.specs.GraphRules.{IsGraph}
 use Rattle.signal_graph.specs.Operations.{IsOfGraphs, class_of}
 use Rattle.signal_graph.specs.declared.graph.Node.{Node}
 use Rattle.signal_graph.specs.declared.graph.Graph.{Graph}
-use Rattle.plan_core.specs.Assigned.{IsAssigned}
 use Rattle.plan_core.specs.Lowered.{Origin, own, address, store, load, IsNumber, IsLoweredOver, IsOwnOver, IsAddress}
 use Rattle.plan_core.specs.Operands.{node_of}
 use Rattle.plan_core.specs.declared.plan.Plan.{Plan}
+use Rattle.plan_soundness.specs.Units.{AreOnRightUnits}
 use Rattle.plan_soundness.specs.Feasible.{IsFeasiblePlanOver}
 use Rattle.plan_soundness.specs.Parts.{node_at}
 use Rattle.plan_soundness.specs.Run.{RunsSolutionLate}
@@ -26,7 +26,7 @@ no_address : (o : Op) → IsOfGraphs (class_of o) → o ≡ op.Addr → ⊥
 no_address o of is = let none : IsOfGraphs (class_of op.Addr) = subst (λ o. IsOfGraphs (class_of o)) is of in none
 
 module _ {hold spare : ℕ} (g : Graph) (d : Datapath) (p : Plan) (sound : IsGraph g)
-    (lowered : IsLoweredOver hold spare g d p.assigned.lowered) (assigned : IsAssigned d p.assigned) where
+    (lowered : IsLoweredOver hold spare g d p.assigned.lowered) (assigned : AreOnRightUnits d p.assigned) where
   -- the offsets of a lowered list are natural numbers
   pub offsets_of : HasOffsets p
   offsets_of i in-i is =

@@ -318,7 +318,7 @@ module _ (stages : ℕ) (g : Graph) (d : Datapath) (p : Plan) (sound : IsGraph g
       some_at (valid.IsIssueOn (length guarded.inputs) guarded.outs issue) guarded.units issue.unit no_desc in-image
       (subst (λ u. valid.IsIssueOn (length guarded.inputs) guarded.outs issue (described u)) (sym of.unit) (record {
         does = ap kind_of of.op
-            ∙ sym ((plan.assigned.units v (omega (arith, in-v, plan.assigned.count))).candidate.right.kind.kind)
+            ∙ sym ((plan.assigned.right v in-v).kind.kind)
             ∙ sym (its_unit u below).kind;
         fmt = format_by issue.op (node_at p v).op issue.fmt (node_at p v).fmt of.op of.fmt (made_format v in-v);
         arg = subst (λ outs. valid.IsArgument issue.op (length guarded.inputs) outs issue.arg) (sym outs_are)

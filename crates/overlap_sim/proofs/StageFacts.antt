@@ -11,11 +11,11 @@ use Rattle.datapath.specs.Allowed.{IsUnit}
 use Rattle.fix_word.specs.declared.operation.Op.TheVariants as op
 use Rattle.operations.specs.Units.{ports}
 use Rattle.operations.specs.declared.units.Kind.TheVariants as kind
-use Rattle.plan_core.specs.Assigned.{IsAssigned}
 use Rattle.plan_core.specs.Hardware.{unit_of, no_unit, latency_on, gap_on, cells_on, tie_of, kind_of}
 use Rattle.plan_core.specs.declared.plan.Plan.{Plan}
 use Rattle.plan_soundness.specs.Machine.{IsMachine}
 use Rattle.plan_soundness.specs.Parts.{nodes_of, node_at, unit_at, cycle_at, ends_at}
+use Rattle.plan_soundness.specs.Units.{AreOnRightUnits}
 use Rattle.plan_soundness.specs.Feasible.{IsFeasibleOver}
 use Rattle.plan_soundness.proofs.Samples.{split, below_count}
 use Rattle.plan_soundness.proofs.SomeWord.{enough_ports}
@@ -42,7 +42,7 @@ slid_again o stage cells = ap pos (mod-add-mod o cells stage)
 -- the unit of an address is tied to a ram with cells
 pub tied : (d : Datapath) (p : Plan)
     → IsMachine d
-    → IsAssigned d p.assigned
+    → AreOnRightUnits d p.assigned
     → (v : ℕ)
     → v < length (nodes_of p)
     → (node_at p v).op ≡ op.Addr
@@ -50,7 +50,7 @@ pub tied : (d : Datapath) (p : Plan)
     × (0 < cells_on d (tie_of d (unit_at p v)))
     × (cells_on d (tie_of d (unit_at p v)) ≤ 65536)
 tied d p machine assigned v in-v is =
-    let of = (assigned.units v (omega (arith, in-v, assigned.count))).candidate.right.kind in
+    let of = (assigned.right v in-v).kind in
     let unit : IsUnit d.units (unit_of d (unit_at p v)) = machine.units (unit_at p v) no_unit of.there in
     let ram = some_is_at (λ (other : of_unit.Unit). other.kind ≡ kind.Ram) d.units (tie_of d (unit_at p v)) no_unit
     (unit.ram (of.kind ∙ ap kind_of is)) in
@@ -131,8 +131,7 @@ module _ (d : Datapath) (sp : StagePlan) (ready : IsStageReady d sp) where
   ports_for v in-v =
       let unit : IsUnit d.units (unit_of d (unit_at p v)) =
       ready.ready.machine.units (unit_at p v) no_unit (feasible.units v in-v) in
-      let same = (ready.ready.plan.assigned.units v
-      (omega (arith, in-v, ready.ready.plan.assigned.count))).candidate.right.kind.kind in
+      let same = (ready.ready.plan.assigned.right v in-v).kind.kind in
       omega (
         arith,
         feasible.operand_count v in-v,

@@ -27,11 +27,13 @@ use Rattle.plan_soundness.specs.Samples.{past}
 use Rattle.plan_soundness.specs.Overlap.{shift_of}
 use Rattle.plan_soundness.specs.Run.{RunsSolutionLate}
 use Rattle.plan_soundness.specs.Lifetimes.{IsLifetime}
+use Rattle.plan_soundness.specs.Units.{AreOnRightUnits}
 use Rattle.plan_soundness.specs.Feasible.{IsFeasibleOver, IsFeasiblePlanOver, IsFeasibleArc}
 use Rattle.plan_soundness.proofs.FromLowered.{sound_lowered, sound_lines, edges_held, load_of, loads_from, line_for}
 use Rattle.plan_soundness.proofs.FromLowered.{store_op, number_below}
 use Rattle.plan_soundness.proofs.FromRules.{gaps_of}
 use Rattle.plan_soundness.proofs.Origins.{own_once, store_number}
+use Rattle.plan_soundness.proofs.Units.{on_right_units}
 use Rattle.plan_soundness.proofs.Samples.{split, one_more}
 use Rattle.plan_soundness.proofs.SoundLowered.{IsSoundLowered, AreSoundLines}
 use Rattle.overlap_plan.specs.IsStagePlan.{IsStagePlan, plan_of}
@@ -70,11 +72,14 @@ module _ (g : Graph) (d : Datapath) (stages : ℕ) (sp : StagePlan) (sound : IsG
   gaps : (u : ℕ) → (0 < gap_on d u) × (gap_on d u ≤ latency_on d u)
   gaps = gaps_of d machine.units
 
+  on_units : AreOnRightUnits d p.assigned
+  on_units = on_right_units plan.assigned
+
   lowered : IsSoundLowered d p
-  lowered = sound_lowered g d p sound plan.lowered plan.assigned
+  lowered = sound_lowered g d p sound plan.lowered on_units
 
   lines : AreSoundLines (overlap_of stages) d p
-  lines = sound_lines g d p sound plan.lowered plan.assigned (overlap_of stages) (omega (arith, some))
+  lines = sound_lines g d p sound plan.lowered on_units (overlap_of stages) (omega (arith, some))
 
   period : 0 < d.period
   period = omega (arith, machine.period.0)
@@ -115,7 +120,7 @@ module _ (g : Graph) (d : Datapath) (stages : ℕ) (sp : StagePlan) (sound : IsG
       absurd (apart_back d.period (cycle_at p u) (cycle_at p v) s n period (gap_on d (unit_at p u))
       (gaps (unit_at p u)).0 away le near))
       other)
-      (rules.units_away d p lowered plan.assigned plan.schedule plan.arcs u v in-u in-v unit)
+      (rules.units_away d p lowered on_units plan.schedule plan.arcs u v in-u in-v unit)
     where
       -- its unit is free again a period later
       once : u ≡ v → s ≡ n
@@ -153,7 +158,7 @@ module _ (g : Graph) (d : Datapath) (stages : ℕ) (sp : StagePlan) (sound : IsG
       → s.bus ≡ t.bus
       → u ≡ v
   bus_free u v m n s t in-u in-v in-s in-t ends bus =
-      rules.bus_once d p lowered plan.assigned plan.schedule plan.arcs u v s t in-u in-v in-s in-t
+      rules.bus_once d p lowered on_units plan.schedule plan.arcs u v s t in-u in-v in-s in-t
       (ends_same u v m n ends) (sym (ends_same u v m n ends)) bus
 
   -- Lifetimes.
@@ -162,7 +167,7 @@ module _ (g : Graph) (d : Datapath) (stages : ℕ) (sp : StagePlan) (sound : IsG
       → k < length p.arcs
       → IsArcOver (written_around d p.assigned p.schedule) (read_around d p.assigned p.schedule) d p.assigned
       (arc_at p k)
-  arc k in-k = rules.arc d p lowered plan.assigned plan.schedule plan.arcs k in-k
+  arc k in-k = rules.arc d p lowered on_units plan.schedule plan.arcs k in-k
 
   count_of_unroll : IsCount p.unroll
   count_of_unroll =
@@ -175,7 +180,7 @@ module _ (g : Graph) (d : Datapath) (stages : ℕ) (sp : StagePlan) (sound : IsG
   -- no operand is of a sample before
   no_delay : (v q : ℕ) → v < length (nodes_of p) → q < length (node_at p v).edges → (edge_at p v q).delay ≡ 0
   no_delay v q in-v in-q =
-      let held = edges_held g d p sound plan.lowered plan.assigned v q in-v in-q in omega (arith, held)
+      let held = edges_held g d p sound plan.lowered on_units v q in-v in-q in omega (arith, held)
 
   -- a word is there before it is read
   behind : (v q k : ℕ)
@@ -211,7 +216,7 @@ module _ (g : Graph) (d : Datapath) (stages : ℕ) (sp : StagePlan) (sound : IsG
   lifetime k in-k =
       let its = arc k in-k in
       let c : ℕ = its.read.0 in
-      let through = rules.through_arc d p lowered plan.assigned plan.schedule plan.arcs k c in-k its.read.1 in
+      let through = rules.through_arc d p lowered on_units plan.schedule plan.arcs k c in-k its.read.1 in
       let in-c : c < length (nodes_of p) =
       reader_there (nodes_of p) c (arc_at p k).port.port (arc_at p k).node its.read.1.reads in
       record {
@@ -224,13 +229,13 @@ module _ (g : Graph) (d : Datapath) (stages : ℕ) (sp : StagePlan) (sound : IsG
 
   feasible_arc : (k : ℕ) → k < length p.arcs → IsFeasibleArc d p k
   feasible_arc k in-k =
-      let by = rules.reader d p lowered plan.assigned plan.schedule plan.arcs k in-k in
+      let by = rules.reader d p lowered on_units plan.schedule plan.arcs k in-k in
       record {
         lifetime = lifetime k in-k;
         written = omega (arith, (arc k in-k).written, parts k);
-        node = rules.arc_node d p lowered plan.assigned plan.schedule plan.arcs k in-k;
+        node = rules.arc_node d p lowered on_units plan.schedule plan.arcs k in-k;
         result = lowered.result by.0 (arc_at p k).port.port (arc_at p k).node by.1 by.2.reads;
-        transfer = rules.arc_transfer d p lowered plan.assigned plan.schedule plan.arcs k in-k;
+        transfer = rules.arc_transfer d p lowered on_units plan.schedule plan.arcs k in-k;
       }
 
   -- Delay lines.
@@ -255,11 +260,11 @@ module _ (g : Graph) (d : Datapath) (stages : ℕ) (sp : StagePlan) (sound : IsG
       → LoadsFrom d p v l ago
       → ends_at d p (store_of (line_at p l)) < cycle_at p v + ago * d.period
   load_in v l ago in-v is from =
-      let of = load_of g d p sound plan.lowered plan.assigned v in-v is in
-      let its = loads_from g d p sound plan.lowered plan.assigned of.0 of.1 v of.2 in
+      let of = load_of g d p sound plan.lowered on_units v in-v is in
+      let its = loads_from g d p sound plan.lowered on_units of.0 of.1 v of.2 in
       let same = line_once v its.0 l of.1 ago its.1 from in
       let x : ℕ = store_of (line_at p l) in
-      let for = line_for g d p sound plan.lowered plan.assigned l from.there in
+      let for = line_for g d p sound plan.lowered on_units l from.there in
       let number : IsNumber plan.lowered.delays (store for.v) x =
       subst (λ n. IsNumber plan.lowered.delays (store for.v) (n + 2))
       (sym (own_once plan.lowered.delays for.v (line_at p l).node for.next.node))
@@ -275,8 +280,8 @@ module _ (g : Graph) (d : Datapath) (stages : ℕ) (sp : StagePlan) (sound : IsG
             (subst (λ ago. IsNumber plan.lowered.delays (load of.0 ago) v) same.1 of.2);
       } in
       let in-x : x < length (nodes_of p) =
-      number_below g d p sound plan.lowered plan.assigned (store for.v) x number in
-      let stored : (node_at p x).op ≡ op.Store = store_op g d p sound plan.lowered plan.assigned for.v x number in
+      number_below g d p sound plan.lowered on_units (store for.v) x number in
+      let stored : (node_at p x).op ≡ op.Store = store_op g d p sound plan.lowered on_units for.v x number in
       ⊎_elim
       (λ (one : x ≡ v). absurd (load_no_store _ is (ap (λ v. (node_at p v).op) (sym one) ∙ stored)))
       (λ other.
@@ -307,22 +312,22 @@ module _ (g : Graph) (d : Datapath) (stages : ℕ) (sp : StagePlan) (sound : IsG
     edges = λ v q in-v in-q.
         let edge = lowered.edges v q in-v in-q in (edge.0, omega (arith, no_delay v q in-v in-q));
     outputs = lowered.outputs;
-    units = rules.units d p lowered plan.assigned plan.schedule plan.arcs;
-    buses = rules.buses d p lowered plan.assigned plan.schedule plan.arcs;
+    units = rules.units d p lowered on_units plan.schedule plan.arcs;
+    buses = rules.buses d p lowered on_units plan.schedule plan.arcs;
     fits = fits;
     inputs = λ v in-v is. (placed v in-v).can.allows.input is;
     outputs_last = λ v in-v is. let last = (placed v in-v).can.allows.output is in omega (arith, last, ends_later v);
     unit_free = unit_free;
     bus_free = bus_free;
-    transfer_once = rules.transfer_once d p lowered plan.assigned plan.schedule plan.arcs;
-    transfers = rules.transfers d p lowered plan.assigned plan.schedule plan.arcs;
+    transfer_once = rules.transfer_once d p lowered on_units plan.schedule plan.arcs;
+    transfers = rules.transfers d p lowered on_units plan.schedule plan.arcs;
     arcs = feasible_arc;
     early = λ k s in-k from early. absurd (omega (arith, from, early));
-    file_free = rules.file_once d p lowered plan.assigned plan.schedule plan.arcs (λ u v same. same);
-    ports = rules.ports d p lowered plan.assigned plan.schedule plan.arcs;
-    read = rules.read d p lowered plan.assigned plan.schedule plan.arcs;
+    file_free = rules.file_once d p lowered on_units plan.schedule plan.arcs (λ u v same. same);
+    ports = rules.ports d p lowered on_units plan.schedule plan.arcs;
+    read = rules.read d p lowered on_units plan.schedule plan.arcs;
     read_in = λ v q k in-v through. (behind v q k in-v through, upto v q k in-v through);
-    registers = rules.first_fit_apart d p lowered plan.assigned plan.schedule plan.arcs plan.registers;
+    registers = rules.first_fit_apart d p lowered on_units plan.schedule plan.arcs plan.registers;
     memory = lines;
     load_in = load_in;
   }
@@ -331,7 +336,7 @@ module _ (g : Graph) (d : Datapath) (stages : ℕ) (sp : StagePlan) (sound : IsG
   pub stage_feasible : IsFeasiblePlanOver (overlap_of stages) 0 stages g d (plan_of sp)
   stage_feasible = record {
     lowered = plan.lowered;
-    assigned = plan.assigned;
+    assigned = on_units;
     feasible = feasible;
     unroll = count_of_unroll;
     sizes = plan.sizes;

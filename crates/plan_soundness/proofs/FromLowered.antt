@@ -21,7 +21,7 @@ use Rattle.signal_graph.specs.declared.graph.Node.{Node}
 use Rattle.signal_graph.specs.declared.graph.Graph.{Graph}
 use Rattle.plan_core.specs.Hardware.{tie_of}
 use Rattle.plan_core.specs.Operands.{node_of, edge_of, no_edge}
-use Rattle.plan_core.specs.Assigned.{IsAssigned, IsForRam}
+use Rattle.plan_core.specs.Assigned.{IsForRam}
 use Rattle.plan_core.specs.Lowered.{Origin, own, address, store, load, origins, stored, used, line_of, no_line}
 use Rattle.plan_core.specs.Lowered.{IsNumber, IsReadAgo, AreLongDelays, IsNextLine, IsLoweredEdge, IsLineOf, IsOwnOver}
 use Rattle.plan_core.specs.Lowered.{IsAddress, IsStore, IsLoad, IsMadeOver, IsLoweredOver, edge_now}
@@ -32,6 +32,7 @@ use Rattle.plan_soundness.specs.Parts.{nodes_of, lines_of, node_at, edge_at, uni
 use Rattle.plan_soundness.specs.Samples.{past}
 use Rattle.plan_soundness.specs.Overlap.{Overlap, AreDisjoint}
 use Rattle.plan_soundness.specs.Memory.{store_of, HasAddress, LoadsFrom, StoresTo}
+use Rattle.plan_soundness.specs.Units.{AreOnRightUnits}
 use Rattle.plan_soundness.specs.Feasible.{IsFeasibleLine}
 use Rattle.plan_soundness.proofs.Elements.{nth_past, default_any}
 use Rattle.plan_soundness.proofs.FromRules.{all_at}
@@ -177,7 +178,7 @@ stored_once : (delays : List (List ℕ)) (j k : ℕ) (x y : ℕ × List ℕ)
 stored_once delays j k x y is is' same = filtered_once 0 delays j k x y is is' same
 
 module _ {hold spare : ℕ} (g : Graph) (d : Datapath) (p : Plan) (sound : IsGraph g)
-    (lowered : IsLoweredOver hold spare g d p.assigned.lowered) (assigned : IsAssigned d p.assigned) where
+    (lowered : IsLoweredOver hold spare g d p.assigned.lowered) (assigned : AreOnRightUnits d p.assigned) where
   -- each node of the lowered list is made
   pub record IsMadeAt (i : ℕ) : Type 0 where
     pub origin : Origin
@@ -591,7 +592,7 @@ module _ {hold spare : ℕ} (g : Graph) (d : Datapath) (p : Plan) (sound : IsGra
   -- Memory.
 
   right_ram : (i : ℕ) → i < length (nodes_of p) → IsForRam d (node_at p i).op (node_at p i).ram (unit_at p i)
-  right_ram i in-i = (assigned.units i (omega (arith, in-i, assigned.count))).candidate.right.ram
+  right_ram i in-i = (assigned.right i in-i).ram
 
   ram_by : (i ram : ℕ) (o : Op)
       → i < length (nodes_of p)

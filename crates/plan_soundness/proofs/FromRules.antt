@@ -1,4 +1,4 @@
--- A plan by the rules is feasible.
+-- A plan whose nodes are placed one beside another is feasible, whatever else is asked of their cycles.
 use Rattle.std.proofs.Common.{◌≡◌, ◌≢◌, ℕ, ◌+◌, ◌*◌, ◌%◌, ◌<◌, ◌≤◌, refl, sym, ap, ◌∙◌, arith, ⊎_elim, ◌⊎◌, inl, inr}
 use Rattle.std.proofs.Common.{List, length, slice_index_or, map, All, Contains, true, subst}
 use Rattle.std.specs.List.{AllPairs}
@@ -10,14 +10,15 @@ use Rattle.datapath.specs.declared.types.Datapath.{Datapath}
 use Rattle.datapath.specs.Allowed.{IsUnit}
 use Rattle.plan_core.specs.Hardware.{latency_on, gap_on, unit_of, no_unit, port_of}
 use Rattle.plan_core.specs.Operands.{Reads}
-use Rattle.plan_core.specs.Assigned.{IsAssigned}
 use Rattle.plan_core.specs.Heights.{IsPlacedBefore}
-use Rattle.plan_core.specs.Reservations.{IsFirstBus}
-use Rattle.plan_core.specs.ListSchedule.{slot_of, IsListSchedule, IsDestination, IsPortBefore, IsTakenBefore, IsPlaced}
+use Rattle.plan_core.specs.Reservations.{IsFirstBus, IsGapApart, IsOneCycle}
+use Rattle.plan_core.specs.ListSchedule.{slot_of, IsListScheduleOver, IsDestination, IsPortBefore, IsTakenBefore}
+use Rattle.plan_core.specs.ListSchedule.{IsPlacedOver}
 use Rattle.plan_core.specs.Arcs.{IsArcs, IsArc, IsArcBefore, IsCount, IsUnroll, ReadsArc, read_cycle}
 use Rattle.plan_core.specs.Circle.{AreApart}
 use Rattle.plan_core.specs.FirstFit.{IsFirstFit, IsCopyBefore}
 use Rattle.plan_core.specs.declared.schedule.Transfer.{Transfer}
+use Rattle.plan_core.specs.declared.schedule.Schedule.{Schedule}
 use Rattle.plan_core.specs.declared.registers.Arc.{Arc}
 use Rattle.plan_core.specs.declared.plan.Plan.{Plan}
 use Rattle.plan_core.proofs.Readers.{operands_few, reader_there}
@@ -28,6 +29,7 @@ use Rattle.plan_soundness.specs.Parts.{IsTransferOf, ends_at}
 use Rattle.plan_soundness.specs.Samples.{past}
 use Rattle.plan_soundness.specs.Overlap.{one_by_one}
 use Rattle.plan_soundness.specs.Lifetimes.{IsLifetime}
+use Rattle.plan_soundness.specs.Units.{AreOnRightUnits, IsRouted}
 use Rattle.plan_soundness.specs.Feasible.{IsFeasible, IsFeasibleArc, AreRegistersApart}
 use Rattle.plan_soundness.proofs.Elements.{nth_past, default_any}
 use Rattle.plan_soundness.proofs.Ordinary.{no_shift, end_below, unit_free_in_all, ends_same, ends_early, ends_before}
@@ -145,11 +147,14 @@ count_of_unroll d p arcs unrolled =
     subst IsCount is.2 arc.count)
     unrolled.reached
 
-module _ (d : Datapath) (p : Plan) (lowered : IsSoundLowered d p)
-    (gaps : (u : ℕ) → (0 < gap_on d u) × (gap_on d u ≤ latency_on d u))
-    (assigned : IsAssigned d p.assigned) (schedule : IsListSchedule d p.assigned p.schedule)
+module _ {Allows : Schedule → (height : ℕ → ℕ) → (v t : ℕ) → Type 0} (d : Datapath) (p : Plan)
+    (lowered : IsSoundLowered d p) (gaps : (u : ℕ) → (0 < gap_on d u) × (gap_on d u ≤ latency_on d u))
+    (assigned : AreOnRightUnits d p.assigned)
+    (schedule : IsListScheduleOver IsGapApart IsOneCycle d.period Allows d p.assigned p.schedule)
     (arcs : IsArcs d p.assigned p.schedule p.arcs) (unrolled : IsUnroll p.arcs p.unroll) where
-  placed : (v : ℕ) → v < length (nodes_of p) → IsPlaced d p.assigned p.schedule schedule.height v
+  placed : (v : ℕ)
+      → v < length (nodes_of p)
+      → IsPlacedOver IsGapApart IsOneCycle d.period Allows d p.assigned p.schedule schedule.height v
   placed v in-v = schedule.placed v in-v
 
   taken : (u v : ℕ)
@@ -160,7 +165,7 @@ module _ (d : Datapath) (p : Plan) (lowered : IsSoundLowered d p)
       record { x = u; earlier = record { node = in-u; before = before }; unit = refl; its_slot = refl }
 
   units : (v : ℕ) → v < length (nodes_of p) → unit_at p v < length d.units
-  units v in-v = (assigned.units v (omega (arith, in-v, assigned.count))).candidate.right.kind.there
+  units v in-v = (assigned.right v in-v).kind.there
 
   pub fits : (v : ℕ) → v < length (nodes_of p) → cycle_at p v + latency_on d (unit_at p v) ≤ d.period
   fits v in-v = (placed v in-v).can.fits.period
@@ -479,15 +484,18 @@ module _ (d : Datapath) (p : Plan) (lowered : IsSoundLowered d p)
       other)
       (copy_order (arc_at p j).w (arc_at p k).w (arc_at p j).node (arc_at p k).node a b)
 
+  pub routed : IsRouted d p
+  routed v t in-v in-t =
+      let first : IsFirstBus d (IsTakenBefore p.assigned p.schedule schedule.height v) (unit_at p v) (ends_at d p v) t =
+      all_at (IsFirstBus d (IsTakenBefore p.assigned p.schedule schedule.height v) (unit_at p v) (ends_at d p v))
+      (transfers_at p v) t (placed v in-v).buses in-t in
+      first.route.route
+
   buses : (v : ℕ) (t : Transfer)
       → v < length (nodes_of p)
       → Contains (transfers_at p v) t
       → t.bus < length d.buses
-  buses v t in-v in-t =
-      let first : IsFirstBus d (IsTakenBefore p.assigned p.schedule schedule.height v) (unit_at p v) (ends_at d p v) t =
-      all_at (IsFirstBus d (IsTakenBefore p.assigned p.schedule schedule.height v) (unit_at p v) (ends_at d p v))
-      (transfers_at p v) t (placed v in-v).buses in-t in
-      first.route.route.there
+  buses v t in-v in-t = (routed v t in-v in-t).there
 
   -- the rules give a feasible plan
   pub feasible : 0 < d.period → AreSoundLines one_by_one d p → AreRegistersApart d p → IsFeasible d p

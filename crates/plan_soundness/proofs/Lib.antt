@@ -14,6 +14,8 @@ pub mod Whole
 pub mod Ordinary
 pub mod SoundLowered
 pub mod FromRules
+pub mod Machines
+pub mod Units
 pub mod Origins
 pub mod FromLowered
 pub mod LoweredSolution

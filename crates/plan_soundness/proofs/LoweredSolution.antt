@@ -20,13 +20,13 @@ use Rattle.signal_graph.specs.declared.graph.Node.{Node}
 use Rattle.signal_graph.specs.declared.graph.Graph.{Graph}
 use Rattle.plan_core.specs.Hardware.{cells_on, tie_of}
 use Rattle.plan_core.specs.Operands.{node_of, edge_of, no_edge}
-use Rattle.plan_core.specs.Assigned.{IsAssigned}
 use Rattle.plan_core.specs.Lowered.{Origin, own, address, store, load, origins, IsNumber, IsLoweredEdge, IsOwnOver}
 use Rattle.plan_core.specs.Lowered.{IsAddress, IsStore, IsLoad, IsLoweredOver}
 use Rattle.plan_core.specs.declared.plan.Plan.{Plan}
 use Rattle.plan_soundness.specs.Parts.{nodes_of, node_at, edge_at, unit_at, line_at}
 use Rattle.plan_soundness.specs.Samples.{past}
 use Rattle.plan_soundness.specs.Memory.{LoadsFrom}
+use Rattle.plan_soundness.specs.Units.{AreOnRightUnits}
 use Rattle.plan_soundness.specs.Private.Solution.{Counted, LoweredSolves, IsOfGraph, meaning, meaning_by, operand_in}
 use Rattle.plan_soundness.proofs.FromLowered.{made_at, made_as, own_below, own_op, own_count, own_edge, graph_node}
 use Rattle.plan_soundness.proofs.FromLowered.{graph_edge, edge_node, same_operands, address_op, load_op, store_op}
@@ -113,8 +113,8 @@ module _ (g : Graph) (stream : Rows) (words : Words) (sound : IsGraph g) (solves
       from n ago le = omega (arith, le)
 
 module _ {hold spare : ℕ} (g : Graph) (d : Datapath) (p : Plan) (sound : IsGraph g)
-    (lowered : IsLoweredOver hold spare g d p.assigned.lowered) (assigned : IsAssigned d p.assigned) (stream : Rows)
-    (words : Words) (solves : GraphSolves g stream words) where
+    (lowered : IsLoweredOver hold spare g d p.assigned.lowered) (assigned : AreOnRightUnits d p.assigned)
+    (stream : Rows) (words : Words) (solves : GraphSolves g stream words) where
   -- the words of the nodes of the lowered list
   abbrev pub lowered_words : Counted
   lowered_words i s = word_by g d p words (slice_get (origins lowered.delays) i) i s

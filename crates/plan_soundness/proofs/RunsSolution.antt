@@ -15,8 +15,10 @@ use Rattle.signal_graph.specs.Values.{Words}
 use Rattle.signal_graph.specs.declared.graph.Node.{Node}
 use Rattle.signal_graph.specs.declared.graph.Graph.{Graph}
 use Rattle.plan_core.specs.IsPlan.{IsPlan}
+use Rattle.plan_core.specs.ListSchedule.{AnyCycle}
 use Rattle.plan_core.specs.Operands.{node_of}
 use Rattle.plan_core.specs.Lowered.{own, IsNumber, IsOwnOver}
+use Rattle.plan_core.specs.declared.schedule.Schedule.{Schedule}
 use Rattle.plan_core.specs.declared.plan.Plan.{Plan}
 use Rattle.micro_image.specs.Fields.{Microprogram, microprogram_of}
 use Rattle.micro_image.specs.Run.{IsRunOut}
@@ -28,11 +30,14 @@ use Rattle.plan_soundness.specs.Run.{RunsSolution, late_words, RunsSolutionLate}
 use Rattle.plan_soundness.specs.Samples.{past}
 use Rattle.plan_soundness.specs.Overlap.{Overlap, one_by_one}
 use Rattle.plan_soundness.specs.Private.Solution.{Counted}
+use Rattle.plan_soundness.specs.Units.{IsRouted}
+use Rattle.plan_soundness.specs.Placed.{IsPlacedPlan}
 use Rattle.plan_soundness.specs.Feasible.{IsFeasiblePlanOver, IsFeasiblePlan}
 use Rattle.plan_soundness.specs.Executes.{ExecutesOver}
 use Rattle.plan_soundness.proofs.FromImage.{executes}
 use Rattle.plan_soundness.proofs.FromLowered.{sound_lowered, sound_lines, made_as, number_below, some_is, none_past}
-use Rattle.plan_soundness.proofs.FromRules.{feasible, gaps_of, count_of_unroll, first_fit_apart}
+use Rattle.plan_soundness.proofs.FromRules.{feasible, gaps_of, count_of_unroll, first_fit_apart, routed}
+use Rattle.plan_soundness.proofs.Units.{on_right_units}
 use Rattle.plan_soundness.proofs.SoundLowered.{IsSoundLowered}
 use Rattle.plan_soundness.proofs.LoweredSolution.{lowered_words, lowered_solves, word_is, late as late_of, now_is}
 use Rattle.plan_soundness.proofs.Origins.{first_of, own_number}
@@ -61,27 +66,49 @@ word_now words v n = word_late 0 words v n (omega arith) ∙ ap (λ m. words v (
     none : (n : ℕ) → n - 0 ≡ n
     none n = omega arith
 
--- a plan by the rules is feasible
+-- a plan whose nodes are placed by whatever rule is feasible, and its transfers go over routes
+module _ {Allows : Schedule → (height : ℕ → ℕ) → (v t : ℕ) → Type 0} (g : Graph) (d : Datapath) (p : Plan)
+    (sound : IsGraph g) (machine : IsMachine d) (plan : IsPlacedPlan Allows g d p) where
+  rules : IsSoundLowered d p
+  rules = sound_lowered g d p sound plan.lowered plan.assigned
+
+  pub placed_feasible : IsFeasiblePlan g d p
+  placed_feasible = record {
+    lowered = plan.lowered;
+    assigned = plan.assigned;
+    feasible = feasible d p rules (gaps_of d machine.units) plan.assigned plan.schedule plan.arcs plan.unroll
+        (omega (arith, machine.period.0)) (sound_lines g d p sound plan.lowered plan.assigned one_by_one (omega arith))
+        (first_fit_apart d p rules (gaps_of d machine.units) plan.assigned plan.schedule plan.arcs plan.unroll
+        plan.registers);
+    unroll = count_of_unroll d p plan.arcs plan.unroll;
+    sizes = plan.sizes;
+    inputs = plan.inputs;
+    outs = plan.outs;
+  }
+
+  pub placed_routed : IsRouted d p
+  placed_routed = routed d p rules (gaps_of d machine.units) plan.assigned plan.schedule plan.arcs plan.unroll
+
+-- a plan by the rules is such a plan
+pub placed_plan : {g : Graph} {d : Datapath} {p : Plan} → IsPlan g d p → IsPlacedPlan AnyCycle g d p
+placed_plan plan = record {
+  lowered = plan.lowered;
+  assigned = on_right_units plan.assigned;
+  schedule = plan.schedule;
+  arcs = plan.arcs;
+  unroll = plan.unroll;
+  registers = plan.registers;
+  sizes = plan.sizes;
+  inputs = plan.inputs;
+  outs = plan.outs;
+}
+
 pub plan_feasible : (g : Graph) (d : Datapath) (p : Plan)
     → IsGraph g
     → IsMachine d
     → IsPlan g d p
     → IsFeasiblePlan g d p
-plan_feasible g d p sound machine plan = record {
-  lowered = plan.lowered;
-  assigned = plan.assigned;
-  feasible = feasible d p rules (gaps_of d machine.units) plan.assigned plan.schedule plan.arcs plan.unroll
-      (omega (arith, machine.period.0)) (sound_lines g d p sound plan.lowered plan.assigned one_by_one (omega arith))
-      (first_fit_apart d p rules (gaps_of d machine.units) plan.assigned plan.schedule plan.arcs plan.unroll
-      plan.registers);
-  unroll = count_of_unroll d p plan.arcs plan.unroll;
-  sizes = plan.sizes;
-  inputs = plan.inputs;
-  outs = plan.outs;
-}
-  where
-    rules : IsSoundLowered d p
-    rules = sound_lowered g d p sound plan.lowered plan.assigned
+plan_feasible g d p sound machine plan = placed_feasible g d p sound machine (placed_plan plan)
 
 module _ {o : Overlap} {hold spare : ℕ} (g : Graph) (d : Datapath) (p : Plan) (sound : IsGraph g)
     (plan : IsFeasiblePlanOver o hold spare g d p) where

@@ -183,7 +183,7 @@ module _ (g : Graph) (d : Datapath) (p : Plan) (machine : IsMachine d) (plan : I
       let u : ℕ = unit_at p v in
       let below : u < length d.units = feasible.units v in-v in
       let unit : IsUnit d.units (unit_of d u) = machine.units u no_unit below in
-      let kind = (plan.assigned.units v (omega (arith, in-v, plan.assigned.count))).candidate.right.kind.kind in
+      let kind = (plan.assigned.right v in-v).kind.kind in
       let regs = choose (IsRegisterFor v n) (length (unit_of d u).files) 0 (λ q in-q. some_register v n q in-v in-n) in
       let edges : length (node_at p v).edges ≤ length (unit_of d u).files =
       omega (arith, feasible.operand_count v in-v, enough_ports (node_at p v).op, unit.file_count, ap ports kind) in (

@@ -15,6 +15,7 @@ use Rattle.plan_soundness.specs.Samples.{past}
 use Rattle.plan_soundness.specs.Overlap.{Overlap}
 use Rattle.plan_soundness.specs.Feasible.{IsFeasiblePlanOver}
 use Rattle.plan_soundness.proofs.FeasibleTests.{feasible_by}
+use Rattle.plan_soundness.proofs.Units.{on_right_units}
 use Rattle.plan_soundness.proofs.FromLowered.{sound_lowered, sound_lines}
 use Rattle.plan_soundness.proofs.WorkedRuns.{a_byte, no_inits, five, input_is, output_is, sum_is, pass_is}
 
@@ -51,10 +52,11 @@ sums_are_graph = record {
 pub sums_feasible : IsFeasiblePlanOver two_stages 0 2 sums sums_path sums_plan
 sums_feasible = record {
   lowered = sums_are_lowered;
-  assigned = sums_assigned;
+  assigned = on_right_units sums_assigned;
   feasible = feasible_by two_stages sums_path sums_plan
-      (sound_lowered sums sums_path sums_plan sums_are_graph sums_are_lowered sums_assigned)
-      (sound_lines sums sums_path sums_plan sums_are_graph sums_are_lowered sums_assigned two_stages (omega arith))
+      (sound_lowered sums sums_path sums_plan sums_are_graph sums_are_lowered (on_right_units sums_assigned))
+      (sound_lines sums sums_path sums_plan sums_are_graph sums_are_lowered (on_right_units sums_assigned) two_stages
+      (omega arith))
       (omega arith) (omega arith) refl (omega arith) refl refl refl refl refl refl refl refl refl refl;
   unroll = inr (inl refl);
   sizes = λ k i in-k in-i. passed (are_in_files sums_path sums_plan.arcs sums_plan.registers.regs) refl k in-k i in-i;
@@ -85,11 +87,12 @@ delayed_is_graph = record {
 pub delayed_feasible : IsFeasiblePlanOver two_stages 0 2 delayed held_path delayed_plan
 delayed_feasible = record {
   lowered = delayed_is_lowered;
-  assigned = delayed_assigned;
+  assigned = on_right_units delayed_assigned;
   feasible = feasible_by two_stages held_path delayed_plan
-      (sound_lowered delayed held_path delayed_plan delayed_is_graph delayed_is_lowered delayed_assigned)
-      (sound_lines delayed held_path delayed_plan delayed_is_graph delayed_is_lowered delayed_assigned two_stages
-      (omega arith))
+      (sound_lowered delayed held_path delayed_plan delayed_is_graph delayed_is_lowered
+       (on_right_units delayed_assigned))
+      (sound_lines delayed held_path delayed_plan delayed_is_graph delayed_is_lowered (on_right_units delayed_assigned)
+      two_stages (omega arith))
       (omega arith) (omega arith) refl (omega arith) refl refl refl refl refl refl refl refl refl refl;
   unroll = inl refl;
   sizes = λ k i in-k in-i.

@@ -256,7 +256,7 @@ module _ (g : Graph) (d : Datapath) (p : Plan) (sound : IsGraph g) (machine : Is
       product u q e f = grind (arith, e, f)
 
   -- and what spells it is no longer than such a file may be
-  feasible_short : IsShort image
+  pub feasible_short : IsShort image
   feasible_short One bytes spells =
       let most = image_bytes_within most_takes image spells.valid (λ x default below. (word x default below).1) in
       omega (arith, most, ap length spells.spelled)

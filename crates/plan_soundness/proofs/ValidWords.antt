@@ -297,7 +297,7 @@ module _ (g : Graph) (d : Datapath) (p : Plan) (sound : IsGraph g) (machine : Is
       some_at (valid.IsIssueOn (length image.inputs) image.outs issue) image.units issue.unit _ in-image
       (subst (λ u. valid.IsIssueOn (length image.inputs) image.outs issue (described image u)) (sym of.unit) (record {
         does = ap kind_of of.op
-            ∙ sym ((plan.assigned.units v (omega (arith, in-v, plan.assigned.count))).candidate.right.kind.kind)
+            ∙ sym ((plan.assigned.right v in-v).kind.kind)
             ∙ sym (its_unit u below).kind;
         fmt = format_by issue.op (node_at p v).op issue.fmt (node_at p v).fmt of.op of.fmt (made_format v in-v);
         arg = subst (λ outs. valid.IsArgument issue.op (length image.inputs) outs issue.arg) (sym outs_are)

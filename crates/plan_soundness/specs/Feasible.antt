@@ -8,7 +8,6 @@ use Rattle.datapath.specs.declared.types.Datapath.{Datapath}
 use Rattle.signal_graph.specs.declared.graph.Graph.{Graph}
 use Rattle.plan_core.specs.Hardware.{latency_on, gap_on, cells_on, file_size}
 use Rattle.plan_core.specs.Lowered.{IsLoweredOver}
-use Rattle.plan_core.specs.Assigned.{IsAssigned}
 use Rattle.plan_core.specs.Arcs.{IsCount}
 use Rattle.plan_core.specs.Circle.{AreApart}
 use Rattle.plan_core.specs.declared.schedule.Transfer.{Transfer}
@@ -21,6 +20,7 @@ use Rattle.plan_soundness.specs.Samples.{past}
 use Rattle.plan_soundness.specs.Overlap.{Overlap, one_by_one, shift_of, reach, AreDisjoint}
 use Rattle.plan_soundness.specs.Lifetimes.{IsLifetime}
 use Rattle.plan_soundness.specs.Memory.{LoadsFrom, StoresTo, store_of}
+use Rattle.plan_soundness.specs.Units.{AreOnRightUnits}
 
 -- lifetime k, of the words of a node
 pub record IsFeasibleArc (d : Datapath) (p : Plan) (k : ℕ) : Type 0 where
@@ -161,7 +161,7 @@ pub record IsFeasibleOver (o : Overlap) (d : Datapath) (p : Plan) : Type 0 where
 -- so many spare cells.
 pub record IsFeasiblePlanOver (o : Overlap) (hold spare : ℕ) (g : Graph) (d : Datapath) (p : Plan) : Type 0 where
   pub lowered : IsLoweredOver hold spare g d p.assigned.lowered
-  pub assigned : IsAssigned d p.assigned
+  pub assigned : AreOnRightUnits d p.assigned
   pub feasible : IsFeasibleOver o d p
   pub unroll : IsCount p.unroll
   pub sizes : (k i : ℕ)

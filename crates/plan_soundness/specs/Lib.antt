@@ -7,6 +7,8 @@ pub mod Samples
 pub mod Overlap
 pub mod Lifetimes
 pub mod Memory
+pub mod Units
+pub mod Placed
 pub mod Feasible
 pub mod Executes
 pub mod Private

@@ -6,13 +6,14 @@ use Rattle.signal_graph.specs.GraphSolves.{IsGraphLoopless}
 use Rattle.signal_graph.specs.GraphRules.{IsGraph}
 use Rattle.signal_graph.specs.declared.graph.Graph.{Graph}
 use Rattle.plan_core.specs.Lowered.{IsLoweredOver}
-use Rattle.plan_core.specs.Assigned.{IsAssigned}
-use Rattle.plan_core.specs.ListSchedule.{IsListSchedule}
+use Rattle.plan_core.specs.Reservations.{IsGapApart, IsOneCycle}
+use Rattle.plan_core.specs.ListSchedule.{IsListScheduleOver}
 use Rattle.plan_core.specs.Arcs.{IsArcs}
 use Rattle.plan_core.specs.declared.registers.Arc.{Arc}
 use Rattle.plan_core.specs.declared.schedule.Schedule.{Schedule}
 use Rattle.plan_core.specs.declared.delay_lines.Lowered.{Lowered}
 use Rattle.plan_core.specs.declared.schedule.Assigned.{Assigned}
+use Rattle.plan_soundness.specs.Units.{AreOnRightUnits}
 use Rattle.unit_assign.specs.Wired.{IsWired}
 use Rattle.schedule_priority.specs.Schedulable.{IsSchedulable}
 use Rattle.cyclic_life.specs.Held.{IsHeld}
@@ -30,20 +31,21 @@ module _ (g : Graph) (d : Datapath) (sound : IsGraph g) {hold spare : ℕ} where
   }
 
   module _ (a : Assigned) (low : IsLoweredOver hold spare g d a.lowered) where
-    pub schedulable : IsGraphLoopless g → IsAssigned d a → IsSchedulable d a
+    pub schedulable : IsGraphLoopless g → AreOnRightUnits d a → IsSchedulable d a
     schedulable loopless bound =
         let falls = of_list.rank_falls g d a.lowered sound low loopless in
         record {
           node_count = of_list.node_count g d a.lowered sound low;
           edge_count = of_list.edge_count g d a.lowered sound low;
           edges = of_list.edges_there g d a.lowered sound low;
-          assigned = bound;
+          unit_count = bound.count;
+          units = λ v there. (bound.right v there).kind.there;
           height = path_of d a (of_list.rank g d a.lowered sound low) falls;
           heights = are_heights d a (of_list.rank g d a.lowered sound low) falls;
         }
 
     -- no lifetime is longer than three samples and a period
-    pub held : hold ≤ 3 → IsAssigned d a → IsHeld d a
+    pub held : hold ≤ 3 → AreOnRightUnits d a → IsHeld d a
     held most bound = record {
       node_count = of_list.node_count g d a.lowered sound low;
       edge_count = of_list.edge_count g d a.lowered sound low;
@@ -51,16 +53,18 @@ module _ (g : Graph) (d : Datapath) (sound : IsGraph g) {hold spare : ℕ} where
       delays = λ v node there q edge port.
           let short = of_list.edges_short g d a.lowered sound low v node there q edge port in
           omega (arith, short, most);
-      assigned = bound;
+      unit_count = bound.count;
+      units = λ v there. (bound.right v there).kind.there;
     }
 
-    pub allottable : IsDatapath d
-        → IsAssigned d a
+    pub allottable : {Allows : Schedule → (height : ℕ → ℕ) → (v t : ℕ) → Type 0}
+        → IsDatapath d
+        → AreOnRightUnits d a
         → (s : Schedule)
-        → IsListSchedule d a s
+        → IsListScheduleOver IsGapApart IsOneCycle d.period Allows d a s
         → (arcs : List Arc)
         → IsArcs d a s arcs
         → AreAllottable d arcs
     allottable allowed bound s scheduled arcs are =
         of_arcs.allottable d a s allowed (of_list.edge_count g d a.lowered sound low)
-        (of_list.edges_there g d a.lowered sound low) bound scheduled arcs are
+        (of_list.edges_there g d a.lowered sound low) bound.right scheduled arcs are

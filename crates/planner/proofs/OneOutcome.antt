@@ -33,6 +33,7 @@ use Rattle.planner.specs.Faults.{IsPlanFault}
 use Rattle.planner.specs.declared.fault.PlanFault.{PlanFault}
 use Rattle.planner.specs.declared.fault.PlanFault.TheVariants.{Line as Unstored, Unit as Unbound, Period, FileFull}
 use Rattle.planner.specs.declared.fault.PlanFault.TheVariants.{Memory}
+use Rattle.plan_soundness.proofs.Units.{on_right_units}
 use Rattle.planner.proofs.Asked.{schedulable, allottable}
 
 module _ (g : Graph) (d : Datapath) (allowed : IsDatapath d) (sound : IsGraph g) (loopless : IsGraphLoopless g)
@@ -44,7 +45,10 @@ module _ (g : Graph) (d : Datapath) (allowed : IsDatapath d) (sound : IsGraph g)
   same_assigned a low bound = one_assigned d a p.assigned (same_lowered a.lowered low) bound is.assigned
 
   problem : IsProblem d p.assigned
-  problem = record { path = allowed; schedulable = schedulable g d sound p.assigned is.lowered loopless is.assigned }
+  problem = record {
+    path = allowed;
+    schedulable = schedulable g d sound p.assigned is.lowered loopless (on_right_units is.assigned);
+  }
 
   same_schedule : (s : Schedule) → IsListSchedule d p.assigned s → s ≡ p.schedule
   same_schedule s scheduled =
@@ -63,7 +67,8 @@ module _ (g : Graph) (d : Datapath) (allowed : IsDatapath d) (sound : IsGraph g)
       → ⊥
   allotted_all unit port v unroll unroll_is none =
       allotted_or_not d p.arcs
-      (allottable g d sound p.assigned is.lowered allowed is.assigned p.schedule is.schedule p.arcs is.arcs)
+      (allottable g d sound p.assigned is.lowered allowed (on_right_units is.assigned) p.schedule is.schedule p.arcs
+       is.arcs)
       p.registers.regs
       (record { unroll = p.unroll; unroll_is = is.unroll; fit = is.registers; sizes = is.sizes })
       (file.Full unit port v) (record { unroll = unroll; unroll_is = unroll_is; none = none })

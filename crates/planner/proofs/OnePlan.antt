@@ -47,9 +47,10 @@ use Rattle.planner.specs.Private.Errors.{of_period, of_file}
 use Rattle.planner.specs.declared.fault.PlanFault.{PlanFault}
 use Rattle.planner.specs.declared.fault.PlanFault.TheVariants.{Line as Unstored, Unit as Unbound, Period, FileFull}
 use Rattle.planner.specs.declared.fault.PlanFault.TheVariants.{Memory}
+use Rattle.plan_soundness.proofs.Units.{on_right_units}
 use Rattle.planner.proofs.Asked.{schedulable, allottable}
 
-plan_from : (p q : Plan)
+pub plan_from : (p q : Plan)
     → p.assigned ≡ q.assigned
     → p.schedule ≡ q.schedule
     → p.arcs ≡ q.arcs
@@ -100,7 +101,7 @@ module _ (g : Graph) (d : Datapath) (allowed : IsDatapath d) (sound : IsGraph g)
     same_assigned b its are = one_assigned d b a (same_lowered b.lowered a.lowered its low) are is
 
     problem : IsProblem d a
-    problem = record { path = allowed; schedulable = schedulable g d sound a low loopless is }
+    problem = record { path = allowed; schedulable = schedulable g d sound a low loopless (on_right_units is) }
 
     same_schedule : (s z : Schedule) → IsListSchedule d a s → IsListSchedule d a z → s ≡ z
     same_schedule s z x y = one_schedule d a (live_of d allowed) (operand_in d a problem) s z x y
@@ -139,7 +140,8 @@ module _ (g : Graph) (d : Datapath) (allowed : IsDatapath d) (sound : IsGraph g)
       → FileFull s p u ≡ FileFull t q v
   one_register s p u t q v x y =
       ap of_file (one_file_fault d y.arcs
-      (allottable g d sound y.assigned y.is_lowered allowed y.is_assigned y.schedule y.is_schedule y.arcs y.are_arcs)
+      (allottable g d sound y.assigned y.is_lowered allowed (on_right_units y.is_assigned) y.schedule y.is_schedule
+       y.arcs y.are_arcs)
       (file.Full s p u) (file.Full t q v)
       (subst (λ (xs : List Arc). IsFileFault d xs (file.Full s p u)) (same_arcs (port_of s p) (port_of t q) u v x y)
       (full s p u x)) (full t q v y))
@@ -178,7 +180,8 @@ module _ (g : Graph) (d : Datapath) (allowed : IsDatapath d) (sound : IsGraph g)
       let unroll =
       one_unroll q.arcs p.unroll q.unroll (subst (λ (xs : List Arc). IsUnroll xs p.unroll) arcs x.unroll) y.unroll in
       let order =
-      (allottable g d sound q.assigned y.lowered allowed y.assigned q.schedule y.schedule q.arcs y.arcs).order in
+      (allottable g d sound q.assigned y.lowered allowed (on_right_units y.assigned) q.schedule y.schedule q.arcs
+       y.arcs).order in
       let fit =
       subst (λ (xs : List Arc). IsFirstFit d.period p.unroll xs p.registers.regs) arcs x.registers in
       let regs =

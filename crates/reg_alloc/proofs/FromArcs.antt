@@ -17,9 +17,10 @@ use Rattle.signal_graph.specs.declared.graph.Edge.{Edge}
 use Rattle.signal_graph.specs.declared.graph.Node.{Node}
 use Rattle.plan_core.specs.Hardware.{no_unit}
 use Rattle.plan_core.specs.Operands.{node_of, delay_at, Reads}
-use Rattle.plan_core.specs.Assigned.{unit_in, IsAssigned}
+use Rattle.plan_core.specs.Assigned.{unit_in, IsRightUnit}
 use Rattle.plan_core.specs.Heights.{latency_of}
-use Rattle.plan_core.specs.ListSchedule.{ends, IsListSchedule}
+use Rattle.plan_core.specs.Reservations.{IsGapApart, IsOneCycle}
+use Rattle.plan_core.specs.ListSchedule.{ends, IsListScheduleOver}
 use Rattle.plan_core.specs.Stages.{IsStageSchedule, written_around, read_around, AreStageArcs}
 use Rattle.plan_core.specs.Arcs.{read_cycle, IsArcOver, IsWrittenBefore, IsArcBefore, IsArcsOver, IsArcs}
 use Rattle.plan_core.specs.declared.registers.Arc.{Arc}
@@ -52,7 +53,7 @@ module _ (written_at : (v : ℕ) → ℕ) (read_at : (v c q : ℕ) → ℕ) (d :
       (edge_count : All (λ (node : Node). length node.edges ≡ operands node.op) a.lowered.nodes)
       (edges : All (λ (node : Node). All (λ (edge : Edge). edge.node < length a.lowered.nodes) node.edges)
       a.lowered.nodes)
-      (assigned : IsAssigned d a)
+      (right : (v : ℕ) → v < length a.lowered.nodes → IsRightUnit d (node_of a.lowered.nodes v) (unit_in a.units v))
       (written_in : (v : ℕ) → v < length a.lowered.nodes → written_at v < d.period)
       (read_later : (c q v : ℕ)
       → Reads a.lowered.nodes c q v
@@ -63,7 +64,7 @@ module _ (written_at : (v : ℕ) → ℕ) (read_at : (v c q : ℕ) → ℕ) (d :
         → IsPort d.units (record { unit = unit_in a.units c; port = q })
     reads_at_port c q v reads =
         let there = reader_there a.lowered.nodes c q v reads in
-        let unit = (assigned.units c (let count = assigned.count in omega arith)).candidate.right.kind in
+        let unit = (right c there).kind in
         let count = All-get_or (λ (node : Node). length node.edges ≡ operands node.op) a.lowered.nodes c no_node there
         edge_count in
         let enough = enough_ports (node_of a.lowered.nodes c).op in
@@ -109,12 +110,13 @@ module _ (d : Datapath) (a : Assigned) (s : Schedule) (is : IsDatapath d)
     (edge_count : All (λ (node : Node). length node.edges ≡ operands node.op) a.lowered.nodes)
     (edges : All (λ (node : Node). All (λ (edge : Edge). edge.node < length a.lowered.nodes) node.edges)
     a.lowered.nodes)
-    (assigned : IsAssigned d a) where
+    (right : (v : ℕ) → v < length a.lowered.nodes → IsRightUnit d (node_of a.lowered.nodes v) (unit_in a.units v)) where
   live : (v : ℕ) → 1 ≤ latency_of d a v
   live v = live_of d is (unit_in a.units v)
 
-  -- where one sample is in flight at a time
-  module _ (schedule : IsListSchedule d a s) where
+  -- where one sample is in flight at a time, whatever else is asked of a cycle
+  module _ {Allows : Schedule → (height : ℕ → ℕ) → (v t : ℕ) → Type 0}
+      (schedule : IsListScheduleOver IsGapApart IsOneCycle d.period Allows d a s) where
     written_in : (v : ℕ) → v < length a.lowered.nodes → ends d a s v < d.period
     written_in v there =
         let some = live v in
@@ -141,7 +143,7 @@ module _ (d : Datapath) (a : Assigned) (s : Schedule) (is : IsDatapath d)
 
     pub allottable : (arcs : List Arc) → IsArcs d a s arcs → AreAllottable d arcs
     allottable arcs are =
-        allottable_over (ends d a s) (λ (v c q : ℕ). read_cycle d a s c q) d a is edge_count edges assigned written_in
+        allottable_over (ends d a s) (λ (v c q : ℕ). read_cycle d a s c q) d a is edge_count edges right written_in
         read_later arcs are
 
   -- where samples overlap, and each word is read in its own sample
@@ -162,5 +164,5 @@ module _ (d : Datapath) (a : Assigned) (s : Schedule) (is : IsDatapath d)
 
     pub allottable_around : (arcs : List Arc) → AreStageArcs d a s arcs → AreAllottable d arcs
     allottable_around arcs are =
-        allottable_over (written_around d a s) (read_around d a s) d a is edge_count edges assigned
+        allottable_over (written_around d a s) (read_around d a s) d a is edge_count edges right
         written_around_period read_around_later arcs are

@@ -83,9 +83,7 @@ module _ (d : Datapath) (a : Assigned) (is : IsProblem d a) where
       omega arith
 
   pub unit_there : (v : ℕ) → v < length a.lowered.nodes → unit_in a.units v < length d.units
-  unit_there v there =
-      let count = is.schedulable.assigned.count in
-      (is.schedulable.assigned.units v (omega arith)).candidate.right.kind.there
+  unit_there = is.schedulable.units
 
   pub live : (v : ℕ) → 1 ≤ latency_of d a v
   live v = live_of d is.path (unit_in a.units v)

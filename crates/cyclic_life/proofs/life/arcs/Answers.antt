@@ -30,7 +30,7 @@ lifetimes-requires-clause-w c =
     let s = c.args.schedule.now in
     let sorted = c.in_ok-sorted.sorted.items in
     let placed = placement d a s c.requires.datapath c.requires.held c.requires.schedule in
-    let ended = λ (v : ℕ) (there : v < length a.lowered.nodes). (c.requires.schedule.placed v there).can.fits.period in
+    let ended = c.requires.schedule.ends in
     subst (λ (reads : List Read). All (λ (read : Read). read.w < 4096) reads) (sym c.as_slice.ensures.value)
     (reads_written (ends d a s) (read_in d a s) d a (in_period d a s placed ended) (in_samples d a s placed ended)
     sorted
@@ -44,7 +44,7 @@ returns c =
     let s = c.args.schedule.now in
     let sorted = c.in_ok-sorted.sorted.items in
     let placed = placement d a s c.requires.datapath c.requires.held c.requires.schedule in
-    let ended = λ (v : ℕ) (there : v < length a.lowered.nodes). (c.requires.schedule.placed v there).can.fits.period in
+    let ended = c.requires.schedule.ends in
     subst (λ (arcs : List Arc). IsArcs d a s arcs)
     (sym (c.in_ok-lifetimes.ensures
     ∙ ap (λ (reads : List Read). map (arc_to d.period) (lasts reads)) c.as_slice.ensures.value))

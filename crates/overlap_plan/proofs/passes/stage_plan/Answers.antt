@@ -1,6 +1,7 @@
 use Rattle.std.proofs.Common.{◌∙◌, subst, arith, List}
 use Rattle.plan_core.specs.Arcs.{IsUnroll}
 use Rattle.plan_core.specs.declared.registers.Arc.{Arc}
+use Rattle.plan_soundness.proofs.Units.{on_right_units}
 use Rattle.planner.proofs.Asked.{wired, held}
 use Rattle.overlap_plan.proofs.Asked.{stage_problem_of, read_now, schedule_of, allottable_of}
 use Rattle.overlap_plan.proofs.Exits.{bound, at_lines, at_units, at_cycles, at_registers, at_end}
@@ -14,13 +15,13 @@ pub stage_schedule-requires : goal.stage_schedule-requires
 stage_schedule-requires c =
     stage_problem_of c.args.graph.now c.args.datapath.now c.args.stages c.requires.datapath c.requires.sound
     c.requires.loopless (bound c.in_ok-lowered.lowered c.in_ok-units.units) c.in_ok-lowered.ensures.lowered
-    c.in_ok-units.ensures.units c.requires.stages.0 c.requires.stages.1
+    (on_right_units c.in_ok-units.ensures.units) c.requires.stages.0 c.requires.stages.1
 
 pub stage_arcs-requires-clause-held : goal.stage_arcs-requires-clause-held
 stage_arcs-requires-clause-held c =
     held c.args.graph.now c.args.datapath.now c.requires.sound (bound c.in_ok-lowered.lowered c.in_ok-units.units)
     c.in_ok-lowered.ensures.lowered
-    (omega arith) c.in_ok-units.ensures.units
+    (omega arith) (on_right_units c.in_ok-units.ensures.units)
 
 pub stage_arcs-requires-clause-now : goal.stage_arcs-requires-clause-now
 stage_arcs-requires-clause-now c =
@@ -35,17 +36,17 @@ stage_arcs-requires-clause-schedule c =
       delays = c.in_ok-lowered.ensures.lowered.delays;
       schedule = schedule_of c.args.graph.now c.args.datapath.now c.args.stages c.requires.datapath c.requires.sound
           c.requires.stages.0 (bound c.in_ok-lowered.lowered c.in_ok-units.units) c.in_ok-lowered.ensures.lowered
-          c.in_ok-units.ensures.units c.in_ok-schedule.schedule c.in_ok-schedule.ensures.schedule;
+          (on_right_units c.in_ok-units.ensures.units) c.in_ok-schedule.schedule c.in_ok-schedule.ensures.schedule;
     }
 
 pub allot-requires-clause-allottable : goal.allot-requires-clause-allottable
 allot-requires-clause-allottable c =
     allottable_of c.args.graph.now c.args.datapath.now c.args.stages c.requires.datapath c.requires.sound
     (bound c.in_ok-lowered.lowered c.in_ok-units.units) c.in_ok-lowered.ensures.lowered
-    c.in_ok-units.ensures.units c.in_ok-schedule.schedule
+    (on_right_units c.in_ok-units.ensures.units) c.in_ok-schedule.schedule
     (schedule_of c.args.graph.now c.args.datapath.now c.args.stages c.requires.datapath c.requires.sound
     c.requires.stages.0 (bound c.in_ok-lowered.lowered c.in_ok-units.units) c.in_ok-lowered.ensures.lowered
-    c.in_ok-units.ensures.units c.in_ok-schedule.schedule c.in_ok-schedule.ensures.schedule)
+    (on_right_units c.in_ok-units.ensures.units) c.in_ok-schedule.schedule c.in_ok-schedule.ensures.schedule)
     c.in_ok-arcs.arcs c.in_ok-arcs.ensures
 
 pub returns-in_err-lowered-clause-fault : goal.returns-in_err-lowered-clause-fault

@@ -1,4 +1,5 @@
 use Rattle.std.proofs.Common.{◌∙◌, arith}
+use Rattle.plan_soundness.proofs.Units.{on_right_units}
 use Rattle.planner.proofs.Asked.{wired, schedulable, held, allottable}
 use Rattle.planner.proofs.Answers.{bound}
 use Rattle.planner.proofs.Exits.{unrolled, at_lines, at_units, at_cycles, at_registers, at_end}
@@ -11,18 +12,24 @@ bind-requires-clause-wired c =
 pub schedule-requires-clause-schedulable : goal.schedule-requires-clause-schedulable
 schedule-requires-clause-schedulable c =
     schedulable c.args.graph c.args.datapath.now c.requires.sound (bound c.in_ok-lowered.lowered c.in_ok-units.units)
-    c.in_ok-lowered.ensures.lowered c.requires.loopless c.in_ok-units.ensures.units
+    c.in_ok-lowered.ensures.lowered c.requires.loopless (on_right_units c.in_ok-units.ensures.units)
 
 pub arcs-requires-clause-held : goal.arcs-requires-clause-held
 arcs-requires-clause-held c =
     held c.args.graph c.args.datapath.now c.requires.sound (bound c.in_ok-lowered.lowered c.in_ok-units.units)
-    c.in_ok-lowered.ensures.lowered (omega (arith, c.requires.datapath.hold)) c.in_ok-units.ensures.units
+    c.in_ok-lowered.ensures.lowered (omega (arith, c.requires.datapath.hold))
+    (on_right_units c.in_ok-units.ensures.units)
+
+pub arcs-requires-clause-schedule : goal.arcs-requires-clause-schedule
+arcs-requires-clause-schedule c =
+    let schedule = c.in_ok-schedule.ensures.schedule in
+    record { count = schedule.count; ends = λ v there. (schedule.placed v there).can.fits.period }
 
 pub allot-requires-clause-allottable : goal.allot-requires-clause-allottable
 allot-requires-clause-allottable c =
     allottable c.args.graph c.args.datapath.now c.requires.sound (bound c.in_ok-lowered.lowered c.in_ok-units.units)
-    c.in_ok-lowered.ensures.lowered c.requires.datapath c.in_ok-units.ensures.units c.in_ok-schedule.schedule
-    c.in_ok-schedule.ensures.schedule c.in_ok-arcs.arcs c.in_ok-arcs.ensures
+    c.in_ok-lowered.ensures.lowered c.requires.datapath (on_right_units c.in_ok-units.ensures.units)
+    c.in_ok-schedule.schedule c.in_ok-schedule.ensures.schedule c.in_ok-arcs.arcs c.in_ok-arcs.ensures
 
 pub returns-in_err-lowered-clause-fault : goal.returns-in_err-lowered-clause-fault
 returns-in_err-lowered-clause-fault c =
