@@ -190,7 +190,7 @@ module _ (g : Graph) (d : Datapath) (stages : ℕ) (allowed : IsDatapath d) (sou
       x.schedule x.arcs x.is_assigned x.is_schedule x.are_arcs in
       one_file_fault d y.arcs
       (allottable_of g d stages allowed sound y.assigned y.is_lowered (on_right_units y.is_assigned) y.schedule
-       y.is_schedule y.arcs
+      y.is_schedule y.arcs
       y.are_arcs)
       f h (subst (λ (xs : List Arc). IsFileFault d xs f) arcs x.none) y.none
 
@@ -229,7 +229,7 @@ module _ (g : Graph) (d : Datapath) (stages : ℕ) (allowed : IsDatapath d) (sou
       one_unroll q.arcs p.unroll q.unroll (subst (λ (xs : List Arc). IsUnroll xs p.unroll) arcs x.unroll) y.unroll in
       let order =
       (allottable_of g d stages allowed sound q.assigned y.lowered (on_right_units y.assigned) q.schedule y.schedule
-       q.arcs y.arcs).order
+      q.arcs y.arcs).order
       in
       let fit =
       subst (λ (xs : List Arc). IsFirstFit d.period p.unroll xs p.registers.regs) arcs x.registers in
@@ -256,7 +256,7 @@ module _ (g : Graph) (d : Datapath) (stages : ℕ) (allowed : IsDatapath d) (sou
       h.schedule h.arcs h.is_assigned h.is_schedule h.are_arcs in
       allotted_or_not d p.arcs
       (allottable_of g d stages allowed sound p.assigned is.lowered (on_right_units is.assigned) p.schedule is.schedule
-       p.arcs is.arcs)
+      p.arcs is.arcs)
       p.registers.regs (allotted p is) f (subst (λ (xs : List Arc). IsFileFault d xs f) arcs h.none)
   plan_or_not p is Memory h = h
 

@@ -63,7 +63,7 @@ module _ (g : Graph) (d : Datapath) (path : IsDatapath d) (sound : IsGraph g) wh
       → 0 < ago
   loads_older a low bound p same v x ago loads =
       (loads_from g d (record (plan_of p) { assigned = a }) sound low (on_right_units bound) loads.node ago x
-       loads.its_load).1.before
+      loads.its_load).1.before
 
   -- The lifetimes of a schedule whose samples do not overlap.
   module _ {hold spare : ℕ} (a : Assigned) (low : IsLoweredOver hold spare g d a.lowered) (s : Schedule)

@@ -90,7 +90,7 @@ delayed_feasible = record {
   assigned = on_right_units delayed_assigned;
   feasible = feasible_by two_stages held_path delayed_plan
       (sound_lowered delayed held_path delayed_plan delayed_is_graph delayed_is_lowered
-       (on_right_units delayed_assigned))
+      (on_right_units delayed_assigned))
       (sound_lines delayed held_path delayed_plan delayed_is_graph delayed_is_lowered (on_right_units delayed_assigned)
       two_stages (omega arith))
       (omega arith) (omega arith) refl (omega arith) refl refl refl refl refl refl refl refl refl refl;

@@ -68,7 +68,7 @@ module _ (g : Graph) (d : Datapath) (allowed : IsDatapath d) (sound : IsGraph g)
   allotted_all unit port v unroll unroll_is none =
       allotted_or_not d p.arcs
       (allottable g d sound p.assigned is.lowered allowed (on_right_units is.assigned) p.schedule is.schedule p.arcs
-       is.arcs)
+      is.arcs)
       p.registers.regs
       (record { unroll = p.unroll; unroll_is = is.unroll; fit = is.registers; sizes = is.sizes })
       (file.Full unit port v) (record { unroll = unroll; unroll_is = unroll_is; none = none })

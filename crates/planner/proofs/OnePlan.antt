@@ -141,7 +141,7 @@ module _ (g : Graph) (d : Datapath) (allowed : IsDatapath d) (sound : IsGraph g)
   one_register s p u t q v x y =
       ap of_file (one_file_fault d y.arcs
       (allottable g d sound y.assigned y.is_lowered allowed (on_right_units y.is_assigned) y.schedule y.is_schedule
-       y.arcs y.are_arcs)
+      y.arcs y.are_arcs)
       (file.Full s p u) (file.Full t q v)
       (subst (λ (xs : List Arc). IsFileFault d xs (file.Full s p u)) (same_arcs (port_of s p) (port_of t q) u v x y)
       (full s p u x)) (full t q v y))
@@ -181,7 +181,7 @@ module _ (g : Graph) (d : Datapath) (allowed : IsDatapath d) (sound : IsGraph g)
       one_unroll q.arcs p.unroll q.unroll (subst (λ (xs : List Arc). IsUnroll xs p.unroll) arcs x.unroll) y.unroll in
       let order =
       (allottable g d sound q.assigned y.lowered allowed (on_right_units y.assigned) q.schedule y.schedule q.arcs
-       y.arcs).order in
+      y.arcs).order in
       let fit =
       subst (λ (xs : List Arc). IsFirstFit d.period p.unroll xs p.registers.regs) arcs x.registers in
       let regs =

@@ -247,7 +247,7 @@ module _ (net : NetState) (is : IsState net) (p : ℕ) (own : Processor) (old_ro
         row fed_more row_is some_cycles (row_in new.put (own.ran % own.places))
         (latched
         ∙ ap (λ (z : Rows).
-            latches (program_of (parts_of net) p) z (length so_far + (program_of (parts_of net) p).period))
+        latches (program_of (parts_of net) p) z (length so_far + (program_of (parts_of net) p).period))
         all
         ∙ ap (λ (n : ℕ). latches (program_of (parts_of net) p)
         (spread (program_of (parts_of net) p).period (take (own.ran + 1) (fed (parts_of net) is.puts p))) n) count)
