@@ -16,8 +16,9 @@ pub record IsPlanned (d : Datapath) (p : Plan) : Type 0 where
   pub sound : IsGraph graph
   pub plan : IsPlan graph d p
 
--- it is a feasible plan of some sound graph, its lifetimes are in order, and there is a slot for each node and a
--- register for each copy of each lifetime
+-- it is a feasible plan of some sound graph, with its lifetimes in order and with a slot for each node and registers
+-- for
+-- each lifetime
 pub record IsAssemblable (d : Datapath) (p : Plan) : Type 0 where
   pub graph : Graph
   pub sound : IsGraph graph
