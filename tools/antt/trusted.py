@@ -8,7 +8,7 @@ from pathlib import Path
 
 from .definitions import Definition
 from .items import Item
-from .modules import CRATES, ROOT, Module
+from .modules import CRATES, ROOT, Module, defined
 from .reach import Clause, Reached, Specs, Type, clauses_of, functions_of
 from .worked import Value, Values
 
@@ -234,7 +234,9 @@ def foreign_names(definitions: list[Definition], doubled: set[str]) -> str:
     words = [word for one in definitions for item in one.items for word in item.words()]
     heads = {word for word, after in zip(words, words[1:]) if after == "."}
     places: dict[str, list[str]] = {}
-    for name, (prefix, original) in module.brought.items():
+    for name, brought in module.brought.items():
+        whole = defined(*brought)
+        prefix, _, original = (whole if whole.startswith("Rattle.") else ".".join(brought)).rpartition(".")
         if name in words and (name != original or original in doubled):
             places.setdefault(place_named(prefix),
                               []).append(f"`{name}`" + (f" (there `{original}`)" if name != original else ""))
