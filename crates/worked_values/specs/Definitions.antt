@@ -9,7 +9,7 @@ use Rattle.silage_syntax.specs.Manifests.{manifest_value}
 use Rattle.silage_syntax.specs.Names.{IsOffset}
 use Rattle.silage_syntax.specs.Tree.{whole, counter, minus, both, read, equation, call, loop, no_item, item, Func}
 use Rattle.silage_syntax.specs.Tree.{table, function, Program}
-use Rattle.silage_meaning.specs.Instances.{Instance, main, inside, Element, element, Site, IsTurn}
+use Rattle.silage_meaning.specs.Instances.{Instance, main, inside, Element, element, Site, IsTurn, inputs, outputs}
 use Rattle.silage_meaning.specs.Solves.{Source, word, value, same, number, IsDefined}
 use Rattle.worked_values.specs.Trees.{fix, fix_type, declaration, bare, entry_of, now, decimal_number}
 
@@ -89,13 +89,20 @@ EachSourceDefines =
     × IsSource (element main 3 0) (same (element made 4 0) byte byte)
     × IsSource (element main 4 1) (value second_turn (read (entry_of (codes "a") (counter (codes "i") 0)) None) byte)
 
+-- the words of a row are a[0], a[1] and b, and those that are put y[0], y[1] and u
+abbrev pub WordsComeInOrder : Type 0
+WordsComeInOrder =
+    (inputs calls ≡ element main 0 0 ∷ element main 0 1 ∷ element main 1 0 ∷ [])
+    × (outputs calls ≡ element main 2 0 ∷ element main 2 1 ∷ element main 3 0 ∷ [])
+
 -- a loop from 0 to 1 has the turns 0 and 1, one from 1 to 0 has none
 abbrev pub LoopsHaveTurns : ℤ → Type 0
 LoopsHaveTurns turn =
     IsTurn [] (whole 0 0) (whole 1 0) (pos 0) × IsTurn [] (whole 0 0) (whole 1 0) (pos 1)
     × (IsTurn [] (whole 0 0) (whole 1 0) (pos 2) → ⊥) × (IsTurn [] (whole 1 0) (whole 0 0) turn → ⊥)
 
--- m[1][2] of m[2][3] is at offset 5, and there is no m[1][3]; 2 * i - 7 is -1 where i is 3; 2147483648 is out of range
+-- m[1][2] of m[2][3] is at offset 5, and there is no m[1][3]; 2 * i - 7 is -1 where i is 3; 2147483648 is out of range;
+-- of two indices of one name, which the rules on names refuse, the outer one would count
 abbrev pub SubscriptsHaveValues : ℕ → Type 0
 SubscriptsHaveValues k =
     IsOffset [] (2 ∷ 3 ∷ []) (whole 1 0 ∷ whole 2 0 ∷ []) 5
@@ -103,3 +110,4 @@ SubscriptsHaveValues k =
     × (manifest_value ((codes "i", pos 3) ∷ [])
     (both 0 mop.Sub (both 0 mop.Mul (whole 2 0) (counter (codes "i") 0)) (whole 7 0)) ≡ Some (negsuc 0))
     × (manifest_value [] (minus 0 (both 0 mop.Add (whole 2147483647 0) (whole 1 0))) ≡ None)
+    × (manifest_value ((codes "i", pos 3) ∷ (codes "i", pos 4) ∷ []) (counter (codes "i") 0) ≡ Some (pos 3))

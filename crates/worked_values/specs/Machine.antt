@@ -1,5 +1,5 @@
 -- An image of y = x@1 + 3 in six cycles, through a ram of latency 2 and two cells, which begin as 50 and 60.
-use Rattle.std.specs.Prelude.{ℕ, List, [], ◌∷◌, ℤ, pos}
+use Rattle.std.specs.Prelude.{ℕ, List, [], ◌∷◌, length, ℤ, pos}
 use Rattle.fix_word.specs.declared.operation.Op.{Op}
 use Rattle.fix_word.specs.declared.operation.Op.TheVariants as op
 use Rattle.operations.specs.Operations.{plain}
@@ -77,3 +77,20 @@ image_with ram third = record {
 
 abbrev pub echo : Image
 echo = image_with memory (word (load ∷ []) [] [])
+
+-- two outputs, of which the first has 1 and 2 in its registers and the other 3, with these words of one cycle each
+abbrev pub image_of_outputs : List Word → Image
+image_of_outputs words = record {
+  period = 1;
+  unroll = length words;
+  inputs = 8 ∷ [];
+  outs = 1;
+  units =
+      simple kind.Output ((pos 1 ∷ pos 2 ∷ []) ∷ []) ∷ simple kind.Output ((pos 3 ∷ []) ∷ []) ∷ [];
+  buses = 1;
+  words = words;
+}
+
+-- a word in which a unit puts its register to output word 0
+abbrev pub put_from : (unit reg : ℕ) → Issue
+put_from unit reg = issue unit op.Output 0 (reg ∷ [])

@@ -4,7 +4,7 @@ use Rattle.lists.specs.Rows.{Rows}
 use Rattle.micro_image.specs.Fields.{microprogram_of, Microprogram}
 use Rattle.micro_image.specs.Log.{Register, Cell, Latch, Content, Log, Result}
 use Rattle.micro_image.specs.Run.{IsRunOut, spread}
-use Rattle.worked_values.specs.Machine.{echo}
+use Rattle.worked_values.specs.Machine.{echo, image_of_outputs, put_from, word}
 
 abbrev pub echoing : Microprogram
 echoing = microprogram_of echo
@@ -52,3 +52,24 @@ WritesComeAtTheEnd =
 -- 60 + 3, 1 + 3 and 127 + 3, which wraps in 8 bits; no cycle of the 18 has a conflict
 abbrev pub ThreeSamplesRun : Type 0
 ThreeSamplesRun = IsRunOut echoing three_samples ((pos 63 ∷ []) ∷ (pos 4 ∷ []) ∷ (negsuc 125 ∷ []) ∷ [])
+
+-- the words of two samples: the first puts register 0, the second register 1
+abbrev pub alternating : Microprogram
+alternating = microprogram_of (image_of_outputs (word (put_from 0 0 ∷ []) [] [] ∷ word (put_from 0 1 ∷ []) [] [] ∷ []))
+
+-- after two samples the first word comes round
+abbrev pub WordsComeRound : Type 0
+WordsComeRound = IsRunOut alternating three_samples ((pos 1 ∷ []) ∷ (pos 2 ∷ []) ∷ (pos 1 ∷ []) ∷ [])
+
+-- both units put output word 0 in one cycle, in either order of the issues
+abbrev pub both_put : Microprogram
+both_put = microprogram_of (image_of_outputs (word (put_from 0 0 ∷ put_from 1 0 ∷ []) [] [] ∷ []))
+
+abbrev pub both_put_back : Microprogram
+both_put_back = microprogram_of (image_of_outputs (word (put_from 1 0 ∷ put_from 0 0 ∷ []) [] [] ∷ []))
+
+-- the latch keeps the 3 of the greater unit, and it is no conflict
+abbrev pub TheGreaterUnitStays : Type 0
+TheGreaterUnitStays =
+    IsRunOut both_put ((pos 0 ∷ []) ∷ []) ((pos 3 ∷ []) ∷ [])
+    × IsRunOut both_put_back ((pos 0 ∷ []) ∷ []) ((pos 3 ∷ []) ∷ [])

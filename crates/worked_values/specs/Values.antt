@@ -1,7 +1,7 @@
 -- The value of an expression with each operator, over words of a few bits.
 use Rattle.std.specs.Prelude.{ℤ, pos, negsuc, true, false, codes, [], ◌∷◌, None, slice_index_or}
 use Rattle.operations.specs.Ranges.{to_nat}
-use Rattle.fix_word.specs.declared.types.Mode.TheVariants.{Trunc, Round}
+use Rattle.fix_word.specs.declared.types.Mode.TheVariants.{Trunc, Round, Sat}
 use Rattle.fix_word.specs.declared.types.SigType.{SigType}
 use Rattle.fix_word.specs.declared.types.SigType.TheVariants as sig
 use Rattle.silage_syntax.specs.declared.tree.BinOp.{BinOp}
@@ -120,6 +120,19 @@ ChoicesHaveValues =
     Has (choose 0 (branch (binary 0 op.Lt a b) (number false 1 0) (branch c b no_branch)) a) fixed (negsuc 7)
     × Has (choose 0 (branch (binary 0 op.Lt a b) (number false 1 0) no_branch) a) fixed (pos 24)
     × Has (choose 0 (branch c a (branch c b no_branch)) (number false 1 0)) fixed (pos 24)
+
+abbrev pub hundred : Expr
+hundred = number false 100 0
+
+-- 100 + 100 - 100 against fix<8,0,sat>: the inner sum stays at 127, and the difference is 27. Against fix<8,0> it wraps
+-- to -56, and the difference to 100. The word of -2.5 is the nearest, of two the greater, -2; -(2.5) is that of 2.5, 3,
+-- negated.
+abbrev pub PartsHaveWords : Type 0
+PartsHaveWords =
+    Has (binary 0 op.Sub (binary 0 op.Add hundred hundred) hundred) (fix 8 0 Sat) (pos 27)
+    × Has (binary 0 op.Sub (binary 0 op.Add hundred hundred) hundred) (fix 8 0 Trunc) (pos 100)
+    × Has (number true 25 1) (fix 8 0 Trunc) (negsuc 1)
+    × Has (negate 0 (number false 25 1)) (fix 8 0 Trunc) (negsuc 2)
 
 -- 2 * 3 has no type to be checked against, c is no number, a no truth, a and 8.0 no words of fix<8,0> and fix<8,4>
 abbrev pub OthersHaveNoValue : ℤ → Type 0

@@ -5,7 +5,7 @@
 ghost use Rattle.std.specs.Prelude.{ℕ, ℤ};
 ghost use Rattle.worked_values.specs.Conflicts.{UnitsAreBusy, DriversMeet, WritesMeet, BusesAreBare, ResultsAreMissing};
 ghost use Rattle.worked_values.specs.Conflicts.{AddressesAreOutside};
-ghost use Rattle.worked_values.specs.Definitions.{EachSourceDefines, LoopsHaveTurns, SubscriptsHaveValues};
+ghost use Rattle.worked_values.specs.Definitions.{EachSourceDefines, WordsComeInOrder, LoopsHaveTurns, SubscriptsHaveValues};
 ghost use Rattle.worked_values.specs.Operations.{SumsComeToWords, ComparisonsComeToTruths, TruthsComeToTruths};
 ghost use Rattle.worked_values.specs.Files.{BytesSpellTheImage, BitsSpellTheImage, OthersDoNotSpellTheImage};
 ghost use Rattle.worked_values.specs.Files.{OnlyTheImageIsSpelled};
@@ -13,12 +13,12 @@ ghost use Rattle.datapath.specs.declared.types.Datapath.{Datapath};
 ghost use Rattle.worked_values.specs.Paths.{FileDescribesThePath, OthersAreNotDescribed};
 ghost use Rattle.worked_values.specs.Programs.{TokensAreTheProgram, KindsHaveWeights};
 ghost use Rattle.worked_values.specs.Runs.{SixCyclesWrite, AddressesGoRound, LoadsTakeTwoCycles, WritesComeAtTheEnd};
-ghost use Rattle.worked_values.specs.Runs.{ThreeSamplesRun};
+ghost use Rattle.worked_values.specs.Runs.{ThreeSamplesRun, WordsComeRound, TheGreaterUnitStays};
 ghost use Rattle.worked_values.specs.Solutions.{RowsAreWords, SumsAreTheSolution, SumsComeOut};
 ghost use Rattle.worked_values.specs.Tokens.{TextHasTokens, TextsHaveOtherTokens};
 ghost use Rattle.worked_values.specs.Values.{LeavesHaveValues, SumsAndProductsHaveValues, ShiftsHaveValues};
 ghost use Rattle.worked_values.specs.Values.{CastsHaveValues, ComparisonsHaveValues, TruthsHaveValues};
-ghost use Rattle.worked_values.specs.Values.{ChoicesHaveValues, OthersHaveNoValue};
+ghost use Rattle.worked_values.specs.Values.{ChoicesHaveValues, PartsHaveWords, OthersHaveNoValue};
 ghost use Rattle.worked_values.specs.Words.{RoundEachWay, OverflowEachWay, ShiftToTheLeft, NumbersHaveWords};
 
 /// The tokens of a text.
@@ -50,6 +50,7 @@ pub fn values()
     ensures comparisons { ComparisonsHaveValues }
     ensures truths { TruthsHaveValues }
     ensures choices { ChoicesHaveValues }
+    ensures parts { PartsHaveWords }
     ensures others { (v : ℤ) → OthersHaveNoValue v }
 {}
 
@@ -63,6 +64,7 @@ pub fn solutions()
 /// Where the words of elements come from.
 pub fn definitions()
     ensures sources { EachSourceDefines }
+    ensures order { WordsComeInOrder }
     ensures turns { (turn : ℤ) → LoopsHaveTurns turn }
     ensures subscripts { (k : ℕ) → SubscriptsHaveValues k }
 {}
@@ -81,6 +83,8 @@ pub fn runs()
     ensures loads { LoadsTakeTwoCycles }
     ensures cells { WritesComeAtTheEnd }
     ensures rows { ThreeSamplesRun }
+    ensures round { WordsComeRound }
+    ensures latch { TheGreaterUnitStays }
 {}
 
 /// The conflicts of a cycle.

@@ -60,6 +60,9 @@ returns-clause-sources _ = (
       (record { named = refl; placed = (1, 0, refl, omega arith, refl, refl) }) refl,
 )
 
+pub returns-clause-order : goal.returns-clause-order
+returns-clause-order _ = (refl, refl)
+
 pub returns-clause-turns : goal.returns-clause-turns
 returns-clause-turns _ = λ turn. (
   record {
@@ -97,6 +100,7 @@ pub returns-clause-subscripts : goal.returns-clause-subscripts
 returns-clause-subscripts _ = λ k. (
   (1, 2, refl, omega arith, (2, 0, refl, omega arith, refl, refl), refl),
   outside k,
+  refl,
   refl,
   refl,
 )

@@ -1,12 +1,12 @@
 -- Each value by the clauses of `IsValue`, from the values of the parts.
-use Rattle.std.proofs.Common.{◌≡◌, ◌≤◌, refl, arith, ℕ, ℤ, pos, negsuc, ◌-ℤ◌, ◌≤ℤ◌, Bool, false, inl, inr, Some}
-use Rattle.std.proofs.Common.{[], codes, ⊎_elim}
+use Rattle.std.proofs.Common.{◌≡◌, ◌≤◌, refl, arith, ℕ, ℤ, pos, negsuc, ◌-ℤ◌, ◌≤ℤ◌, Bool, true, false, inl, inr}
+use Rattle.std.proofs.Common.{[], codes, Some, ⊎_elim}
 use Rattle.std.proofs.lemmas.Int.{ints}
 use Rattle.fix_word.specs.Operations.{IsTruth, IsSet}
-use Rattle.fix_word.specs.Values.{wrap_of, fit_of, form_of, nearest_of}
+use Rattle.fix_word.specs.Values.{wrap_of, clip_of, fit_of, form_of, nearest_of}
 use Rattle.fix_word.specs.Words.{IsShape, IsWord}
 use Rattle.fix_word.specs.declared.types.Mode.{Mode}
-use Rattle.fix_word.specs.declared.types.Mode.TheVariants.{Trunc, Round}
+use Rattle.fix_word.specs.declared.types.Mode.TheVariants.{Trunc, Round, Sat}
 use Rattle.fix_word.specs.declared.types.SigType.TheVariants as sig
 use Rattle.fix_word.proofs.Forms.{form_is, fit_is}
 use Rattle.fix_word.proofs.Nearest.{nearest_is}
@@ -16,7 +16,7 @@ use Rattle.silage_syntax.specs.Tree.{whole, binary}
 use Rattle.silage_meaning.specs.Value.{IsFitted, IsShifted, IsConverted, signal, number}
 use Rattle.worked_values.specs.Trees.{fix_type, fix, declaration}
 use Rattle.worked_values.specs.Trees as tree
-use Rattle.worked_values.specs.Values.{fixed, Has, a, b, c}
+use Rattle.worked_values.specs.Values.{fixed, Has, a, b, c, hundred}
 use Rattle.worked_values.proofs.values.Goals as goal
 
 shape : (f : ℕ) → f ≤ 8 → IsShape (record { w = 8; f = f })
@@ -230,5 +230,44 @@ returns-clause-choices _ = (
       (pos 1, negsuc 7, pos 16, c_is, b_is, refl, inl (set, refl)),
       inl (set, refl),
     ),
+  ),
+)
+
+-- a whole number of fix<8,0>, and what a sum of such words comes to
+whole_is : (negative : Bool) (digits places : ℕ) (mode : Mode) (v : ℤ)
+    → nearest_of negative digits places 0 ≡ v
+    → IsWord 8 v
+    → Has (tree.number negative digits places) (fix 8 0 mode) v
+whole_is negative digits places mode v e word =
+    record { nearest = rw e at (nearest_is negative digits places 0); word = word }
+
+fitted_in : (mode : Mode) (q v : ℤ) → fit_of q 8 mode ≡ v → IsFitted (fix_type 8 0 mode) q v
+fitted_in mode q v e = record { shape = shape 0 (omega arith); fitted = rw e at (fit_is q 8 mode (omega arith)) }
+
+hundred_is : (mode : Mode) → Has hundred (fix 8 0 mode) (pos 100)
+hundred_is mode = whole_is false 100 0 mode (pos 100) refl (small (pos 100) (omega (arith, ints), omega (arith, ints)))
+
+pub returns-clause-parts : goal.returns-clause-parts
+unfolding wrap_of clip_of
+returns-clause-parts _ = (
+  (
+    pos 127,
+    pos 100,
+    (pos 100, pos 100, hundred_is Sat, hundred_is Sat, fitted_in Sat (pos 200) (pos 127) refl),
+    hundred_is Sat,
+    fitted_in Sat (pos 27) (pos 27) refl,
+  ),
+  (
+    negsuc 55,
+    pos 100,
+    (pos 100, pos 100, hundred_is Trunc, hundred_is Trunc, fitted_in Trunc (pos 200) (negsuc 55) refl),
+    hundred_is Trunc,
+    fitted_in Trunc (negsuc 155) (pos 100) refl,
+  ),
+  whole_is true 25 1 Trunc (negsuc 1) refl (small (negsuc 1) (omega (arith, ints), omega (arith, ints))),
+  (
+    pos 3,
+    whole_is false 25 1 Trunc (pos 3) refl (small (pos 3) (omega (arith, ints), omega (arith, ints))),
+    fitted_in Trunc (negsuc 2) (negsuc 2) refl,
   ),
 )
