@@ -12,6 +12,7 @@ use Rattle.microcode_asm.specs.Planned.{IsPlanned}
 use Rattle.unit_assign.specs.Wired.{IsWired}
 use Rattle.reg_alloc.specs.Allottable.{AreAllottable}
 use Rattle.overlap_plan.specs.IsStagePlan.{IsStagePlan}
+use Rattle.plan_soundness.proofs.Units.{on_right_units}
 use Rattle.overlap_plan.specs.StagePlanned.{IsStagePlanned}
 use Rattle.overlap_plan.specs.declared.plan.StagePlan.{StagePlan}
 use Rattle.planner.proofs.Asked.{wired, allottable}
@@ -25,9 +26,8 @@ planned g d p sound plan = record { graph = g; sound = sound; plan = plan }
 pub lifetimes_allottable : (d : Datapath) (p : Plan) → IsDatapath d → IsPlanned d p → AreAllottable d p.arcs
 lifetimes_allottable d p allowed planned =
     let plan = planned.plan in
-    allottable planned.graph d planned.sound p.assigned plan.lowered allowed plan.assigned p.schedule plan.schedule
-    p.arcs
-    plan.arcs
+    allottable planned.graph d planned.sound p.assigned plan.lowered allowed (on_right_units plan.assigned) p.schedule
+    plan.schedule p.arcs plan.arcs
 
 -- a plan of at least one stage and of four at most has a guarded image
 pub stage_planned : (g : Graph) (d : Datapath) (stages : ℕ) (p : StagePlan)

@@ -19,7 +19,6 @@ fn end_line(page: &mut Page, in_conflict: bool) {
 }
 
 /// The word that is obeyed at a cycle.
-#[tactic(auto, using(crate::proofs::Reading::obeyed_valid))]
 pub fn word_at(code: &Microcode, cycle: u64) -> &Word
     requires { IsSound code.now }
     ensures { IsWordOf code.now.image result.now }
