@@ -337,8 +337,8 @@ is: the prover computes it from the definitions above it. They add nothing to wh
 A line that is blank, a comment or a `use` line does not count. Left out are the names of the proved standard library, \
 as `List`, `≡` and `slice_get`,{kit}: `rt lemma NAME` prints one.
 
-**The environment.** `D` is any type with the trait `Desk` (`crates/desk_core`), whose calls open, read, make and write \
-files by name; `D.view desk.old` and `D.view desk.new` are its state before and after the call, and their `files` all \
+**The environment.** `D` is any type with the trait `Desk` (`crates/desk_core`), whose calls open, read, make and \
+write files by name; `D.view desk.old` and `D.view desk.new` are its state before and after the call, and their `files` all \
 files with their bytes. What each call does to them is the trait's contract. An environment may leave its files \
 unspecified (`None`), and then the clause says nothing of them. The environment in memory, `MemDesk`, always specifies \
 them. That of the program, `HostDesk` of `crates/silc_main`, never does, since another process may change a file \
@@ -353,16 +353,16 @@ nothing. That `compile` answers Done wherever there is a plan is the clause `com
 **Some rules that surprise.** Each is one of the language or the machine, told on its page. What was before the first \
 sample is given and never computed: an element has there what its own `@@` gives, or 0, also a parameter that is \
 another name of a word with a past of its own. Of two outputs that end on one latch in one cycle the latch keeps that \
-of the greater unit, and this is no conflict. Roles, weights and `weighs` of the grammar say what is refused as too deep; \
-the sentence does not depend on them.
+of the greater unit, and this is no conflict. Roles, weights and `weighs` of the grammar say what is refused as too \
+deep; the sentence does not depend on them.
 
 **How to read the definitions.**
 
 | Written | Read |
 |---|---|
 | `abbrev`, `unfoldable` | a definition; the words tell the prover how far to open it |
-| `record R : Type 0 where`, a line `pub f : P` | R holds where each of its fields P does; or R is a structure with these fields |
-| `data D where`, a line `c : A → D` | D has the cases c, each with what it holds; as a relation: the rules by which it holds |
+| `record R : Type 0 where`, lines `pub f : P` | R holds where each P does; or R is a structure with these fields |
+| `data D where`, lines `c : A → D` | D has the cases c, each with what it holds; of a relation: its rules |
 | `Type 0` | a type, or a statement: a statement is the type of its proofs |
 | `(x : A) → B`, `A → B` | for each x of A, B; A implies B; a function from A to B |
 | `(x : A) × B`, `A × B` | there is an x of A with B; A and B; a pair |
