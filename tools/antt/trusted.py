@@ -338,11 +338,11 @@ A line that is blank, a comment or a `use` line does not count. Left out are the
 as `List`, `≡` and `slice_get`,{kit}: `rt lemma NAME` prints one.
 
 **The environment.** `D` is any type with the trait `Desk` (`crates/desk_core`), whose calls open, read, make and \
-write files by name; `D.view desk.old` and `D.view desk.new` are its state before and after the call, and their `files` all \
-files with their bytes. What each call does to them is the trait's contract. An environment may leave its files \
-unspecified (`None`), and then the clause says nothing of them. The environment in memory, `MemDesk`, always specifies \
-them. That of the program, `HostDesk` of `crates/silc_main`, never does, since another process may change a file \
-between two calls: that the host's files act like those in memory is trusted.
+write files by name; `D.view desk.old` and `D.view desk.new` are its state before and after the call, and their \
+`files` all files with their bytes. What each call does to them is the trait's contract. An environment may leave its \
+files unspecified (`None`), and then the clause says nothing of them. The environment in memory, `MemDesk`, always \
+specifies them. That of the program, `HostDesk` of `crates/silc_main`, never does, since another process may change a \
+file between two calls: that the host's files act like those in memory is trusted.
 
 **What this clause leaves to the clause `planned`** of the same call: that the source breaks no rule on names, \
 elements, types and loops, so that no item of it is left out of its equations and each width is one of the language; \
