@@ -8,9 +8,20 @@ from silc.hardware.fpga import PARTS
 from silc.hardware.netlist import core_for_image
 from silc.hardware.paths import Unit, net_names, path_names, path_of, remedies
 from silc.hardware.pins import pins_of, ports_of, wrapped
+from silc.hardware.routing import misfit_in
 from silc.micro_file import image_of
 
 MICROCODE = Path(__file__).resolve().parent.parent / "increment" / "add-8-1.mic"
+# What nextpnr 0.4 says of a design before it places it.
+PACKED = """\
+Info: Device utilisation:
+Info: \t         ICESTORM_LC:  5300/ 5280   100%
+Info: \t        ICESTORM_RAM:    30/   30   100%
+Info: \t               SB_IO:    40/   96    41%
+Info: \t        ICESTORM_DSP:     9/    8   112%
+
+ERROR: Unable to place cell 'x', no Bels remaining of type 'ICESTORM_DSP'
+"""
 SAID = """\
 Info: Critical path report for clock 'clk$SB_IO_IN_$glb_clk' (posedge -> posedge):
 Info: curr total
@@ -50,6 +61,11 @@ class Fpga(unittest.TestCase):
         self.assertEqual(PARTS["up5k"].over({"logic cells": 5281, "block memories": 30}),
                          ["5281 logic cells, and an up5k has 5280"])
         self.assertEqual(PARTS["hx8k"].over({"multipliers": 1}), ["1 multipliers, and an hx8k has 0"])
+
+    def test_what_nextpnr_packs_is_told(self) -> None:
+        self.assertEqual(misfit_in(PACKED, PARTS["up5k"]), "it does not fit: placed, it takes 5300 logic cells, and an "
+                         "up5k has 5280; 9 multipliers, and an up5k has 8")
+        self.assertIsNone(misfit_in(PACKED.replace("5300/", "5280/").replace("9/", "8/"), PARTS["up5k"]))
 
     def test_the_longest_path_is_told_in_words_of_the_datapath(self) -> None:
         units = [Unit("sum", "alu", 1), Unit("times", "mul", 2), Unit("times_two", "mul", 2), Unit("mul", "mul", 3)]
