@@ -1,7 +1,7 @@
 #!/usr/bin/env python3
 """Whether tools/board makes tops that play: rows that go through the lines of each board, as master and as slave, with
-words of 16, 24 and 32 bits, come back as `silc sim` puts them; and what it refuses. With Yosys and nextpnr also,
-whether tools/synthesize says what is too slow and what does not fit.
+words of 16, 24 and 32 bits, come back as `silc sim` puts them; what it refuses; and whether a program that is lacking is
+named with its package. Bitstreams are for check_routes.py.
 
 usage: tests/hardware/check_boards.py
 
@@ -63,6 +63,18 @@ REFUSED = (
     ("icebreaker truth", "an input of the core is a truth value, and no word of audio"),
     ("icebreaker equaliser --output 20", "--output 20: an output of the core has 32 bits"),
     ("icebreaker equaliser --name board", "the core would be called board, as the top is; --name gives another"),
+)
+# Commands, which programs are there for them, which one is lacking, and its package of Debian.
+LACKING = (
+    ("board icebreaker swap.mic unmade --build", "", "yosys", "yosys"),
+    ("board icebreaker swap.mic unmade --build", "yosys", "nextpnr-ice40", "nextpnr-ice40"),
+    ("board hx8k swap.mic unmade --build", "yosys nextpnr-ice40", "icepack", "fpga-icestorm"),
+    ("board hx8k swap.mic unmade --samples rows", "", "iverilog", "iverilog"),
+    ("synthesize swap.mic --part up5k", "", "yosys", "yosys"),
+    ("synthesize swap.mic --part hx8k --route", "yosys", "nextpnr-ice40", "nextpnr-ice40"),
+    ("explore --pool --out unmade --area ice40 swap.sil x.ranges", "", "yosys", "yosys"),
+    ("explore --pool --out unmade --area ice40 --clock 8000 swap.sil x.ranges", "yosys", "nextpnr-ice40",
+     "nextpnr-ice40"),
 )
 
 
@@ -128,16 +140,23 @@ def refusal_faults(room: Path) -> Iterator[str]:
         yield f"a file of the user's: {done.stderr}"
 
 
-def route_faults(room: Path) -> Iterator[str]:
-    """A rate that a small core serves, one that it does not, and a part that has no multipliers."""
-    for options, status, said in (("--part hx8k --route --rate 48000", 0, "48,000 samples a second take"),
-                                  ("--part hx8k --route --rate 100000000", 3, "the longest path goes through"),
-                                  ("--part up5k", 0, "up5k: it fits, with "),
-                                  ("--large --part hx8k", 1, "synthesize: --large: an hx8k has no large memories"),
-                                  ("--part hx8k --dsp", 1, "synthesize: --dsp: an hx8k has no multipliers")):
-        done = ran(ROOT / "tools" / "synthesize", "swap.mic", *options.split(), room=room)
-        if done.returncode != status or said not in done.stdout + done.stderr:
-            yield f"synthesize {options}: it ended with {done.returncode}: {done.stdout}{done.stderr}"
+def lacking_faults(room: Path) -> Iterator[str]:
+    """Where one of its programs is not there, each tool says in one line what installs it, and makes nothing."""
+    (room / "x.ranges").write_text("")
+    for words, there, lacks, package in LACKING:
+        folder = room / "there"
+        shutil.rmtree(folder, ignore_errors=True)
+        folder.mkdir()
+        for program in there.split():
+            (folder / program).write_text("#!/bin/sh\n")
+            (folder / program).chmod(0o755)
+        tool, *options = words.split()
+        done = subprocess.run([sys.executable, ROOT / "tools" / tool, *options], cwd=room, stdin=subprocess.DEVNULL,
+                              capture_output=True, text=True,
+                              env=os.environ | {"SILC": str(SILC), "XDG_STATE_HOME": str(room), "PATH": str(folder)})
+        wanted = f"{tool}: there is no {lacks}; apt-get install {package}\n"
+        if (done.returncode, done.stderr, done.stdout) != (1, wanted, "") or (room / "unmade").exists():
+            yield f"{words}, with {there or 'nothing'}: it ended with {done.returncode}: {done.stdout}{done.stderr}"
 
 
 def main() -> int:
@@ -147,12 +166,11 @@ def main() -> int:
     with tempfile.TemporaryDirectory(prefix="silc-boards-") as folder:
         room = Path(folder)
         compile_all(room)
-        faults = [*play_faults(room), *control_faults(room), *refusal_faults(room)]
-        if all(map(shutil.which, ("yosys", "nextpnr-ice40"))):
-            faults += route_faults(room)
+        faults = [*play_faults(room), *control_faults(room), *refusal_faults(room), *lacking_faults(room)]
     for fault in faults:
         print(fault)
-    print(f"boards: {len(PLAYS) + len(CONTROLS)} plays and {len(REFUSED) + 1} refusals, {len(faults)} faults")
+    print(f"boards: {len(PLAYS) + len(CONTROLS)} plays and {len(REFUSED) + 1 + len(LACKING)} refusals, "
+          f"{len(faults)} faults")
     return 1 if faults else 0
 
 
