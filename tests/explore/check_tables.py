@@ -99,8 +99,8 @@ bus = [{ name = "b", from = ["inp", "rom", "add", "mul"], to = ["add.0", "add.1"
 """
 # A program in the place of Yosys that keeps its script, and counts a multiplier.
 YOSYS = '#!/bin/sh\necho "$*" >"{log}"\nprintf "Number of cells: 1\\n  SB_MAC16  1\\n" >stat.txt\n'
-# Programs in the place of nextpnr and icetime: the way through a multiplier has 1/30 of a microsecond. Of so many samples
-# a second a period of 7 cycles is served by that, and no longer one.
+# Programs in the place of nextpnr and icetime: the way through a multiplier has 1/30 of a microsecond. Of so many
+# samples a second a period of 7 cycles is served by that, and no longer one.
 NEXTPNR = """#!/bin/sh
 echo "Info:          ICESTORM_LC:    10/ 5280     0%"
 echo "Info: Max frequency for clock 'clk': 50.00 MHz (PASS at 12.00 MHz)"
@@ -434,7 +434,8 @@ def clock_faults(room: Path, silc: Path, rows: Sequence[Row]) -> Iterator[str]:
 def clock_picture_faults(room: Path, periods: Sequence[int]) -> Iterator[str]:
     """The picture has a dot for each core, which is marked where it is below the line of the clock that is needed."""
     tree = Xml.parse(room / "clocked_clock.svg").getroot()
-    line, = (shape for shape in tree.iter(SVG + "path") if shape.findtext(SVG + "title") == "4,000,000 samples a second")
+    line, = (shape for shape in tree.iter(SVG + "path")
+             if shape.findtext(SVG + "title") == "4,000,000 samples a second")
     (left, first), (right, last) = (map(float, place.split()) for place in line.get("d", "")[1:].split(" L"))
     dots = {shape.findtext(SVG + "title", ""): (float(shape.get("cx", 0)), float(shape.get("cy", 0)))
             for shape in tree.iter(SVG + "circle") if shape.findtext(SVG + "title")}

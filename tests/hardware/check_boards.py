@@ -1,7 +1,7 @@
 #!/usr/bin/env python3
 """Whether tools/board makes tops that play: rows that go through the lines of each board, as master and as slave, with
-words of 16, 24 and 32 bits, come back as `silc sim` puts them; what it refuses; and whether a program that is lacking is
-named with its package. Bitstreams are for check_routes.py.
+words of 16, 24 and 32 bits, come back as `silc sim` puts them; what it refuses; and whether a program that is lacking
+is named with its package. Bitstreams are for check_routes.py.
 
 usage: tests/hardware/check_boards.py
 

@@ -1,7 +1,7 @@
 #!/usr/bin/env python3
-"""Whether cores come onto the two parts: a bitstream for each board, what tools/synthesize says of a rate that is served
-and of one that is not, of pins that do not fit and of a core that does not, and whether the pins of the boards are pins
-of their parts, by the tables of icebox.
+"""Whether cores come onto the two parts: a bitstream for each board, what tools/synthesize says of a rate that is
+served and of one that is not, of pins that do not fit and of a core that does not, and whether the pins of the boards
+are pins of their parts, by the tables of icebox.
 
 usage: tests/hardware/check_routes.py
 
@@ -82,8 +82,8 @@ def misfit_faults(room: Path) -> Iterator[str]:
              "; --large puts long delays into its 4 large memories"),
             (["board", "hx8k", "long.mic", "unmade", "--build"], "board", "hx8k", 32, "")):
         done = ran(ROOT / "tools" / words[0], *words[1:], room=room)
-        said = re.fullmatch(rf"{head}: it does not fit: it takes (\d+) block memories, and an {part} has {most}{more}\n",
-                            done.stderr)
+        told = rf"{head}: it does not fit: it takes (\d+) block memories, and an {part} has {most}{more}\n"
+        said = re.fullmatch(told, done.stderr)
         if done.returncode != 1 or not said or int(said[1]) < LONG_BLOCKS or (room / "unmade").exists():
             yield f"{' '.join(words)}: it ended with {done.returncode}: {done.stderr}"
 

@@ -1,4 +1,5 @@
 """What is known of FPGAs and of cores on them: pins, capacities, and the longest path in the words of a datapath."""
+import tomllib
 import unittest
 from pathlib import Path
 
@@ -10,8 +11,18 @@ from silc.hardware.paths import Unit, net_names, path_names, path_of, remedies
 from silc.hardware.pins import pins_of, ports_of, wrapped
 from silc.hardware.routing import misfit_in
 from silc.micro_file import image_of
+from silc.pictures.plan import plan_of
+from silc.pictures.waits import waits_of
 
 MICROCODE = Path(__file__).resolve().parent.parent / "increment" / "add-8-1.mic"
+# The plan of docs/PLANNING.md, with an addition that is begun late.
+PLAN = """\
+period 16 unroll 1 nodes 4
+node 0 cycle 0 unit inp op input 0 to add.0 bus b0 regs 0
+node 1 cycle 1 unit rom op const 1 to add.1 bus b0 regs 0
+node 2 cycle 9 unit add op add 0 1 fmt 0 trunc 8 to outp.0 bus b0 regs 0
+node 3 cycle 10 unit outp op output 0 2
+"""
 # What nextpnr 0.4 says of a design before it places it.
 PACKED = """\
 Info: Device utilisation:
@@ -81,6 +92,11 @@ class Fpga(unittest.TestCase):
         said = ("Resolvable net names on path:\n     1.491 ns ..  3.252 ns core.exact_mul[26]\n"
                 "                  lcout -> core.f_a[2]\n")
         self.assertEqual(net_names(said), ["core.exact_mul[26]"])
+
+    def test_words_that_wait_are_told_with_their_cycles(self) -> None:
+        datapath = tomllib.loads((MICROCODE.parent.parent / "datapath" / "plain.toml").read_text())
+        waits = {wait.file: (wait.there, wait.read, wait.cycles()) for wait in waits_of(plan_of(PLAN, datapath))}
+        self.assertEqual(waits, {"add.0": (1, 9, 8), "add.1": (2, 9, 7), "outp.0": (10, 10, 0)})
 
 
 if __name__ == "__main__":

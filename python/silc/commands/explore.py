@@ -331,7 +331,8 @@ def rows_of(front: list[Trade], ranges: Iterable[str], has_clock: bool) -> list[
     for number, trade in enumerate(front, 1):
         rows.append([number, *trade.costs(), *(trade.choice[name] for name in names)])
     columns = area_columns(front, has_clock)
-    areas: list[list[Any]] = [columns, *([trade.area.cell(column) if trade.area else "" for column in columns] for trade in front)]
+    areas: list[list[Any]] = [columns]
+    areas += [[trade.area.cell(column) if trade.area else "" for column in columns] for trade in front]
     return [row + area for row, area in zip(rows, areas)]
 
 

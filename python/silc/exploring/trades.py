@@ -33,9 +33,9 @@ OTHERWISE = "name another one by --out, or write over it by --force"
 
 @dataclass(frozen=True)
 class Area:
-    """What the core of a combination takes of an FPGA, by the kinds of its cells; where it is routed, the clock at which
-    it runs and the one that the rate takes, in MHz. `misfit` says what the part has too little of; then nothing else is
-    known."""
+    """What the core of a combination takes of an FPGA, by the kinds of its cells; where it is routed, the clock at
+    which it runs and the one that the rate takes, in MHz. `misfit` says what the part has too little of; then nothing
+    else is known."""
     cells: dict[str, int]
     clock: float | None = None
     needed: float | None = None

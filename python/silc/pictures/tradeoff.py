@@ -144,8 +144,8 @@ def draw_noise(trades: list[Trade]) -> str:
 
 def draw_clock(front: list[Trade], rate: float) -> str:
     """The clock that the core of each combination on the front reaches over its period, a colour for each number of
-    buses, and the line of the clock that so many samples a second take. A dot in grey is a core that is too slow, one at
-    the foot a core that does not fit its part."""
+    buses, and the line of the clock that so many samples a second take. A dot in grey is a core that is too slow, one
+    at the foot a core that does not fit its part."""
     cores = [(trade, trade.area) for trade in front if trade.area]
     slow = sum(bool(area.mark()) for _, area in cores)
     said = (f"{len(cores)} cores on the front, of which {len(cores) - slow} serve {rate:,.10g} samples a second: "
