@@ -1,7 +1,7 @@
 #!/usr/bin/env python3
 """Whether cores come onto the two parts: a bitstream for each board, what tools/synthesize says of a rate that is
-served and of one that is not, of pins that do not fit and of a core that does not, and whether the pins of the boards
-are pins of their parts, by the tables of icebox.
+served and of one that is not and of pins that do not fit, and whether the pins of the boards are pins of their parts,
+by the tables of icebox.
 
 usage: tests/hardware/check_routes.py
 
@@ -29,12 +29,9 @@ SILC = Path(os.environ.get("SILC", ROOT / "crates" / "silc_main" / "out" / "silc
 SKIPPED = 77
 NEEDED = {"yosys": "yosys", "nextpnr-ice40": "nextpnr-ice40", "icepack": "fpga-icestorm"}
 DATAPATH = ROOT / "examples" / "goertzel" / "one_multiplier.toml"
-# Left and right exchanged; four words of 16 bits in and one out; and a delay in a memory of 9,216 cells of 16 bits,
-# 36 block memories of 4,096 bits.
+# Left and right exchanged, and four words of 16 bits in and one out.
 SWAP = "func main(a : fix<16,15>, b : fix<16,15>) (c : fix<16,15>, d : fix<16,15>) = begin c = b; d = a >> 1; end;"
 MANY = "func main(x[4] : fix<16,15>) y : fix<16,15> = begin y = x[0] + x[3]; end;"
-LONG = "func main(x : fix<16,15>) y : fix<16,15> = begin y = x@1000; end;"
-CELLS, LONG_CELLS, LONG_BLOCKS = "cells = 8", "cells = 9216", 36
 # Of each run of tools/synthesize the exit status and what it says.
 PINS = 4 * 16 + 16 + 8
 RUNS = (
@@ -58,11 +55,9 @@ def ran(*words: str | Path, room: Path) -> "subprocess.CompletedProcess[str]":
 
 
 def compile_all(room: Path) -> None:
-    text = DATAPATH.read_text()
-    for name, source, cells in (("swap", SWAP, CELLS), ("many", MANY, CELLS), ("long", LONG, LONG_CELLS)):
+    for name, source in (("swap", SWAP), ("many", MANY)):
         (room / f"{name}.sil").write_text(source)
-        (room / f"{name}.toml").write_text(text.replace(CELLS, cells))
-        done = ran(SILC, "compile", f"{name}.sil", f"{name}.toml", f"{name}.mic", room=room)
+        done = ran(SILC, "compile", f"{name}.sil", DATAPATH, f"{name}.mic", room=room)
         if done.returncode:
             raise ValueError(f"{name}: {done.stderr.strip()}")
 
@@ -73,19 +68,6 @@ def synthesis_faults(room: Path) -> Iterator[str]:
         done = ran(ROOT / "tools" / "synthesize", f"{core}.mic", *options, room=room)
         if done.returncode != status or any(line not in done.stdout + done.stderr for line in said):
             yield f"synthesize {words}: it ended with {done.returncode}: {done.stdout}{done.stderr}"
-
-
-def misfit_faults(room: Path) -> Iterator[str]:
-    """A delay line that has no place, as a core and behind the lines of a board."""
-    for words, head, part, most, more in (
-            (["synthesize", "long.mic", "--part", "up5k"], "synthesize", "up5k", 30,
-             "; --large puts long delays into its 4 large memories"),
-            (["board", "hx8k", "long.mic", "unmade", "--build"], "board", "hx8k", 32, "")):
-        done = ran(ROOT / "tools" / words[0], *words[1:], room=room)
-        told = rf"{head}: it does not fit: it takes (\d+) block memories, and an {part} has {most}{more}\n"
-        said = re.fullmatch(told, done.stderr)
-        if done.returncode != 1 or not said or int(said[1]) < LONG_BLOCKS or (room / "unmade").exists():
-            yield f"{' '.join(words)}: it ended with {done.returncode}: {done.stderr}"
 
 
 def build_faults(room: Path) -> Iterator[str]:
@@ -139,7 +121,7 @@ def main() -> int:
         room = Path(folder)
         compile_all(room)
         faults = [fault for board in BOARDS.values() for fault in pin_faults(board)]
-        faults += [*synthesis_faults(room), *misfit_faults(room), *build_faults(room)]
+        faults += [*synthesis_faults(room), *build_faults(room)]
     for fault in faults:
         print(fault)
     print(f"routes: {len(BOARDS)} boards on {len(PARTS)} parts, {len(faults)} faults")
