@@ -1,7 +1,7 @@
 #!/usr/bin/env python3
 """Whether the tables and pictures of tools/explore are right: each row against `silc schedule` on a datapath file that
 is written here by hand, the front against its definition, a table that was cut off against one that was not, and some
-rows of the biquads' table against what is made of them now.
+rows of the biquads' table against what is made of them now, and the clocks of cores against programs that play nextpnr.
 
 usage: tests/explore/check_tables.py [--silc PROGRAM]
 
@@ -99,6 +99,14 @@ bus = [{ name = "b", from = ["inp", "rom", "add", "mul"], to = ["add.0", "add.1"
 """
 # A program in the place of Yosys that keeps its script, and counts a multiplier.
 YOSYS = '#!/bin/sh\necho "$*" >"{log}"\nprintf "Number of cells: 1\\n  SB_MAC16  1\\n" >stat.txt\n'
+# Programs in the place of nextpnr and icetime: the way through a multiplier has 1/30 of a microsecond. Of so many
+# samples a second a period of 7 cycles is served by that, and no longer one.
+NEXTPNR = """#!/bin/sh
+echo "Info:          ICESTORM_LC:    10/ 5280     0%"
+echo "Info: Max frequency for clock 'clk': 50.00 MHz (PASS at 12.00 MHz)"
+"""
+ICETIME = "#!/bin/sh\necho 'Total path delay: 33.33 ns (30.00 MHz)'\n"
+CLOCK, CLOCK_RATE = 30, 4_000_000
 # A program in the place of silc that keeps count of its calls.
 COUNTING = '#!/bin/sh\necho >>"{count}"\nexec "{silc}" "$@"\n'
 
@@ -396,6 +404,51 @@ def dsp_faults(room: Path, silc: Path) -> Iterator[str]:
             yield f"--area ice40 {options}: {done.returncode} {done.stderr} {script}"
 
 
+def clock_faults(room: Path, silc: Path, rows: Sequence[Row]) -> Iterator[str]:
+    """With a clock each row of the front has the one that it reaches and the one that it needs, and is marked where it
+    is too slow, in the table and in the picture. Scripts play Yosys, of which each core has a multiplier, nextpnr and
+    icetime."""
+    for name, text in (("nextpnr-ice40", NEXTPNR), ("icetime", ICETIME)):
+        (room / "bin" / name).write_text(text)
+        (room / "bin" / name).chmod(0o755)
+    shutil.copy(room / "made.csv", room / "clocked.csv")
+    done = tried(room, silc, "--pool", "--area", "ice40", "--dsp", "--clock", str(CLOCK_RATE), out="clocked")
+    made = [*csv.DictReader((room / "clocked.area.csv").read_text().splitlines())] if done.returncode == 0 else []
+    wanted = sorted((int(row["period"]), CLOCK_RATE * int(row["period"]) / 10**6) for row in rows if row["front"])
+    if sorted((int(row["period"]), float(row["needed MHz"])) for row in made) != wanted or not made:
+        yield f"with a clock the front is {made}: {done.stderr}"
+        return
+    for row in made:
+        mark = "too slow" if float(row["needed MHz"]) > CLOCK else ""
+        if (float(row["MHz"]), row["clock"], row["multipliers"]) != (CLOCK, mark, "1") or mark not in done.stdout:
+            yield f"with a clock a row is {row}"
+    yield from clock_picture_faults(room, [period for period, _ in wanted])
+    # Without --dsp the part is an hx8k, which has no multipliers.
+    done = tried(room, silc, "--pool", "--force", "--area", "ice40", "--clock", str(CLOCK_RATE), out="clocked")
+    marks = {row["clock"] for row in csv.DictReader((room / "clocked.area.csv").read_text().splitlines())}
+    if (done.returncode, marks) != (0, {"does not fit"}) or "row 1: it does not fit: it takes 1 multipliers, and an " \
+            "hx8k has 0\n" not in done.stderr:
+        yield f"of cores that do not fit the marks are {marks}: {done.returncode} {done.stderr}"
+
+
+def clock_picture_faults(room: Path, periods: Sequence[int]) -> Iterator[str]:
+    """The picture has a dot for each core, which is marked where it is below the line of the clock that is needed."""
+    tree = Xml.parse(room / "clocked_clock.svg").getroot()
+    line, = (shape for shape in tree.iter(SVG + "path")
+             if shape.findtext(SVG + "title") == "4,000,000 samples a second")
+    (left, first), (right, last) = (map(float, place.split()) for place in line.get("d", "")[1:].split(" L"))
+    dots = {shape.findtext(SVG + "title", ""): (float(shape.get("cx", 0)), float(shape.get("cy", 0)))
+            for shape in tree.iter(SVG + "circle") if shape.findtext(SVG + "title")}
+    told = sorted(int(re.findall(r"period (\d+)", title)[0]) for title in dots)
+    if told != sorted(periods):
+        yield f"the picture of clocks has dots of the periods {told}"
+    for title, (x, y) in dots.items():
+        is_below = y > first + (last - first) * (x - left) / (right - left)
+        needed = CLOCK_RATE // 10**6 * int(re.findall(r"period (\d+)", title)[0])
+        if is_below != title.startswith("too slow: ") or f"{CLOCK} of {needed} MHz" not in title:
+            yield f"the dot of {title} is {'below' if is_below else 'above'} the line"
+
+
 def over_stages(datapath: Path, stages: int) -> tuple[int, int, int] | None:
     """The cycles, registers and last cell of the plan over so many stages that tests/overlap/plan.py finds, or
     nothing."""
@@ -471,7 +524,8 @@ def main(words: list[str]) -> int:
                   *copies_faults(), *reason_faults(rows, done.stderr), *best_faults(room, silc, rows),
                   *fit_faults(room, silc, rows), *unfit_faults(room, silc), *core_faults(room, silc),
                   *length_faults(room, silc), *linked_faults(room, silc), *wrap_faults(room, silc),
-                  *dsp_faults(room, silc), *stages_faults(room, silc), *kept_faults(room, silc, text)]
+                  *dsp_faults(room, silc), *clock_faults(room, silc, rows), *stages_faults(room, silc),
+                  *kept_faults(room, silc, text)]
         front = done.stdout.splitlines()[1:]
         if len(front) != sum(row["front"] == "yes" for row in rows):
             faults.append(f"standard output has {len(front)} rows of the front")

@@ -1,7 +1,7 @@
 #!/usr/bin/env python3
 """Whether tools/board makes tops that play: rows that go through the lines of each board, as master and as slave, with
-words of 16, 24 and 32 bits, come back as `silc sim` puts them; and what it refuses. With Yosys and nextpnr also,
-whether tools/synthesize says what is too slow and what does not fit.
+words of 16, 24 and 32 bits, come back as `silc sim` puts them; what it refuses; whether a program that is lacking is
+named with its package, and of what does not fit the number that is over. Bitstreams are for check_routes.py.
 
 usage: tests/hardware/check_boards.py
 
@@ -63,6 +63,38 @@ REFUSED = (
     ("icebreaker truth", "an input of the core is a truth value, and no word of audio"),
     ("icebreaker equaliser --output 20", "--output 20: an output of the core has 32 bits"),
     ("icebreaker equaliser --name board", "the core would be called board, as the top is; --name gives another"),
+)
+# A program in the place of Yosys, of which a core has so many multipliers, and one in that of nextpnr that packs more
+# cells than there are.
+YOSYS = """
+echo '{{"modules": {{"board": {{"cells": {{{cells}}}}}}}}}' >board.json
+printf 'Number of cells: 1\\n  SB_MAC16  {count}\\n' >stat.txt
+"""
+NEXTPNR = """
+echo "Info:          ICESTORM_LC:  5300/ 5280   100%" >&2
+echo "Info:         ICESTORM_RAM:     1/   30     3%" >&2
+echo "ERROR: Unable to place cell 'x', no Bels remaining of type 'ICESTORM_LC'" >&2
+exit 1
+"""
+# Commands, the multipliers of their core, and which number is over.
+MISFITS = (
+    ("board icebreaker swap.mic unmade --build", 9, "it takes 9 multipliers, and an up5k has 8"),
+    ("board hx8k swap.mic unmade --build", 1, "it takes 1 multipliers, and an hx8k has 0"),
+    ("board icebreaker swap.mic unmade --build", 8, "placed, it takes 5300 logic cells, and an up5k has 5280"),
+    ("synthesize swap.mic --part up5k", 9, "it takes 9 multipliers, and an up5k has 8"),
+    ("synthesize swap.mic --part up5k --route", 8, "placed, it takes 5300 logic cells, and an up5k has 5280"),
+)
+# Commands, which programs are there for them, which one is lacking, and its package of Debian.
+LACKING = (
+    ("board icebreaker swap.mic unmade --build", "", "yosys", "yosys"),
+    ("board icebreaker swap.mic unmade --build", "yosys", "nextpnr-ice40", "nextpnr-ice40"),
+    ("board hx8k swap.mic unmade --build", "yosys nextpnr-ice40", "icepack", "fpga-icestorm"),
+    ("board hx8k swap.mic unmade --samples rows", "", "iverilog", "iverilog"),
+    ("synthesize swap.mic --part up5k", "", "yosys", "yosys"),
+    ("synthesize swap.mic --part hx8k --route", "yosys", "nextpnr-ice40", "nextpnr-ice40"),
+    ("explore --pool --out unmade --area ice40 swap.sil x.ranges", "", "yosys", "yosys"),
+    ("explore --pool --out unmade --area ice40 --clock 8000 swap.sil x.ranges", "yosys", "nextpnr-ice40",
+     "nextpnr-ice40"),
 )
 
 
@@ -128,16 +160,40 @@ def refusal_faults(room: Path) -> Iterator[str]:
         yield f"a file of the user's: {done.stderr}"
 
 
-def route_faults(room: Path) -> Iterator[str]:
-    """A rate that a small core serves, one that it does not, and a part that has no multipliers."""
-    for options, status, said in (("--part hx8k --route --rate 48000", 0, "48,000 samples a second take"),
-                                  ("--part hx8k --route --rate 100000000", 3, "the longest path goes through"),
-                                  ("--part up5k", 0, "up5k: it fits, with "),
-                                  ("--large --part hx8k", 1, "synthesize: --large: an hx8k has no large memories"),
-                                  ("--part hx8k --dsp", 1, "synthesize: --dsp: an hx8k has no multipliers")):
-        done = ran(ROOT / "tools" / "synthesize", "swap.mic", *options.split(), room=room)
-        if done.returncode != status or said not in done.stdout + done.stderr:
-            yield f"synthesize {options}: it ended with {done.returncode}: {done.stdout}{done.stderr}"
+def played(words: str, programs: dict[str, str], room: Path) -> "subprocess.CompletedProcess[str]":
+    """How a tool ends where no programs of the host are there but these, by their names and their scripts."""
+    folder = room / "there"
+    shutil.rmtree(folder, ignore_errors=True)
+    folder.mkdir()
+    for program, script in programs.items():
+        (folder / program).write_text(f"#!/bin/sh\n{script}")
+        (folder / program).chmod(0o755)
+    tool, *options = words.split()
+    return subprocess.run([sys.executable, ROOT / "tools" / tool, *options], cwd=room, stdin=subprocess.DEVNULL,
+                          capture_output=True, text=True,
+                          env=os.environ | {"SILC": str(SILC), "XDG_STATE_HOME": str(room), "PATH": str(folder)})
+
+
+def lacking_faults(room: Path) -> Iterator[str]:
+    """Where one of its programs is not there, each tool says in one line what installs it, and makes nothing."""
+    (room / "x.ranges").write_text("")
+    for words, there, lacks, package in LACKING:
+        done = played(words, dict.fromkeys(there.split(), ""), room)
+        wanted = f"{words.partition(' ')[0]}: there is no {lacks}; apt-get install {package}\n"
+        if (done.returncode, done.stderr, done.stdout) != (1, wanted, "") or (room / "unmade").exists():
+            yield f"{words}, with {there or 'nothing'}: it ended with {done.returncode}: {done.stdout}{done.stderr}"
+
+
+def misfit_faults(room: Path) -> Iterator[str]:
+    """Of what does not fit a part each tool says which number is over, and makes nothing. Scripts play Yosys, nextpnr
+    and icetime."""
+    for words, multipliers, said in MISFITS:
+        cells = ", ".join(f'"m{k}": {{"type": "SB_MAC16"}}' for k in range(multipliers))
+        yosys = YOSYS.format(cells=cells, count=multipliers)
+        done = played(words, {"yosys": yosys, "nextpnr-ice40": NEXTPNR, "icetime": "", "icepack": ""}, room)
+        if (done.returncode, done.stderr) != (1, f"{words.partition(' ')[0]}: it does not fit: {said}\n") or \
+                (room / "unmade").exists():
+            yield f"{words}: it ended with {done.returncode}: {done.stderr}"
 
 
 def main() -> int:
@@ -147,12 +203,12 @@ def main() -> int:
     with tempfile.TemporaryDirectory(prefix="silc-boards-") as folder:
         room = Path(folder)
         compile_all(room)
-        faults = [*play_faults(room), *control_faults(room), *refusal_faults(room)]
-        if all(map(shutil.which, ("yosys", "nextpnr-ice40"))):
-            faults += route_faults(room)
+        faults = [*play_faults(room), *control_faults(room), *refusal_faults(room), *lacking_faults(room),
+                  *misfit_faults(room)]
     for fault in faults:
         print(fault)
-    print(f"boards: {len(PLAYS) + len(CONTROLS)} plays and {len(REFUSED) + 1} refusals, {len(faults)} faults")
+    print(f"boards: {len(PLAYS) + len(CONTROLS)} plays and {len(REFUSED) + 1 + len(LACKING) + len(MISFITS)} refusals, "
+          f"{len(faults)} faults")
     return 1 if faults else 0
 
 

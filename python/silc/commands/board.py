@@ -24,14 +24,18 @@ With --samples S, rows of a left and a right word of the core, the bench plays t
 the rows that come back are compared with those of `silc sim`; it says how many clocks the core has to spare in each
 frame. Behind the two words of a row stand its control words; where they change, the bench sends those that did once
 that row was taken, and `silc sim` runs the rows as the core took them. With --build, Yosys, nextpnr and icepack make
-board.bin in FOLDER; where its clock is too slow for the board's, nothing is made at all. Each file is there whole or
-not at all. Where one of these names is a file that no tool made, none is written but with --force.
+board.bin in FOLDER; where the part has too little of something or its clock is too slow for the board's, that is said
+and nothing is made at all. Each file is there whole or not at all. Where one of these names is a file that no tool
+made, none is written but with --force.
 """
 import argparse
+import json
 import tempfile
+from collections import Counter
 from pathlib import Path
 
 from silc.commands import ended
+from silc.commands.synthesize import counted
 from silc.commands.verilog import checked_in, name_for, names_in
 from silc.hardware.board_play import Playing, play, sources
 from silc.hardware.board_text import (BAUD, CODEC, FRAME_CLOCKS, LEAST_BITS, MOST_BITS, SERIAL, TOP, UART, Audio,
@@ -39,6 +43,7 @@ from silc.hardware.board_text import (BAUD, CODEC, FRAME_CLOCKS, LEAST_BITS, MOS
                                       module_text, top_text)
 from silc.hardware.boards import BOARDS, MASTER, SLAVE, Board, constraints
 from silc.hardware.core_files import PARTS, files_of
+from silc.hardware.fpga import MULTIPLIERS
 from silc.hardware.large import make_large
 from silc.hardware.netlist import Core, NoCore, core_for_image
 from silc.hardware.routing import need, routed, run
@@ -75,6 +80,12 @@ def core_of(options: argparse.Namespace, board: Board, audio: Audio) -> tuple[Co
 # The bitstream
 
 
+def cells_in(netlist: str) -> dict[str, int]:
+    """How many cells of each kind a top takes, by the netlist that Yosys wrote."""
+    module = json.loads(netlist)["modules"][TOP]
+    return counted("ice40", Counter(cell["type"] for cell in module["cells"].values()))
+
+
 def built(board: Board, core: Core, audio: Audio, texts: dict[str, str]) -> tuple[bytes, str]:
     """The bitstream, and what nextpnr says of cells and clock."""
     with tempfile.TemporaryDirectory(prefix="silc-board-") as name:
@@ -85,8 +96,11 @@ def built(board: Board, core: Core, audio: Audio, texts: dict[str, str]) -> tupl
         modules = " ".join(name for name in sources(core, audio) if name in (PARTS.name, SERIAL, UART))
         run(["yosys", "-q", "-p", f"read_verilog -defer {modules}; read_verilog {core.name}.v {TOP}.v; "
              f"synth_ice40{dsp} -top {TOP} -json {TOP}.json"], folder, "Yosys")
-        has_multipliers = "SB_MAC16" in (folder / f"{TOP}.json").read_text()
-        made = routed(TOP, folder, board.fpga, board.hertz / 1e6, has_multipliers, f"{TOP}.pcf")
+        cells = cells_in((folder / f"{TOP}.json").read_text())
+        misfit = board.fpga.misfit(cells)
+        if misfit:
+            raise NoBoard(misfit)
+        made = routed(TOP, folder, board.fpga, board.hertz / 1e6, bool(cells[MULTIPLIERS]), f"{TOP}.pcf")
         if made.clock * 1e6 < board.hertz:
             raise NoBoard(f"it runs at {made.clock:g} MHz, and the board has {board.hertz / 1e6:g}; "
                           "`silc synthesize --route --rate` says which path is too long")
@@ -125,7 +139,7 @@ def bits_word(word: str) -> int:
 def options_of(words: list[str]) -> argparse.Namespace:
     parser = argparse.ArgumentParser(prog="board", usage=__doc__.partition("usage: ")[2].partition("\n\n")[0],
                                      description=__doc__, formatter_class=argparse.RawDescriptionHelpFormatter)
-    parser.add_argument("board", metavar="NAME", choices=BOARDS)
+    parser.add_argument("board", metavar="NAME", type=board_word, choices=BOARDS)
     parser.add_argument("microcode", metavar="MIC")
     parser.add_argument("folder", metavar="FOLDER")
     parser.add_argument("--datapath", metavar="DP")
@@ -141,6 +155,12 @@ def options_of(words: list[str]) -> argparse.Namespace:
     parser.add_argument("--build", action="store_true")
     add_force(parser)
     return parser.parse_args(words)
+
+
+def board_word(word: str) -> str:
+    if word not in BOARDS:
+        raise argparse.ArgumentTypeError(f"{word} is no board that is known; there are {' and '.join(BOARDS)}")
+    return word
 
 
 def count_word(word: str) -> int:

@@ -43,7 +43,8 @@ With --area ice40 (or xilinx, ecp5) Yosys synthesizes the core of each row of th
 seconds to a minute each; what it takes of the FPGA stands beside and in NAME.area.csv. --dsp uses the multipliers that
 an ice40 up5k has; the others have some always. With --clock RATE, samples a second, each core is placed and routed too
 (ice40: an hx8k, with --dsp an up5k): beside stand the clock that it reaches and the one that the rate takes, RATE times
-the period, and a row whose core is too slow is marked.
+the period, and a row whose core is too slow, or does not fit the part, is marked. NAME_clock.svg is the picture: the
+clock of each core over its period, and the line that it has to reach.
 
 With --json all rows come on standard output as JSON in the place of the front (docs/PYTHON.md).
 
@@ -76,13 +77,15 @@ from silc.exploring.exploration import Exploration
 from silc.exploring.reasons import Reasons
 from silc.exploring.sources import BAD_SOURCE, Judgement, LinkedTemplate, PlainSource
 from silc.exploring.template import ITEMS, Choice, Template, fitted, numbers_of as numbers_in, text_of
-from silc.exploring.trades import COSTS, STAGES, Table, Trade, mark_front, registers_by_file, trade_of
+from silc.exploring.trades import (CLOCK, COSTS, MARK, NEEDED, STAGES, Area, Table, Trade, mark_front,
+                                   registers_by_file, trade_of)
+from silc.hardware.fpga import MISFIT
 from silc.hardware.words import Range
 from silc.linking.blocks import Library
 from silc.linking.places import File, Unlinked, has_head
 from silc.made_files import MadeFiles, NotMade, add_force
 from silc.pictures.plan import STAGES as COUNTS_OF_STAGES, plan_of
-from silc.pictures.tradeoff import draw_noise, draw_tradeoff
+from silc.pictures.tradeoff import draw_clock, draw_noise, draw_tradeoff
 from silc.programs import SILC, is_program
 
 # The statuses of silc for a plan, and for a datapath that is none or has no place for a node.
@@ -287,44 +290,50 @@ def prepare(room: Path, options: Namespace, space: Space) -> str:
     return name
 
 
-MISSES, MEETS = "too slow", ""
+def area_in(status: int, said: str) -> Area | None:
+    """What a core takes, by what tools/synthesize says, or nothing where it says none."""
+    line = next((line for line in said.splitlines() if line.startswith("{")), None)
+    if status in (0, SHORT) and line:
+        numbers = json.loads(line)
+        clock, needed = numbers.pop(CLOCK, None), numbers.pop(NEEDED, None)
+        return Area(numbers, clock, needed)
+    misfit = next((line for line in said.splitlines() if MISFIT in line), None)
+    return Area({}, misfit=MISFIT + misfit.partition(MISFIT)[2]) if status and misfit else None
 
 
-def area_in(said: str, rate: float | None) -> dict[str, Any]:
-    """What a core takes, by the line of JSON among those that tools/synthesize says; with a rate, whether it is too
-    slow."""
-    made = dict(json.loads(next(line for line in said.splitlines() if line.startswith("{"))))
-    if rate:
-        made["clock"] = MISSES if made["MHz"] < made["needed MHz"] else MEETS
-    return made
-
-
-def areas_of(room: Path, options: Namespace, space: Space, front: list[Trade]) -> list[list[Any]]:
-    """What the core of each trade on the front takes, as rows of a table with its head."""
+def add_areas(room: Path, options: Namespace, space: Space, front: list[Trade]) -> None:
+    """Finds what the core of each trade on the front takes."""
     waiting = {f"front{place}": trade for place, trade in enumerate(front)}
     for name, trade in waiting.items():
         put_files(room, name, *space.files(trade.choice))
     command, names = runs.area(options.area, options.dsp, options.clock), list(waiting)
     answers = runs.by_pool(room, names, options.jobs, command) if options.pool else \
         runs.by_parallel(room, names, options.jobs, None, command)
-    made = {}
-    for name, status, said in answers:
-        if status not in (0, SHORT):
+    for done, (name, status, said) in enumerate(answers, 1):
+        area = waiting[name].area = area_in(status, said)
+        if not area:
             raise Unexplored(f"--area {options.area}: {said.strip()}")
-        made[name] = area_in(said, options.clock)
-        say(f"{len(made)} of {len(waiting)} cores are synthesized")
-    kinds = list(made[min(made)]) if made else []
-    return [kinds, *([made[name][kind] for kind in kinds] for name in waiting)]
+        say(f"{done} of {len(waiting)} cores are synthesized"
+            + (f"; row {front.index(waiting[name]) + 1}: {area.misfit}" if area.misfit else ""))
 
 
-def rows_of(front: list[Trade], ranges: Iterable[str], areas: list[list[Any]] | None) -> list[list[Any]]:
+def area_columns(front: list[Trade], has_clock: bool) -> list[str]:
+    """The columns of what cores take; with a clock, those of it and of the mark."""
+    kinds = dict.fromkeys(kind for trade in front if trade.area for kind in trade.area.cells)
+    return [*kinds, *((CLOCK, NEEDED, MARK) if has_clock else ())]
+
+
+def rows_of(front: list[Trade], ranges: Iterable[str], has_clock: bool) -> list[list[Any]]:
     """The rows of the front with their numbers, and with what their cores take, where that is known."""
     names = [name for name in ranges if name not in COSTS]
     costs = [*COSTS, *(["noise"] if any(trade.noise is not None for trade in front) else [])]
     rows: list[list[Any]] = [["row", *costs, *names]]
     for number, trade in enumerate(front, 1):
         rows.append([number, *trade.costs(), *(trade.choice[name] for name in names)])
-    return [row + area for row, area in zip(rows, areas or [[]] * len(rows))]
+    columns = area_columns(front, has_clock)
+    areas: list[list[Any]] = [columns]
+    areas += [[trade.area.cell(column) if trade.area else "" for column in columns] for trade in front]
+    return [row + area for row, area in zip(rows, areas)]
 
 
 def show(rows: list[list[Any]]) -> None:
@@ -340,7 +349,8 @@ class Outputs:
     def __init__(self, options: Namespace, name: str, blocks: Sequence[str]) -> None:
         inputs = [options.source, options.template, options.samples, options.against, *blocks]
         self.name, self.files, self.tables = name, MadeFiles(inputs, options.force), MadeFiles(inputs, True)
-        made = {".svg": True, "_noise.svg": options.samples, ".area.csv": options.area, ".toml": options.best}
+        made = {".svg": True, "_noise.svg": options.samples, "_clock.svg": options.clock, ".area.csv": options.area,
+                ".toml": options.best}
         try:
             self.tables.look_at(f"{name}.csv")
             for ending, is_made in made.items():
@@ -421,12 +431,15 @@ def make(options: argparse.Namespace) -> int:
         tell(Path(folder), first, space, trades)
         front = mark_front(trades)
         outputs.put(".csv", table.text(trades))
-        areas = areas_of(Path(folder), options, space, front) if options.area else None
+        if options.area:
+            add_areas(Path(folder), options, space, front)
         outputs.put(".svg", draw_tradeoff(trades) + "\n")
         if judgement:
             outputs.put("_noise.svg", draw_noise(trades) + "\n")
-        rows = rows_of(front, space.ranges, areas)
-        if areas:
+        if options.clock:
+            outputs.put("_clock.svg", draw_clock(front, options.clock) + "\n")
+        rows = rows_of(front, space.ranges, bool(options.clock))
+        if options.area:
             outputs.put(".area.csv", "".join(",".join(map(str, row)) + "\n" for row in rows))
         if options.json:
             print(json.dumps(Exploration(trades, front).as_json()))

@@ -172,11 +172,11 @@ def shown(options: argparse.Namespace, numbers: dict[str, float]) -> str:
 
 def check_fit(options: argparse.Namespace, numbers: dict[str, float]) -> None:
     part = part_of(options)
-    over = part.over(numbers)
-    if over:
+    misfit = part.misfit(numbers)
+    if misfit:
         has_other = part.large_memories and not options.large and numbers["block memories"] > part.block_memories
         more = f"; --large puts long delays into its {part.large_memories} large memories" if has_other else ""
-        raise Unmade(f"it does not fit: it takes {'; '.join(over)}{more}")
+        raise Unmade(misfit + more)
     if not options.json:
         print(part.verdict(numbers), flush=True)
 
@@ -207,7 +207,7 @@ def options_of(words: list[str]) -> argparse.Namespace:
     parser.add_argument("microcode", metavar="MIC|NET")
     parser.add_argument("--datapath", metavar="DP")
     parser.add_argument("--for", dest="family", choices=FAMILIES, default="ice40")
-    parser.add_argument("--part", choices=PARTS)
+    parser.add_argument("--part", type=part_word, choices=PARTS)
     parser.add_argument("--rate", metavar="HZ", type=rate_word)
     for flag in ("--dsp", "--full", "--large", "--route", "--json"):
         parser.add_argument(flag, action="store_true")
@@ -223,6 +223,12 @@ def options_of(words: list[str]) -> argparse.Namespace:
     if is_net(options.microcode) and options.rate is not None:
         parser.error("--rate is for microcode: of a net the slowest core counts")
     return options
+
+
+def part_word(word: str) -> str:
+    if word not in PARTS:
+        raise argparse.ArgumentTypeError(f"{word} is no part that is known; there are {' and '.join(PARTS)}")
+    return word
 
 
 def rate_word(word: str) -> float:

@@ -25,7 +25,33 @@ LAST = [*MEASURES, *VERDICT]
 # What a table has too where sources are judged on samples.
 JUDGED = ("noise", "wraps")
 FITS, ON_FRONT = "fits", "yes"
+# The columns of a clock beside what a core takes, and how those rows are marked that do not reach it or have no place.
+CLOCK, NEEDED, MARK = "MHz", "needed MHz", "clock"
+TOO_SLOW, MISFITS = "too slow", "does not fit"
 OTHERWISE = "name another one by --out, or write over it by --force"
+
+
+@dataclass(frozen=True)
+class Area:
+    """What the core of a combination takes of an FPGA, by the kinds of its cells; where it is routed, the clock at
+    which it runs and the one that the rate takes, in MHz. `misfit` says what the part has too little of; then nothing
+    else is known."""
+    cells: dict[str, int]
+    clock: float | None = None
+    needed: float | None = None
+    misfit: str = ""
+
+    def mark(self) -> str:
+        """How a row is marked that can't be built for its rate."""
+        if self.misfit:
+            return MISFITS
+        return TOO_SLOW if self.clock is not None and self.needed is not None and self.clock < self.needed else ""
+
+    def cell(self, column: str) -> float | str:
+        """What stands in a column of the table."""
+        own = {CLOCK: self.clock, NEEDED: self.needed, MARK: self.mark()}
+        value = own[column] if column in own else self.cells.get(column)
+        return "" if value is None else value
 
 
 @dataclass
@@ -46,6 +72,7 @@ class Trade:
     is_on_front: bool = False
     noise: float | None = None
     wraps: int | None = None
+    area: Area | None = None
 
     def fits(self) -> bool:
         return self.answer == FITS

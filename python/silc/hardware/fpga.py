@@ -6,6 +6,7 @@ from dataclasses import dataclass
 
 LOGIC, FLOPS, MEMORIES, MULTIPLIERS = "logic cells", "flip-flops", "block memories", "multipliers"
 LARGE = "large memories"
+MISFIT = "it does not fit: "
 
 
 @dataclass(frozen=True)
@@ -29,6 +30,11 @@ class Fpga:
         """Which numbers of a core are above those of the part."""
         return [f"{counts[kind]} {kind}, and an {self.name} has {most}" for kind, most in self.capacity().items()
                 if counts.get(kind, 0) > most]
+
+    def misfit(self, counts: Mapping[str, float]) -> str | None:
+        """Which numbers of a core are over, as a line, or nothing where it fits."""
+        over = self.over(counts)
+        return f"{MISFIT}it takes {'; '.join(over)}" if over else None
 
     def verdict(self, counts: Mapping[str, float]) -> str:
         """What a core takes of all that there is."""

@@ -3,17 +3,17 @@ colour for each number of buses."""
 import math
 from collections.abc import Callable
 
-from silc.exploring.trades import Trade
+from silc.exploring.trades import MISFITS, Trade
 from silc.pictures.axes import numbers_over
-from silc.pictures.picture import BLACK, BLUE, FAINT, GREY, MARGIN, ORANGE, Picture
+from silc.pictures.picture import BLACK, BLUE, FAINT, GREY, MARGIN, ORANGE, PAPER, Picture
 from silc.sure import sure
 
 PANEL, TALL, LEFT, BETWEEN, HEAD, FOOT, ACROSS = 300, 230, 44, 70, 96, 50, 3
 COLOURS = (BLUE, ORANGE, "#009e73", "#cc79a7", "#e69f00", "#56b4e9", BLACK)
 MARKS = 6
-DOT, FRONT_DOT = 1.6, 4.5
+DOT, FRONT_DOT, MISS_DOT = 1.6, 4.5, 2.5
 KEY = 92
-NOISE_WIDE = 560
+WIDE, MEGA = 560, 1e6
 
 
 def marks_of(low: float, high: float) -> list[int]:
@@ -97,7 +97,7 @@ def draw_tradeoff(trades: list[Trade]) -> str:
     bits = [sure(trade.register_bits) for trade in fit]
     registers = marks_of(min(bits, default=0), max(bits, default=1))
     lines = -(-len(numbers) // ACROSS)
-    colours = {buses: COLOURS[k % len(COLOURS)] for k, buses in enumerate(sorted({trade.buses for trade in trades}))}
+    colours = colours_of(trades)
     width = 2 * MARGIN + LEFT + min(len(numbers), ACROSS) * (PANEL + BETWEEN) - BETWEEN
     picture = Picture(max(width, 620), HEAD + lines * (TALL + HEAD) - HEAD // 2 + FOOT, f"trade-off: {said}")
     picture.text(MARGIN, 28, said, 13, BLACK, "start")
@@ -130,33 +130,75 @@ def draw_noise(trades: list[Trade]) -> str:
     registers = marks_of(min(bits, default=0), max(bits, default=1))
     noises = [trade.noise for trade in fit if trade.noise is not None]
     levels = marks_of(math.floor(min(noises, default=-1)), math.ceil(max(noises, default=0)))
-    picture = Picture(2 * MARGIN + LEFT + NOISE_WIDE, HEAD + TALL + FOOT, said)
+    picture = Picture(2 * MARGIN + LEFT + WIDE, HEAD + TALL + FOOT, said)
     picture.text(MARGIN, 28, said, 13, BLACK, "start")
-    colours = {buses: COLOURS[k % len(COLOURS)] for k, buses in enumerate(sorted({trade.buses for trade in trades}))}
-    place = noise_axes(picture, registers, levels)
+    colours = colours_of(trades)
+    place = axes_over(picture, registers, levels)
     for trade in sorted(fit, key=lambda trade: trade.is_on_front):
         words = f"{trade.noise:.1f} dB, {said_of(trade)}" if trade.is_on_front else ""
         radius = FRONT_DOT if trade.is_on_front else DOT
         picture.dot(*place(sure(trade.register_bits), sure(trade.noise)), colours[trade.buses], radius, words)
-    for number, (buses, colour) in enumerate(colours.items()):
-        picture.dot(MARGIN + 6 + number * KEY, 48, colour)
-        picture.text(MARGIN + 16 + number * KEY, 52, f"{buses} buses", 11, BLACK, "start")
+    draw_buses(picture, colours)
     return picture.whole()
 
 
-def noise_axes(picture: Picture, registers: list[int],
-               levels: list[int]) -> Callable[[float, float], tuple[float, float]]:
-    """The axes of a picture of noise, and where a number of bits and a level stand."""
+def draw_clock(front: list[Trade], rate: float) -> str:
+    """The clock that the core of each combination on the front reaches over its period, a colour for each number of
+    buses, and the line of the clock that so many samples a second take. A dot in grey is a core that is too slow, one
+    at the foot a core that does not fit its part."""
+    cores = [(trade, trade.area) for trade in front if trade.area]
+    slow = sum(bool(area.mark()) for _, area in cores)
+    said = (f"{len(cores)} cores on the front, of which {len(cores) - slow} serve {rate:,.10g} samples a second: "
+            "MHz over cycles of a period")
+    periods = marks_of(min((trade.period for trade in front), default=0), max((trade.period for trade in front),
+                                                                              default=1))
+    needed = [rate * period / MEGA for period in (periods[0], periods[-1])]
+    clocks = marks_of(0, max([needed[1], *(area.clock or 0 for _, area in cores)]))
+    picture = Picture(2 * MARGIN + LEFT + WIDE, HEAD + TALL + FOOT, said)
+    picture.text(MARGIN, 28, said, 13, BLACK, "start")
+    place = axes_over(picture, periods, clocks)
+    picture.curve([place(period, clock) for period, clock in zip((periods[0], periods[-1]), needed)], ORANGE, 1.5,
+                  title=f"{rate:,.10g} samples a second")
+    colours = colours_of(front)
+    for trade, area in cores:
+        mark = area.mark()
+        at = f"{area.clock:g} of {area.needed:g} MHz, " if area.clock is not None and area.needed is not None else ""
+        picture.dot(*place(trade.period, area.clock or 0), GREY if mark else colours[trade.buses], FRONT_DOT,
+                    f"{mark + ': ' if mark else ''}{at}{said_of(trade)}")
+        if mark and mark != MISFITS:
+            picture.dot(*place(trade.period, area.clock or 0), PAPER, MISS_DOT)
+    draw_buses(picture, colours)
+    picture.dot(MARGIN + 6 + len(colours) * KEY, 48, GREY, FRONT_DOT)
+    picture.dot(MARGIN + 6 + len(colours) * KEY, 48, PAPER, MISS_DOT)
+    picture.text(MARGIN + 16 + len(colours) * KEY, 52, "too slow, below the line; at the foot what does not fit", 11,
+                 BLACK, "start")
+    return picture.whole()
+
+
+def colours_of(trades: list[Trade]) -> dict[int, str]:
+    """A colour for each number of buses."""
+    return {buses: COLOURS[k % len(COLOURS)] for k, buses in enumerate(sorted({trade.buses for trade in trades}))}
+
+
+def draw_buses(picture: Picture, colours: dict[int, str]) -> None:
+    """What each colour says."""
+    for number, (buses, colour) in enumerate(colours.items()):
+        picture.dot(MARGIN + 6 + number * KEY, 48, colour)
+        picture.text(MARGIN + 16 + number * KEY, 52, f"{buses} buses", 11, BLACK, "start")
+
+
+def axes_over(picture: Picture, across: list[int], levels: list[int]) -> Callable[[float, float], tuple[float, float]]:
+    """The axes of a picture, and where a number across and a level stand."""
     left, top = MARGIN + LEFT, HEAD
 
     def place(number: float, level: float) -> tuple[float, float]:
-        return (left + (number - registers[0]) * NOISE_WIDE / max(1, registers[-1] - registers[0]),
+        return (left + (number - across[0]) * WIDE / max(1, across[-1] - across[0]),
                 top + (levels[-1] - level) * TALL / max(1, levels[-1] - levels[0]))
 
-    for number in registers:
+    for number in across:
         picture.line(place(number, levels[0])[0], top, place(number, levels[0])[0], top + TALL, FAINT, 1)
         picture.text(place(number, levels[0])[0], top + TALL + 15, str(number), 10)
     for level in levels:
-        picture.line(left, place(registers[0], level)[1], left + NOISE_WIDE, place(registers[0], level)[1], FAINT, 1)
-        picture.text(left - 6, place(registers[0], level)[1] + 4, str(level), 10, BLACK, "end")
+        picture.line(left, place(across[0], level)[1], left + WIDE, place(across[0], level)[1], FAINT, 1)
+        picture.text(left - 6, place(across[0], level)[1] + 4, str(level), 10, BLACK, "end")
     return place
