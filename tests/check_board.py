@@ -17,6 +17,7 @@ import check_tutorial
 from check_tutorial import BLOCK, BUILT, CONSOLE, ROOT, commands_in, faults_of, page_with, run
 
 from silc.hardware.routing import PACKAGES
+from silc.made_files import put_whole
 
 SILC = Path(os.environ.get("SILC", BUILT)).resolve()
 PAGE = ROOT / "docs" / "BOARD.md"
@@ -38,7 +39,7 @@ def main(words: list[str]) -> int:
     with tempfile.TemporaryDirectory(prefix="silc-board-page-") as folder:
         outputs, _ = run(blocks, Path(folder).resolve(), SILC)
     if words and len(outputs) == len(shown):
-        PAGE.write_text(page_with(text, outputs))
+        put_whole(PAGE, page_with(text, outputs))
         return 0
     faults = list(faults_of(PAGE, shown, outputs, {}))
     for fault in faults:

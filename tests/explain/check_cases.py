@@ -30,6 +30,8 @@ from concurrent.futures import ThreadPoolExecutor
 from pathlib import Path
 from typing import Any, TypeAlias
 
+from silc.made_files import put_whole
+
 # A case as its file has it.
 Said: TypeAlias = dict[str, Any]
 
@@ -143,7 +145,7 @@ def judged(case: Path, writes: bool) -> list[str]:
         edits = [EDIT.match(line) for line in done.stderr.splitlines() if EDIT.match(line)]
         done.stderr = "".join(told).replace(os.path.realpath(room), "ROOM")
         if writes:
-            (case / EXPECTED).write_text(done.stderr)
+            put_whole(case / EXPECTED, done.stderr)
         faults = [*compared(case, said, done), *cure_compared(said, room, lead)]
         for name in said.get("kept", []):
             (room / name).chmod(0o755)

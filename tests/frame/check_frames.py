@@ -17,11 +17,10 @@ from collections import Counter
 from concurrent.futures import ThreadPoolExecutor
 from pathlib import Path
 
-ROOT = Path(__file__).resolve().parent.parent.parent
-sys.path[:0] = [str(ROOT / "tests"), str(ROOT / "python")]
-import reference  # noqa: E402
-from silc.fuzzing import samples, sources  # noqa: E402
+import reference
+from silc.fuzzing import samples, sources
 
+ROOT = Path(__file__).resolve().parent.parent.parent
 SILC = Path(os.environ.get("SILC", ROOT / "crates" / "silc_main" / "out" / "silc_main"))
 WIDTHS, PROGRAMS, ROWS, SECONDS = (8, 16, 32, 40), 48, 10, 120
 HEAD = "period = 32\nword = 16\nhold = 0\n"
