@@ -71,6 +71,7 @@ class Sweep:
         self.name, self.text = template_of(template)
         self.x, self.real, self.silc, self.wanted = x, real, SILC.found(silc), wanted
         self.array = numpy().asarray(wanted, dtype=float) if is_array(x) and wanted is not None else None
+        self.signal = mean_square(wanted, [0.0] * len(wanted)) if wanted else math.nan
         self.samples: dict[str, bytes] = {}
 
     def source(self, choice: Choice) -> str:
@@ -106,22 +107,19 @@ class Sweep:
 
     def measure(self, made: Point, y: Rows, wanted: Sequence[float]) -> None:
         """Compares the first output with what is wanted."""
+        made.signal = self.signal
         if self.array is not None:
-            own = y if y.ndim == 1 else y[:, 0]
-            errors = own - self.array
-            made.signal, made.error = float((self.array ** 2).mean()), float((errors ** 2).mean())
-            made.peak = float(abs(errors).max())
-            return
-        own = y if isinstance(y[0], float) else [row[0] for row in y]
-        if len(own) != len(wanted):
-            raise ValueError(f"{len(wanted)} values are wanted of {len(own)} rows")
-        errors = list(map(operator.sub, own, wanted))
-        made.signal, made.error = mean_square(wanted), mean_square(errors)
-        made.peak = max(map(abs, errors))
+            errors = (y if y.ndim == 1 else y[:, 0]) - self.array
+            made.error, made.peak = float((errors ** 2).mean()), float(abs(errors).max())
+        else:
+            own = y if isinstance(y[0], float) else [row[0] for row in y]
+            made.error = mean_square(own, wanted)
+            made.peak = max(map(abs, map(operator.sub, own, wanted)))
 
 
-def mean_square(values: Sequence[float]) -> float:
-    return math.fsum(map(operator.mul, values, values)) / len(values)
+def mean_square(values: Sequence[float], others: Sequence[float]) -> float:
+    """The mean of the squares of differences; `ValueError` where there are not as many of both."""
+    return math.dist(values, others) ** 2 / len(values)
 
 
 def ports_in(content: bytes, name: str) -> tuple[list[Port], list[Port]] | None:
