@@ -3,7 +3,6 @@ from __future__ import annotations
 
 import itertools
 import math
-import operator
 import os
 import re
 from collections.abc import Iterable, Iterator, Mapping, Sequence
@@ -114,7 +113,7 @@ class Sweep:
         else:
             own = y if isinstance(y[0], float) else [row[0] for row in y]
             made.error = mean_square(own, wanted)
-            made.peak = max(map(abs, map(operator.sub, own, wanted)))
+            made.peak = max([abs(value - other) for value, other in zip(own, wanted)])
 
 
 def mean_square(values: Sequence[float], others: Sequence[float]) -> float:

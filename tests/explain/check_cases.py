@@ -30,6 +30,7 @@ from concurrent.futures import ThreadPoolExecutor
 from pathlib import Path
 from typing import Any, TypeAlias
 
+from silc import programs
 from silc.made_files import put_whole
 
 # A case as its file has it.
@@ -39,8 +40,8 @@ HERE = Path(__file__).resolve().parent
 ROOT = HERE.parent.parent
 CASES = HERE / "cases"
 PAGE = ROOT / "docs" / "ERRORS.md"
-SILC = Path(os.environ.get("SILC", ROOT / "crates" / "silc_main" / "out" / "silc_main")).resolve()
-SHOW = Path(os.environ.get("SILC_SHOW", ROOT / "crates" / "silc_show" / "out" / "silc_show")).resolve()
+SILC = Path(programs.SILC.place())
+SHOW = Path(programs.SHOW.place())
 EXPLAIN = ROOT / "tools" / "explain"
 SAID, EXPECTED = "case.toml", "stderr.txt"
 KEYS = {"words", "code", "cure", "then", "options", "large", "links", "folders", "closed", "kept", "before",

@@ -18,10 +18,11 @@ from concurrent.futures import ThreadPoolExecutor
 from pathlib import Path
 
 import reference
+from silc import programs
 from silc.fuzzing import samples, sources
 
 ROOT = Path(__file__).resolve().parent.parent.parent
-SILC = Path(os.environ.get("SILC", ROOT / "crates" / "silc_main" / "out" / "silc_main"))
+SILC = Path(programs.SILC.place())
 WIDTHS, PROGRAMS, ROWS, SECONDS = (8, 16, 32, 40), 48, 10, 120
 HEAD = "period = 32\nword = 16\nhold = 0\n"
 ROOMY = (ROOT / "tests" / "overlap" / "filter.toml").read_text().replace("cells = 256", "cells = 65536")
