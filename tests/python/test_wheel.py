@@ -46,6 +46,10 @@ class Wheel(unittest.TestCase):
         self.assertEqual(told, {name: (f"sha256={sum_of(content)}", str(len(content)))
                                 for name, content in held.items() if name != RECORD})
 
+    def test_its_version_is_that_of_the_program(self) -> None:
+        said = subprocess.run([program(), "--version"], check=True, stdout=subprocess.PIPE, text=True).stdout
+        self.assertEqual(self.file.name.split("-")[:2], said.split())
+
     def test_it_runs_where_it_is_unpacked(self) -> None:
         with zipfile.ZipFile(self.file) as wheel:
             wheel.extractall(self.room / "site")
