@@ -9,13 +9,15 @@ from collections.abc import Sequence
 from pathlib import Path
 from typing import TypeAlias
 
+from silc import programs
+
 # A word of a command.
 Word: TypeAlias = str | Path
 
 ROOT = Path(__file__).resolve().parent.parent
 # Programs that are built elsewhere are named by these variables; then none is built.
-PROGRAM = Path(os.environ.get("SILC_SHOW") or ROOT / "crates" / "silc_show" / "out" / "silc_show")
-SILC = Path(os.environ.get("SILC") or ROOT / "crates" / "silc_main" / "out" / "silc_main")
+PROGRAM = Path(programs.SHOW.place())
+SILC = Path(programs.SILC.place())
 VARIABLES = {"silc_show": "SILC_SHOW", "silc_main": "SILC"}
 # The microcode of y = x + 1.
 INCREMENT = ROOT / "tests" / "increment" / "add-8-1.mic"

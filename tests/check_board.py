@@ -17,6 +17,7 @@ import check_tutorial
 from check_tutorial import BLOCK, BUILT, CONSOLE, ROOT, commands_in, faults_of, page_with, run
 
 from silc.hardware.routing import PACKAGES
+from silc.made_files import put_whole
 
 SILC = Path(os.environ.get("SILC", BUILT)).resolve()
 PAGE = ROOT / "docs" / "BOARD.md"
@@ -45,7 +46,7 @@ def main(words: list[str]) -> int:
         print(f"board: skipped: {lacks.partition(': ')[2]}")
         return SKIPPED
     if words and len(outputs) == len(shown):
-        PAGE.write_text(page_with(text, outputs))
+        put_whole(PAGE, page_with(text, outputs))
         return 0
     faults = list(faults_of(PAGE, shown, outputs, {}))
     for fault in faults:

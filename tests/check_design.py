@@ -17,6 +17,7 @@ import check_tutorial
 from check_tutorial import BLOCK, BUILT, CONSOLE, ROOT, Command, commands_in, page_with, run
 
 from silc.designing import scipy_designs
+from silc.made_files import put_whole
 
 SILC = Path(os.environ.get("SILC", BUILT)).resolve()
 PAGE, PICTURES = ROOT / "docs" / "DESIGN.md", ROOT / "docs" / "pictures"
@@ -72,9 +73,9 @@ def main(words: list[str]) -> int:
             return 1
         drawn = drawn_in(last)
     if words and len(outputs) == len(shown):
-        PAGE.write_text(page_with(text, outputs))
+        put_whole(PAGE, page_with(text, outputs))
         for name, picture in drawn.items():
-            (PICTURES / name).write_text(picture)
+            put_whole(PICTURES / name, picture)
         return 0
     faults = list(faults_of(shown, outputs, drawn))
     for fault in faults:

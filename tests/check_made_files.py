@@ -4,15 +4,20 @@
 
 usage: tests/check_made_files.py
 """
+import errno
 import os
+import re
+import resource
 import sys
 import tempfile
 from collections.abc import Callable, Iterator
 from pathlib import Path
 
-from silc.made_files import MadeFiles, NotMade, record_file
+from silc.made_files import MadeFiles, NotMade, put_whole, record_file
 
 ROOT = Path(__file__).resolve().parent.parent
+# A line that writes to a file of the repository, which is named by a constant, as it is.
+PLAIN = re.compile(r"\b[A-Z][A-Z_]+(?: / [^()\n]+\))?\.write_(?:text|bytes)\(")
 
 
 class Stopped(Exception):
@@ -113,6 +118,34 @@ def folders() -> Iterator[tuple]:
     yield "beside an input", [os.path.exists("first"), Path("in").read_text()], [False, "kept"]
 
 
+def put_within(size: int, name: str, text: str) -> str:
+    """Puts a page where no file may be longer, and tells how that ended."""
+    limits = resource.getrlimit(resource.RLIMIT_FSIZE)
+    resource.setrlimit(resource.RLIMIT_FSIZE, (size, limits[1]))
+    try:
+        put_whole(Path(name), text)
+    except OSError as why:
+        return errno.errorcode[why.errno or 0]
+    finally:
+        resource.setrlimit(resource.RLIMIT_FSIZE, limits)
+    return "done"
+
+
+def pages() -> Iterator[tuple]:
+    """A page that a tool keeps is replaced whoever wrote it, whole or not at all, and by each script that has one."""
+    Path("page").write_text("by hand")
+    os.chmod("page", 0o640)
+    os.symlink("page", "link")
+    put_whole(Path("link"), "new")
+    yield "a page by a link", (Path("page").read_text(), os.stat("page").st_mode & 0o777), ("new", 0o640)
+    yield "a full disk", put_within(4, "page", "longer"), "EFBIG"
+    yield "what is left", (Path("page").read_text(), sorted(os.listdir())), ("new", ["link", "page"])
+    for part in ("tools", "tests", "bench"):
+        for file in filter(Path.is_file, (ROOT / part).rglob("*")):
+            if not file.suffix or file.suffix == ".py":
+                yield str(file.relative_to(ROOT)), PLAIN.findall(file.read_text(errors="replace")), []
+
+
 def streams() -> Iterator[tuple]:
     """A descriptor goes on where it is, and no name of it is opened anew."""
     with open("log", "wb+") as log:
@@ -127,7 +160,7 @@ def main() -> int:
     faults, count = [], 0
     with tempfile.TemporaryDirectory(prefix="silc-made-") as folder:
         os.environ["XDG_STATE_HOME"] = os.path.join(folder, "states")
-        for part in (inputs, strangers, whole, folders, streams):
+        for part in (inputs, strangers, whole, folders, pages, streams):
             room = Path(folder, part.__name__)
             room.mkdir()
             os.chdir(room)

@@ -21,6 +21,8 @@ from collections.abc import Iterator, Sequence
 from pathlib import Path
 from typing import TypeAlias
 
+from silc.made_files import put_whole
+
 # The blocks of a page: the language, the name of a file where there is one, and the text.
 Blocks: TypeAlias = Sequence[tuple[str, ...]]
 
@@ -119,9 +121,9 @@ def write(page: Path, shown: Sequence[Command], outputs: Sequence[str], drawn: d
     """Writes what was printed and drawn, and tells whether all commands were carried out."""
     if len(outputs) != len(shown):
         return False
-    page.write_text(page_with(page.read_text(), outputs))
+    put_whole(page, page_with(page.read_text(), outputs))
     for name, picture in drawn.items():
-        (PICTURES / name).write_text(picture)
+        put_whole(PICTURES / name, picture)
     return True
 
 

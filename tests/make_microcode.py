@@ -12,6 +12,7 @@ from collections.abc import Sequence
 from pathlib import Path
 
 from silc.fuzzing.microcode import NEWEST, OLDEST, image, issue, unit, word
+from silc.made_files import put_whole
 from silc.micro_file import Unit, Word
 
 HERE = Path(__file__).resolve().parent
@@ -218,7 +219,7 @@ def main(words: list[str]) -> int:
         return 2
     if not words:
         for name, data in FILES.items():
-            (HERE / name).write_bytes(data)
+            put_whole(HERE / name, data)
         return 0
     others = [name for name, data in FILES.items() if not (HERE / name).is_file() or (HERE / name).read_bytes() != data]
     for name in others:

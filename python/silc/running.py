@@ -56,7 +56,9 @@ def in_memory(words: Sequence[Word]) -> Iterator[tuple[list[str], list[int]]]:
 def ran(program: str, words: Sequence[Word], given: bytes = b"") -> Answer:
     """Runs a program to its end, with `given` on its standard input."""
     with in_memory(words) as (named, held):
-        done = subprocess.run([program, *named], input=given, capture_output=True, pass_fds=held)
+        # A pipe that is not there is none to wait for.
+        source: dict[str, Any] = {"input": given} if given else {"stdin": subprocess.DEVNULL}
+        done = subprocess.run([program, *named], capture_output=True, pass_fds=held, **source)
     return Answer(done.returncode, done.stdout, done.stderr.decode(errors="replace").strip())
 
 

@@ -4,6 +4,7 @@ from __future__ import annotations
 import itertools
 import math
 import os
+import re
 from collections.abc import Iterable, Iterator, Mapping, Sequence
 from dataclasses import dataclass
 from multiprocessing.pool import ThreadPool
@@ -11,11 +12,13 @@ from typing import Any
 
 from silc.programs import SILC
 from silc.refused import ROWS, File, Refused, explained
-from silc.running import STDIN, STDOUT, ran
+from silc.running import STDOUT, ran
 from silc.source import Source, real_rows
 from silc.words import Port, Rows, is_array, numpy, quantised, rows_of, scaled, text_of
 
 Choice = Mapping[str, int]
+# What `main` declares stands before its first `begin`; a comment may have these words too.
+COMMENT, HEAD = re.compile(rb"/\*.*?\*/", re.S), re.compile(rb"\bfunc\s+main\b.*?\bbegin\b", re.S)
 
 
 @dataclass
@@ -67,6 +70,7 @@ class Sweep:
         self.name, self.text = template_of(template)
         self.x, self.real, self.silc, self.wanted = x, real, SILC.found(silc), wanted
         self.array = numpy().asarray(wanted, dtype=float) if is_array(x) and wanted is not None else None
+        self.signal = mean_square(wanted, [0.0] * len(wanted)) if wanted else math.nan
         self.samples: dict[str, bytes] = {}
 
     def source(self, choice: Choice) -> str:
@@ -81,7 +85,7 @@ class Sweep:
         content = self.source(choice).encode("latin-1")
         ports = ports_in(content, self.name)
         inputs, outputs = ports if ports else ([], [])
-        answer = ran(self.silc, ["eval", content, STDIN, STDOUT], self.samples_for(inputs) if ports else b"")
+        answer = ran(self.silc, ["eval", content, self.samples_for(inputs) if ports else b"", STDOUT])
         if answer.status or not ports:
             files = {"SRC": File(self.name, content), "SAMPLES": File(ROWS, self.samples_for(inputs))}
             return Point(choice, refused=explained("eval", files, ["SRC", "SAMPLES", "OUT"], answer.status, answer.said,
@@ -102,25 +106,29 @@ class Sweep:
 
     def measure(self, made: Point, y: Rows, wanted: Sequence[float]) -> None:
         """Compares the first output with what is wanted."""
+        made.signal = self.signal
         if self.array is not None:
-            own = y if y.ndim == 1 else y[:, 0]
-            errors = own - self.array
-            made.signal, made.error = float((self.array ** 2).mean()), float((errors ** 2).mean())
-            made.peak = float(abs(errors).max())
-            return
-        own = [row if isinstance(row, float) else row[0] for row in y]
-        differences = [value - wanted for value, wanted in zip(own, wanted, strict=True)]
-        made.signal = math.fsum(value * value for value in wanted) / len(own)
-        made.error = math.fsum(value * value for value in differences) / len(own)
-        made.peak = max(abs(difference) for difference in differences)
+            errors = (y if y.ndim == 1 else y[:, 0]) - self.array
+            made.error, made.peak = float((errors ** 2).mean()), float(abs(errors).max())
+        else:
+            own = y if isinstance(y[0], float) else [row[0] for row in y]
+            made.error = mean_square(own, wanted)
+            made.peak = max([abs(value - other) for value, other in zip(own, wanted)])
+
+
+def mean_square(values: Sequence[float], others: Sequence[float]) -> float:
+    """The mean of the squares of differences; `ValueError` where there are not as many of both."""
+    return math.dist(values, others) ** 2 / len(values)
 
 
 def ports_in(content: bytes, name: str) -> tuple[list[Port], list[Port]] | None:
-    """The input and output words of a source, or nothing where it is no program."""
+    """The input and output words of a source, or nothing where it declares none. Its equations, which the program
+    judges, are not read."""
     from silc.explaining.program import Source as Program
     from silc.explaining.text import Text
     from silc.source import ports_of
-    main = Program(Text(name, content)).funcs.get("main")
+    head = HEAD.search(COMMENT.sub(b" ", content))
+    main = Program(Text(name, head[0] + b" end;")).funcs.get("main") if head else None
     return (ports_of(main.params), ports_of(main.results)) if main else None
 
 

@@ -10,7 +10,7 @@ from __future__ import annotations
 import json
 import math
 import operator
-from array import array
+import struct
 from collections.abc import Iterable, Iterator, Sequence
 from dataclasses import dataclass
 from functools import cache, cached_property
@@ -135,22 +135,25 @@ def flat_list(rows: Iterable[Any], columns: int) -> list[int]:
     return list(map(operator.index, listed))
 
 
-def array_of_list(rows: Sequence[Any], columns: int) -> Any | None:
-    """The words of a list of rows in order as an array; nothing where NumPy is not there, or these are no such rows or
-    have a word that 64 bits do not hold, which `flat_list` judges."""
-    module = numpy()
-    if module is None or columns != 1 and set(map(len, rows)) != {columns}:
-        return None
+def words_of_list(rows: Sequence[Any], columns: int) -> Any:
+    """The words of a list of rows in order, as an array of int64 where NumPy is there and one holds them. `struct`
+    takes whole numbers of 64 bits alone, and tells in half the time of `flat_list`, which judges all others."""
     try:
-        return module.frombuffer(array("q", rows if columns == 1 else chain.from_iterable(rows)), dtype=module.int64)
-    except (TypeError, OverflowError):
-        return None
+        flat = rows if columns == 1 else list(chain.from_iterable(rows))
+        packed = struct.pack(f"{len(flat)}q", *flat)
+        is_plain = columns == 1 or set(map(len, rows)) == {columns}
+    except (TypeError, struct.error):
+        is_plain = False
+    if not is_plain:
+        return flat_list(rows, columns)
+    module = numpy()
+    return module.frombuffer(packed, dtype=module.int64) if module else flat
 
 
 def text_of_words(words: Sequence[int], columns: int) -> bytes:
     """Words in order as the text of rows."""
-    line = ",".join(["%d"] * columns) + "\n"
-    return (line * (len(words) // columns) % tuple(words)).encode("ascii")
+    line = b",".join([b"%d"] * columns) + b"\n"
+    return line * (len(words) // columns) % tuple(words)
 
 
 @cache
@@ -191,9 +194,7 @@ def words_at(rows: Rows, columns: int) -> Iterator[Any]:
     `TypeError` where a word is no whole number."""
     if not is_array(rows):
         for start in range(0, len(rows), ROWS_AT_A_TIME):
-            some = rows[start:start + ROWS_AT_A_TIME]
-            held = array_of_list(some, columns)
-            yield flat_list(some, columns) if held is None else held
+            yield words_of_list(rows[start:start + ROWS_AT_A_TIME], columns)
         return
     whole = check_columns(rows, columns)
     if whole.dtype.kind not in "iub":

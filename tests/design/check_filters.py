@@ -9,7 +9,6 @@ It runs the built `silc`, or the one that `SILC` names. Without SciPy all are sk
 """
 import cmath
 import math
-import os
 import random
 import re
 import subprocess
@@ -20,6 +19,7 @@ from concurrent.futures import ProcessPoolExecutor
 from pathlib import Path
 from typing import Any, TypeAlias
 
+from silc import programs
 from silc.designing import scipy_designs
 from silc.designing.filters import roots
 from silc.designing.spectra import fft
@@ -29,7 +29,7 @@ Sections: TypeAlias = Sequence[Sequence[float]]
 
 HERE = Path(__file__).resolve().parent
 ROOT = HERE.parent.parent
-SILC = Path(os.environ.get("SILC", ROOT / "crates" / "silc_main" / "out" / "silc_main")).resolve()
+SILC = Path(programs.SILC.place())
 COUNT, RATE, MOST_ORDER, SKIPPED = 50, 48000, 12, 77
 COEFFICIENTS = "coefficients"
 KINDS = ("butter", "cheby1", "cheby2", "ellip")

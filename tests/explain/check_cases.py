@@ -30,6 +30,9 @@ from concurrent.futures import ThreadPoolExecutor
 from pathlib import Path
 from typing import Any, TypeAlias
 
+from silc import programs
+from silc.made_files import put_whole
+
 # A case as its file has it.
 Said: TypeAlias = dict[str, Any]
 
@@ -37,8 +40,8 @@ HERE = Path(__file__).resolve().parent
 ROOT = HERE.parent.parent
 CASES = HERE / "cases"
 PAGE = ROOT / "docs" / "ERRORS.md"
-SILC = Path(os.environ.get("SILC", ROOT / "crates" / "silc_main" / "out" / "silc_main")).resolve()
-SHOW = Path(os.environ.get("SILC_SHOW", ROOT / "crates" / "silc_show" / "out" / "silc_show")).resolve()
+SILC = Path(programs.SILC.place())
+SHOW = Path(programs.SHOW.place())
 EXPLAIN = ROOT / "tools" / "explain"
 SAID, EXPECTED = "case.toml", "stderr.txt"
 KEYS = {"words", "code", "cure", "then", "options", "large", "links", "folders", "closed", "kept", "before",
@@ -143,7 +146,7 @@ def judged(case: Path, writes: bool) -> list[str]:
         edits = [EDIT.match(line) for line in done.stderr.splitlines() if EDIT.match(line)]
         done.stderr = "".join(told).replace(os.path.realpath(room), "ROOM")
         if writes:
-            (case / EXPECTED).write_text(done.stderr)
+            put_whole(case / EXPECTED, done.stderr)
         faults = [*compared(case, said, done), *cure_compared(said, room, lead)]
         for name in said.get("kept", []):
             (room / name).chmod(0o755)

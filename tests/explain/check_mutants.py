@@ -20,13 +20,13 @@ from concurrent.futures import ThreadPoolExecutor
 from dataclasses import dataclass
 from pathlib import Path
 
-ROOT = Path(__file__).resolve().parent.parent.parent
-SILC = Path(os.environ.get("SILC", ROOT / "crates" / "silc_main" / "out" / "silc_main")).resolve()
-os.environ["SILC_SHOW"] = str(Path(os.environ.get("SILC_SHOW",
-                                                  ROOT / "crates" / "silc_show" / "out" / "silc_show")).resolve())
 from check_plans import edited
+from silc import programs
 from silc.explaining import command
 from silc.explaining.report import Report
+
+SILC = Path(programs.SILC.place())
+os.environ["SILC_SHOW"] = programs.SHOW.place()
 
 SOURCE = """/* A choice, a delay and a table. */
 const gain : fix<16,15> = 0.25;

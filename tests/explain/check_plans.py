@@ -22,13 +22,13 @@ from concurrent.futures import ThreadPoolExecutor
 from pathlib import Path
 from typing import Any, TypeAlias
 
-ROOT = Path(__file__).resolve().parent.parent.parent
-SILC = Path(os.environ.get("SILC", ROOT / "crates" / "silc_main" / "out" / "silc_main")).resolve()
-os.environ["SILC_SHOW"] = str(Path(os.environ.get("SILC_SHOW",
-                                                  ROOT / "crates" / "silc_show" / "out" / "silc_show")).resolve())
+from silc import programs
 from silc.explaining import command
 from silc.explaining.text import Edit
 from silc.exploring.template import text_of
+
+SILC = Path(programs.SILC.place())
+os.environ["SILC_SHOW"] = programs.SHOW.place()
 
 # A datapath file as Python reads it.
 Tree: TypeAlias = dict[str, Any]

@@ -19,8 +19,10 @@ from collections.abc import Iterator, Sequence
 from pathlib import Path
 from typing import IO, Any
 
+from silc import programs
+
 ROOT = Path(__file__).resolve().parent.parent.parent
-SILC = Path(os.environ.get("SILC", ROOT / "crates" / "silc_main" / "out" / "silc_main")).resolve()
+SILC = Path(programs.SILC.place())
 SOURCE = "func main(x : fix<8,0>) y : fix<8,0> = begin y = x + 1; end;\n"
 WORDS = {"compile": ("SRC", "DP"), "eval": ("SRC", "SAMPLES"), "run": ("SRC", "DP", "SAMPLES"),
          "sim": ("MIC", "SAMPLES")}

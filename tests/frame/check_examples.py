@@ -17,9 +17,11 @@ from concurrent.futures import ThreadPoolExecutor
 from dataclasses import dataclass
 from pathlib import Path
 
+from silc import programs
+
 ROOT = Path(__file__).resolve().parent.parent.parent
 EXAMPLES, PAGE, PICTURES = ROOT / "examples", ROOT / "docs" / "RATES.md", ROOT / "docs" / "pictures"
-SILC = Path(os.environ.get("SILC", ROOT / "crates" / "silc_main" / "out" / "silc_main"))
+SILC = Path(programs.SILC.place())
 ROW = re.compile(r"^\| `(\w+)` \| `(\w+)` \| (\d) \| `([-\d,]+)` \| `([-\d,]+)` \| (\d+) \| (\d+) \|$", re.MULTILINE)
 PERIOD = re.compile(r"^period *= *\d+$", re.MULTILINE)
 PLANNED, NO_CYCLE, SECONDS = 0, 8, 120

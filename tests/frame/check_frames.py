@@ -17,12 +17,12 @@ from collections import Counter
 from concurrent.futures import ThreadPoolExecutor
 from pathlib import Path
 
-ROOT = Path(__file__).resolve().parent.parent.parent
-sys.path[:0] = [str(ROOT / "tests"), str(ROOT / "python")]
-import reference  # noqa: E402
-from silc.fuzzing import samples, sources  # noqa: E402
+import reference
+from silc import programs
+from silc.fuzzing import samples, sources
 
-SILC = Path(os.environ.get("SILC", ROOT / "crates" / "silc_main" / "out" / "silc_main"))
+ROOT = Path(__file__).resolve().parent.parent.parent
+SILC = Path(programs.SILC.place())
 WIDTHS, PROGRAMS, ROWS, SECONDS = (8, 16, 32, 40), 48, 10, 120
 HEAD = "period = 32\nword = 16\nhold = 0\n"
 ROOMY = (ROOT / "tests" / "overlap" / "filter.toml").read_text().replace("cells = 256", "cells = 65536")

@@ -16,8 +16,10 @@ import tempfile
 from collections.abc import Iterator
 from pathlib import Path
 
+from silc import programs
+
 ROOT = Path(__file__).resolve().parent.parent.parent
-SILC = Path(os.environ.get("SILC", ROOT / "crates" / "silc_main" / "out" / "silc_main")).resolve()
+SILC = Path(programs.SILC.place())
 SKIPPED, ROWS = 77, 20
 EQUALISER = ("equaliser", "one_multiplier")
 # A microcode of two words of each, left and right exchanged, and one of four words.

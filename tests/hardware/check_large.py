@@ -17,8 +17,10 @@ import tempfile
 from collections.abc import Iterator
 from pathlib import Path
 
+from silc import programs
+
 ROOT = Path(__file__).resolve().parent.parent.parent
-SILC = Path(os.environ.get("SILC", ROOT / "crates" / "silc_main" / "out" / "silc_main")).resolve()
+SILC = Path(programs.SILC.place())
 REVERB = ROOT / "examples" / "reverb"
 SKIPPED, ROWS, CELLS, DELAY = 77, 1200, 1100, 1023
 # A delay of 1,023 samples by a memory of a latency: its store begins in cycle 1, and its load in one whose address

@@ -13,6 +13,7 @@ import time
 from pathlib import Path
 
 from check_cores import PARTS
+from silc.made_files import put_whole
 
 HERE = Path(__file__).resolve().parent
 RESULT = HERE / "long_result.txt"
@@ -28,7 +29,7 @@ def results() -> dict[str, str]:
 def keep(part: str, said: str) -> None:
     """Puts a result in its place, which is that of its part."""
     kept = results() | {part: f"{said}, {time.strftime('%Y-%m-%d', time.gmtime())}"}
-    RESULT.write_text("".join(f"{name}: {kept[name]}\n" for name in COMMANDS if name in kept))
+    put_whole(RESULT, "".join(f"{name}: {kept[name]}\n" for name in COMMANDS if name in kept))
 
 
 def main(words: list[str]) -> int:

@@ -6,7 +6,8 @@ from collections.abc import Callable, Iterable, Sequence
 from pathlib import Path
 from typing import TypeAlias
 
-from bench import ROOT, Fault, answer, built_by_icarus, datapath_text, made, text_of
+from bench import Fault, answer, built_by_icarus, datapath_text, made, text_of
+from silc import programs
 from silc.hardware.hazards import first_hazard
 from machine import Hazard, Machine
 from silc.micro_file import image_of
@@ -17,7 +18,7 @@ Rows: TypeAlias = list[list[int]]
 # What a bench is told, by its words.
 Way: TypeAlias = dict[str, int]
 
-SILC = Path(os.environ.get("SILC", ROOT / "crates" / "silc_main" / "out" / "silc_main")).resolve()
+SILC = Path(programs.SILC.place())
 ADDRESS = "address"
 
 

@@ -27,6 +27,7 @@ from models import INPUTS, LINEAR, MODELS
 from silc.linking.blocks import Library
 from silc.linking.linker import Setting, alone
 from silc.linking.trying import FOLDER, Trial, setting_at, trials_in
+from silc.made_files import put_whole
 
 # Rows of words.
 Rows: TypeAlias = list[tuple[int, ...]]
@@ -155,7 +156,7 @@ def tried(name: str, is_written: bool) -> tuple[int, list[str]]:
     block = Block(library, name)
     if is_written:
         file = Path(block.block.file.name).parent / FOLDER / f"{name}.txt"
-        file.write_text("".join(trial.text() for trial in block.trials()))
+        put_whole(file, "".join(trial.text() for trial in block.trials()))
     with tempfile.TemporaryDirectory(prefix="silc-blocks-") as room:
         return len(block.settings), [*row_faults(Path(room), block), *beside_faults(block)]
 

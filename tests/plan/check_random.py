@@ -13,7 +13,6 @@ one stage puts the rows of `silc eval` on `silc sim`. Without a solver the heuri
 """
 from __future__ import annotations
 
-import os
 import sys
 import time
 import tomllib
@@ -22,6 +21,7 @@ from pathlib import Path
 from random import Random
 
 from machine import NoRows, microcode_of, rows_of
+from silc import programs
 from silc.fuzzing import datapaths, samples, sources
 from silc.planning.check import NoPlan, check
 from silc.planning.places import Places
@@ -31,8 +31,7 @@ from silc.planning.search import Finder, Wanted
 from silc.planning.windows import TooShort
 from silc.running import STDIN, STDOUT, ran
 
-ROOT = Path(__file__).resolve().parent.parent.parent
-SILC = os.environ.get("SILC", str(ROOT / "crates" / "silc_main" / "out" / "silc_main"))
+SILC = programs.SILC.place()
 COUNT, SEED, SKIPPED = 200, 1, 77
 STAGES, SECONDS = (1, 2, 1, 4), 0.15
 # Larger programs are left to the examples.

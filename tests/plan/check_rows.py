@@ -10,20 +10,19 @@ examples' own scripts compute. Examples with initial values are left out, and th
 """
 from __future__ import annotations
 
-import os
 import sys
 import tomllib
 from pathlib import Path
 
 from machine import NoRows, microcode_of, rows_of
+from silc import programs
 from silc.planning.check import check
 from silc.planning.examples import pairs
 from silc.planning.ruled import Ruled, fitted
 from silc.planning.sat import solver_there
 from silc.planning.search import Finder, Wanted
 
-ROOT = Path(__file__).resolve().parent.parent.parent
-SILC = os.environ.get("SILC", str(ROOT / "crates" / "silc_main" / "out" / "silc_main"))
+SILC = programs.SILC.place()
 SECONDS = 2.0
 # A check that tries less than this has lost its examples.
 LEAST_TRIED = 15

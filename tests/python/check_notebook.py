@@ -15,6 +15,8 @@ import os
 import sys
 from pathlib import Path
 
+from silc.made_files import put_whole
+
 NOTEBOOK = Path(__file__).resolve().parent.parent.parent / "docs" / "notebook.ipynb"
 
 
@@ -61,7 +63,7 @@ def main(words: list[str]) -> int:
             differ.append(number)
         cell["outputs"], cell["execution_count"] = made, number
     if "--write" in words:
-        NOTEBOOK.write_text(json.dumps(notebook, indent=1, ensure_ascii=False) + "\n")
+        put_whole(NOTEBOOK, json.dumps(notebook, indent=1, ensure_ascii=False) + "\n")
         return 0
     for number in differ:
         print(f"docs/notebook.ipynb: cell {number} gives something else now; tests/python/check_notebook.py --write")

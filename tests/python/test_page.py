@@ -7,9 +7,13 @@ import shutil
 import tempfile
 import unittest
 from pathlib import Path
+from typing import Any
 
 HERE = Path(__file__).resolve().parent
 PAGE = HERE.parent.parent / "docs" / "PYTHON.md"
+# The inner words of the page's filter, by hand: means of two, and then e = w[3] - e@2 / 4, of which all are whole.
+WORDS = {"w[1]": [16384, 0, -8192, 8192, 0, 0], "w[2]": [8192, 8192, -4096, 0, 4096, 0],
+         "w[3]": [4096, 8192, 2048, -2048, 2048, 2048], "e": [4096, 8192, 1024, -4096, 1792, 3072]}
 BLOCK = re.compile(r"^```python\n(.*?)^```\n(?:\n```\n(.*?)^```\n)?", re.M | re.S)
 
 
@@ -28,7 +32,7 @@ class Page(unittest.TestCase):
     def test_blocks(self) -> None:
         blocks = BLOCK.findall(PAGE.read_text())
         self.assertGreaterEqual(len(blocks), 2)
-        names: dict[str, object] = {"x": [16384, -16384, 8192, 0, 0, 0], "blocks": [[100, 200], [300]]}
+        names: dict[str, Any] = {"x": [16384, -16384, 8192, 0, 0, 0], "blocks": [[100, 200], [300]]}
         for code, printed in blocks:
             out = io.StringIO()
             with contextlib.redirect_stdout(out):
@@ -37,7 +41,10 @@ class Page(unittest.TestCase):
                 self.assertEqual(out.getvalue(), printed)
         self.assertEqual(sorted(file.name for file in Path("core").iterdir()),
                          ["core.map", "core.v", "core_code.hex", "core_tb.v", "silc_parts.v"])
-        self.assertEqual(set(names["inner"]), {"w[0]", "w[1]", "w[2]", "w[3]", "e"})
+        self.assertEqual(names["inner"], {**WORDS, "w[0]": [2 * word for word in names["x"]]})
+        self.assertEqual(names["y"], [word // 4 for word in WORDS["e"]])
+        self.assertEqual(names["mic"].run(names["x"]), names["y"])
+        self.assertEqual(names["plan"].period, 27)
 
 
 if __name__ == "__main__":

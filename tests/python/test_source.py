@@ -8,6 +8,7 @@ import unittest
 from collections.abc import Callable, Iterator
 from pathlib import Path
 from types import ModuleType
+from unittest import mock
 
 import silc
 from silc import words
@@ -82,6 +83,36 @@ class Rows(unittest.TestCase):
 
         with self.assertRaisesRegex(KeyError, "mine"):
             list(silc.Source(text=INCREMENT).stream(blocks()))
+
+
+class Lists(unittest.TestCase):
+    """What may stand in a list of rows, with NumPy where it is there."""
+
+    def test_words(self) -> None:
+        source = silc.Source(text=INCREMENT)
+        self.assertEqual(source.evaluate([True, False, -1]), [2, 1, 0])
+        self.assertEqual(source.evaluate([(1,), [2]]), [2, 3])
+        self.assertEqual(source.evaluate(range(40000, 40000)), [])
+        self.assertEqual(source.evaluate([number % 100 for number in range(70000)]),
+                         [number % 100 + 1 for number in range(70000)])
+
+    def test_other_things(self) -> None:
+        one, three = silc.Source(text=INCREMENT), silc.Source(text=TWO)
+        for source, rows, fault in ((one, [1, 2.0], TypeError), (one, ["1"], TypeError), (one, [None], TypeError),
+                                    (one, [(1, 2)], ValueError), (three, [(1, 2, 0.5)], TypeError),
+                                    (three, [1, 2, 3], ValueError), (three, [(1, 2, 0), (1, 2)], ValueError),
+                                    (three, [(1, 2), (3, 4, 5, 6)], ValueError), (one, [1 << 70], silc.Refused)):
+            with self.assertRaises(fault, msg=str(rows)):
+                source.evaluate(rows)
+
+
+class ListsAlone(Lists):
+    """The same where there is no NumPy."""
+
+    def setUp(self) -> None:
+        patch = mock.patch("silc.words.numpy", lambda: None)
+        self.addCleanup(patch.stop)
+        patch.start()
 
 
 @unittest.skipUnless(words.numpy(), "NumPy is not there (apt-get install python3-numpy)")

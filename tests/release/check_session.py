@@ -15,10 +15,8 @@ import tempfile
 from collections.abc import Iterator
 from pathlib import Path
 
-from copies import ROOT, built, copy_of, users
-
-sys.path.insert(0, str(ROOT / "tests"))
 from check_tutorial import BLOCK, CONSOLE, Command, carry_out, commands_in, faults_of
+from copies import ROOT, built, copy_of, users
 
 NOT_BUILT, SKIPPED = 70, 77
 PICTURE = "smooth.svg"

@@ -4,9 +4,12 @@ what it says of tables of worked values.
 
 usage: tests/trusted/check_trusted.py
 
-The tools are copied into a new folder beside that tree, since they count the crates that they stand with.
+The tools are copied into a new folder beside that tree, since they count the crates that they stand with, and the
+script runs itself with these.
 """
+import os
 import shutil
+import subprocess
 import sys
 import tempfile
 import tomllib
@@ -16,6 +19,8 @@ from typing import Iterator
 HERE = Path(__file__).resolve().parent
 TOOLS = HERE.parent.parent / "tools"
 CRATE = "small_words"
+# The word by which the script is run that has the copied tools.
+COPIED = "--copied"
 
 
 def said(reached: dict) -> dict[str, list[str]]:
@@ -92,16 +97,23 @@ def worked(case: dict) -> Iterator[str]:
                                text.strip("\n"))
 
 
-def main() -> int:
-    tree = tomllib.loads((HERE / "tree.toml").read_text())
+def with_copied_tools(tree: dict) -> int:
     with tempfile.TemporaryDirectory() as folder:
         for name, text in tree["files"].items():
             path = Path(folder, name)
             path.parent.mkdir(parents=True, exist_ok=True)
             path.write_text(text)
-        shutil.copytree(TOOLS / "antt", Path(folder, "tools", "antt"), ignore=shutil.ignore_patterns("__pycache__"))
-        sys.path.insert(0, str(Path(folder, "tools")))
-        found = list(faults(tree))
+        tools = Path(folder, "tools")
+        shutil.copytree(TOOLS / "antt", tools / "antt", ignore=shutil.ignore_patterns("__pycache__"))
+        variables = os.environ | {"PYTHONPATH": str(tools)}
+        return subprocess.run([sys.executable, __file__, COPIED], env=variables).returncode
+
+
+def main(words: list[str]) -> int:
+    tree = tomllib.loads((HERE / "tree.toml").read_text())
+    if words != [COPIED]:
+        return with_copied_tools(tree)
+    found = list(faults(tree))
     for fault in found:
         print(f"trusted: {fault}")
     print(f"trusted: {len(tree['clause'])} clauses, {len(tree['worked'])} tables of worked values, {len(found)} faults")
@@ -109,4 +121,4 @@ def main() -> int:
 
 
 if __name__ == "__main__":
-    sys.exit(main())
+    sys.exit(main(sys.argv[1:]))

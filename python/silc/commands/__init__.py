@@ -28,6 +28,14 @@ def ended(name: str, work: Callable[[], int | None], *known: type[Exception]) ->
     return 1
 
 
+def positive(word: str) -> int:
+    """A whole number above 0, for an option; argparse says of others that they are none."""
+    number = int(word)
+    if number < 1:
+        raise ValueError
+    return number
+
+
 def measured(name: str, work: Callable[[], int | None], source: str, files: Iterable[str]) -> int:
     """Does the work of a command on a source, and gives its exit status. A line tells a fault behind the source's name,
     where it begins with none of the other files."""

@@ -69,6 +69,7 @@ from fractions import Fraction
 from pathlib import Path
 from typing import Any
 
+from silc.commands import positive
 from silc.commands.synthesize import SHORT, rate_word
 from silc.designing.programs import Unrun
 from silc.exploring import runs
@@ -450,13 +451,6 @@ def make(options: argparse.Namespace) -> int:
         if options.best and front:
             write_best(Path(folder), options, outputs, space, front)
     return 0 if front else 1
-
-
-def positive(word: str) -> int:
-    number = int(word)
-    if number < 1:
-        raise ValueError
-    return number
 
 
 def stages_of(word: str) -> list[int]:

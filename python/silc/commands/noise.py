@@ -19,7 +19,7 @@ of library/, and so is REFERENCE; faults are told at the places of its own file 
 import argparse
 import math
 
-from silc.commands import add_library, measured
+from silc.commands import add_library, measured, positive
 from silc.designing.noise import Noise, Silence, noises, silence_after
 from silc.designing.samples import samples_in
 from silc.designing.sources import words_of_main
@@ -86,13 +86,6 @@ def said_of_silence(silence: Silence, word: int, length: int) -> str:
         return f"{before} its output is constant, {words} forever"
     return (f"{before} it repeats every {silence.period} samples forever: "
             f"{words}{' ..' if silence.period > SHOWN else ''}")
-
-
-def positive(word: str) -> int:
-    number = int(word)
-    if number < 1:
-        raise ValueError
-    return number
 
 
 def options_of(words: list[str]) -> argparse.Namespace:

@@ -34,7 +34,7 @@ import time
 import tomllib
 from pathlib import Path
 
-from silc.commands import STOPPED, ended
+from silc.commands import STOPPED, ended, positive
 from silc.exploring.bits import inputs_of
 from silc.exploring.template import text_of
 from silc.made_files import MadeFiles, NotMade, add_force
@@ -143,13 +143,6 @@ def tabled(options: argparse.Namespace) -> int:
     print(HEAD, end="", flush=True)
     rows_of(SILC.found(), options.files, solver, options.seconds, options.seed, said)
     return 0
-
-
-def positive(word: str) -> int:
-    number = int(word)
-    if number < 1:
-        raise ValueError
-    return number
 
 
 def options_of(words: list[str]) -> argparse.Namespace:

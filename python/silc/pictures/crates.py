@@ -2,10 +2,10 @@
 from collections.abc import Iterator
 from typing import TypeAlias
 
+from silc.crates import Crates as Edges
+from silc.crates import dependencies
 from silc.pictures.picture import AMBER, BLACK, BLUE, GREEN, MARGIN, SKY, YELLOW, Picture
 
-# Crates by their names, each with others.
-Edges: TypeAlias = dict[str, list[str]]
 # What stands in a column: a crate, or where an edge goes by between the columns of its two crates.
 Point: TypeAlias = str | tuple[tuple[str, str], int]
 
@@ -17,13 +17,6 @@ GROUPS = [({"silc_main", "silc_tests", "silc_show", "silc"}, SKY, "the commands"
           ({"micro_image"}, YELLOW, "the machine"),
           ({"silage_lex", "fault_order"}, AMBER, "sources")]
 PLAIN = "#ffffff"
-
-
-def dependencies(text: str) -> Edges:
-    """The crates of the file that each one names."""
-    lines = [line.partition("#")[0].partition(":") for line in text.splitlines()]
-    named = {head.split()[0]: rest.split() for head, colon, rest in lines if colon and head.split()}
-    return {name: [other for other in others if other in named] for name, others in named.items()}
 
 
 def reached(crates: Edges) -> dict[str, set[str]]:

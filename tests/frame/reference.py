@@ -1,0 +1,5 @@
+"""`tests/reference.py`, for the scripts beside this file."""
+from pathlib import Path
+
+__file__ = str(Path(__file__).resolve().parent.parent / "reference.py")
+exec(compile(Path(__file__).read_text(), __file__, "exec"))
