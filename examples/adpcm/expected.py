@@ -4,13 +4,14 @@
 usage: expected.py [--check | --ratio]
 """
 import math
+import sys
 from collections.abc import Iterable, Iterator
 from fractions import Fraction
 from pathlib import Path
 
-import fixed
-
 FOLDER = Path(__file__).resolve().parent
+sys.path.insert(0, str(FOLDER.parent))
+import fixed  # noqa: E402
 
 RATE, LEAST, GREATEST = 8000, 16, 16384
 FACTORS = [fixed.literal(text, 16, 13) for text in ("0.9", "0.9", "0.9", "0.9", "1.2", "1.6", "2.0", "2.4")]

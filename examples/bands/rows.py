@@ -4,11 +4,12 @@
 usage: rows.py [--check | --ratio]
 """
 import math
+import sys
 from pathlib import Path
 
-import fixed
-
 FOLDER = Path(__file__).resolve().parent
+sys.path.insert(0, str(FOLDER.parent))
+import fixed  # noqa: E402
 
 equaliser = fixed.script_of(FOLDER.parent / "equaliser")
 QUALITY = 1.4

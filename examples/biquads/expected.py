@@ -4,13 +4,14 @@
 usage: expected.py [--check | --ratio]
 """
 import math
+import sys
 from collections.abc import Callable, Iterable, Iterator, Sequence
 from pathlib import Path
 from typing import TypeAlias, TypeVar
 
-import fixed
-
 FOLDER = Path(__file__).resolve().parent
+sys.path.insert(0, str(FOLDER.parent))
+import fixed  # noqa: E402
 
 # A word, or a number of the design.
 Number = TypeVar("Number", int, float)

@@ -11,9 +11,9 @@ import sys
 from collections.abc import Sequence
 from pathlib import Path
 
-import fixed
-
 FOLDER = Path(__file__).resolve().parent
+sys.path.insert(0, str(FOLDER.parent))
+import fixed  # noqa: E402
 
 PHASES, TAPS, CUTOFF, RATE, BETA, DRIVE = 4, 32, 22000, 192000, 3.0, 2
 SLOW_RATE = RATE // PHASES

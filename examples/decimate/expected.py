@@ -4,13 +4,14 @@
 usage: expected.py [--check | --ratio]
 """
 import math
+import sys
 from collections.abc import Iterator, Sequence
 from pathlib import Path
 from typing import Any, TypeAlias
 
-import fixed
-
 FOLDER = Path(__file__).resolve().parent
+sys.path.insert(0, str(FOLDER.parent))
+import fixed  # noqa: E402
 
 # Rows of as many samples as there are phases.
 Rows: TypeAlias = Sequence[Sequence[int]]

@@ -6,11 +6,12 @@ The taps and the samples are those of the example `decimate`.
 usage: expected.py [--check | --ratio]
 """
 import runpy
+import sys
 from pathlib import Path
 
-import fixed
-
 FOLDER = Path(__file__).resolve().parent
+sys.path.insert(0, str(FOLDER.parent))
+import fixed  # noqa: E402
 
 DECIMATE = runpy.run_path(str(FOLDER.parent / "decimate" / "expected.py"))
 # The newest sample of a sum is the one before, so that those of the first sample of a frame need no other of that

@@ -4,13 +4,14 @@
 usage: expected.py [--check | --ratio]
 """
 import math
+import sys
 from collections.abc import Iterator, Sequence
 from fractions import Fraction
 from pathlib import Path
 
-import fixed
-
 FOLDER = Path(__file__).resolve().parent
+sys.path.insert(0, str(FOLDER.parent))
+import fixed  # noqa: E402
 
 ROWS, COLUMNS, RATE, BLOCK = (697, 770, 852, 941), (1209, 1336, 1477, 1633), 8000, 205
 ENOUGH = 50 << 14

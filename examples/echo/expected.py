@@ -3,13 +3,14 @@
 
 usage: expected.py [--check | --ratio]
 """
+import sys
 from collections.abc import Iterable, Iterator
 from pathlib import Path
 from typing import TypeAlias
 
-import fixed
-
 FOLDER = Path(__file__).resolve().parent
+sys.path.insert(0, str(FOLDER.parent))
+import fixed  # noqa: E402
 
 # Rows of a word of the loudspeaker and one of the microphone.
 Rows: TypeAlias = Iterable[tuple[int, int]]

@@ -4,12 +4,13 @@
 usage: expected.py [--check | --ratio]
 """
 import math
+import sys
 from collections.abc import Iterable, Iterator
 from pathlib import Path
 
-import fixed
-
 FOLDER = Path(__file__).resolve().parent
+sys.path.insert(0, str(FOLDER.parent))
+import fixed  # noqa: E402
 
 ATTACK, RELEASE = fixed.literal("0.25", 16, 15), fixed.literal("0.005", 16, 15)
 LARGEST, HALF, QUARTER = 32767, 1 << 14, 1 << 13

@@ -4,13 +4,14 @@
 usage: expected.py [--check | --ratio]
 """
 import math
+import sys
 from collections.abc import Iterator, Sequence
 from fractions import Fraction
 from pathlib import Path
 
-import fixed
-
 FOLDER = Path(__file__).resolve().parent
+sys.path.insert(0, str(FOLDER.parent))
+import fixed  # noqa: E402
 
 TONE, RATE, BLOCK, ENOUGH = 697, 8000, 205, 105 << 14
 COEFFICIENT = fixed.literal(2 * math.cos(2 * math.pi * TONE / RATE), 16, 14)

@@ -11,10 +11,10 @@ from collections.abc import Iterator
 from fractions import Fraction
 from pathlib import Path
 
-import fixed
-
 FOLDER = Path(__file__).resolve().parent
 CLIPPER = FOLDER / "clipper"
+sys.path.insert(0, str(FOLDER.parent))
+import fixed  # noqa: E402
 
 RATE = 32000
 # The tone stack: resistors in ohms, of which treble, bass and middle are turned to these shares, and capacitors in

@@ -9,9 +9,9 @@ from collections.abc import Callable, Iterable, Sequence
 from pathlib import Path
 from typing import Any
 
-import fixed
-
 FOLDER = Path(__file__).resolve().parent
+sys.path.insert(0, str(FOLDER.parent))
+import fixed  # noqa: E402
 
 # The taps of the whole filter, every second of which is 0 but for the one in the middle; the attenuation in decibels.
 TAPS, ATTENUATION = 55, 83

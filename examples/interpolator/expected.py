@@ -5,11 +5,12 @@ four samples, of which the first alone has an input word.
 usage: expected.py [--check | --ratio]
 """
 import math
+import sys
 from pathlib import Path
 
-import fixed
-
 FOLDER = Path(__file__).resolve().parent
+sys.path.insert(0, str(FOLDER.parent))
+import fixed  # noqa: E402
 
 PHASES, TAPS, CUTOFF, RATE, BETA = 4, 64, 24000, 192000, 3.9
 COEFFICIENT, OUTPUT = (16, 14), (16, 15, fixed.ROUND_SAT)

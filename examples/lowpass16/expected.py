@@ -4,13 +4,14 @@
 usage: expected.py [--check | --ratio]
 """
 import math
+import sys
 from collections.abc import Sequence
 from pathlib import Path
 from typing import Any
 
-import fixed
-
 FOLDER = Path(__file__).resolve().parent
+sys.path.insert(0, str(FOLDER.parent))
+import fixed  # noqa: E402
 
 TAPS, CUTOFF, RATE = 16, 1000, 8000
 

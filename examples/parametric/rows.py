@@ -11,9 +11,9 @@ from fractions import Fraction
 from pathlib import Path
 from typing import TypeAlias
 
-import fixed
-
 FOLDER = Path(__file__).resolve().parent
+sys.path.insert(0, str(FOLDER.parent))
+import fixed  # noqa: E402
 
 # b0, b1, b2, a1, a2 as words; and index and value in one sample.
 Words: TypeAlias = tuple[int, ...]

@@ -13,9 +13,9 @@ from collections.abc import Iterable, Iterator, Sequence
 from fractions import Fraction
 from pathlib import Path
 
-import fixed
-
 FOLDER = Path(__file__).resolve().parent
+sys.path.insert(0, str(FOLDER.parent))
+import fixed  # noqa: E402
 
 TAPS = [fixed.literal(text, 16, 15)
         for text in ("0.006425", "-0.019827", "-0.044057", "-0.040141", "0.009982", "0.100642", "0.200021",

@@ -4,12 +4,13 @@
 usage: rows.py [--check]
 """
 import math
+import sys
 from collections.abc import Iterator
 from pathlib import Path
 
-import fixed
-
 FOLDER = Path(__file__).resolve().parent
+sys.path.insert(0, str(FOLDER.parent))
+import fixed  # noqa: E402
 
 echo, dtmf, adpcm = (fixed.script_of(FOLDER.parent / name) for name in ("echo", "dtmf", "adpcm"))
 LOUD, QUIET, HISS = 16000, 600, 8

@@ -3,13 +3,14 @@
 
 usage: rows.py [--check]
 """
+import sys
 from collections.abc import Iterator
 from fractions import Fraction
 from pathlib import Path
 
-import fixed
-
 FOLDER = Path(__file__).resolve().parent
+sys.path.insert(0, str(FOLDER.parent))
+import fixed  # noqa: E402
 
 RATE = 8000
 # Notes in hertz, each with how many samples its gate is true, and how many it is false behind that.
