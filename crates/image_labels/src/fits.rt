@@ -31,7 +31,7 @@ pub fn sample_at(image: &Image, cycle: u16) -> u32
     1024 + u32::from(cycle / image.period)
 }
 
-fn edge_at(edges: &Edges, port: u32) -> Edge
+pub fn edge_at(edges: &Edges, port: u32) -> Edge
     ensures { result ≡ nth edges.now port no_edge }
 {
     let port = port as usize;
@@ -202,7 +202,7 @@ fn is_access(image: &Image, certificate: &Certificate, cycle: u16, issue: &Issue
     }
 }
 
-fn first_output(graph: &Graph) -> usize
+pub fn first_output(graph: &Graph) -> usize
     ensures { result ≡ first_output_in graph.now }
 {
     graph.nodes.len().saturating_sub(usize::from(graph.outs))

@@ -117,7 +117,7 @@ pub fn operand_label(
 }
 
 /// Whether the issue of a cycle stores into a cell.
-fn stores_into(
+pub fn stores_into(
     image: &Image,
     certificate: &Certificate,
     cycle: u16,

@@ -7,11 +7,14 @@ mod fits;
 mod hardware;
 mod label;
 mod labels;
+mod misfits;
 mod mismatch;
+mod recovery;
 mod rows;
 mod starts;
 mod validation;
 
 pub use label::{Certificate, Label};
 pub use mismatch::Mismatch;
+pub use recovery::recover;
 pub use validation::validate;

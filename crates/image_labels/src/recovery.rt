@@ -1,0 +1,518 @@
+//! Finds labels for an image by its graph: from each output to the nodes that it reads, and so on to what these read.
+//! Nothing rests on what is found, as `validate` asks nothing of it.
+ghost use Rattle.std.specs.Prelude.{◌≤◌, length};
+ghost use Rattle.micro_image.specs.Valid.{IsValid};
+
+use crate::fits::{edge_at, first_output, sample_at};
+use crate::hardware::{
+    cell_in, cells_on, delay_on, driver_of, ended_in, issued_in, modulus_of, number_of,
+    register_at, take_into, word_in,
+};
+use crate::label::{Certificate, Label};
+use crate::labels::{first_cell, issue_label, operand_label, stores_into};
+use crate::misfits::does_node;
+use fix_word::Op;
+use lists::List;
+use micro_image::{Image, Issue};
+use signal_graph::Graph;
+use std::alloc::{AllocError, Global};
+
+/// The most units of an image, and for how many a certificate has room in each cycle.
+const UNITS: u32 = 32;
+/// How many registers of a unit a certificate has room for, and of a port of it.
+const UNIT_REGISTERS: usize = 1024;
+
+const PORT_REGISTERS: usize = 256;
+/// The most cells of a ram.
+const CELLS: usize = 65536;
+/// The most operands of an operation.
+const PORTS: u32 = 3;
+/// The port at which a store reads its word.
+const WORD_PORT: u32 = 1;
+/// More nodes than a graph has.
+const MOST_NODES: usize = 1 << 30;
+
+/// The word of a node in a sample, as labels count samples.
+#[derive(Clone, Copy)]
+struct Signal {
+    node: u32,
+    sample: u32,
+}
+
+#[derive(Clone, Copy)]
+struct Register {
+    unit: u32,
+    port: u32,
+    reg: u32,
+}
+
+/// What a unit is issued in a cycle of the turn, and the word that it comes to.
+#[derive(Clone, Copy)]
+struct Known {
+    cycle: u16,
+    unit: u32,
+    signal: Signal,
+}
+
+/// What wrote a register last, before a cycle of the turn.
+#[derive(Clone, Copy)]
+enum Writer {
+    /// What a unit was issued in a cycle.
+    Issue { cycle: u16, unit: u32 },
+    /// A take whose bus has no driver.
+    NoDriver,
+    /// Nothing in this turn.
+    Nothing,
+}
+
+/// The labels that are found so far, and the issues that have one, in the order in which it was found.
+#[derive(Drop)]
+struct Search {
+    certificate: Certificate,
+    known: List<Known>,
+}
+
+/// So many labels of which nothing is known.
+fn unknowns(alloc: Global, count: usize) -> Result<List<Label>, AllocError> {
+    let mut labels = List::new(alloc);
+    for _ in 0..count {
+        labels.push(Label::Unknown)?;
+    }
+    Ok(labels)
+}
+
+fn put(labels: &mut List<Label>, index: usize, label: Label) {
+    if index < labels.len() {
+        labels[index] = label;
+    }
+}
+
+fn put_signal(labels: &mut List<Label>, index: usize, signal: Signal) {
+    put(labels, index, Label::Signal(signal.node, signal.sample));
+}
+
+/// What writes a register last before a cycle.
+fn writer_of(image: &Image, register: Register, cycle: u16) -> Writer
+    requires { cycle ≤ length image.now.words }
+{
+    let Register { unit, port, reg } = register;
+    for back in 0..cycle {
+        let before = cycle - back - 1;
+        let word = word_in(image, before);
+        if let Some(take) = take_into(word, unit, port, reg) {
+            return match driver_of(word, take.bus) {
+                Some(driver) => {
+                    let unit = u32::from(driver.unit);
+                    let delay = u16::from(delay_on(image, unit));
+                    Writer::Issue {
+                        cycle: before.saturating_sub(delay),
+                        unit,
+                    }
+                }
+                None => Writer::NoDriver,
+            };
+        }
+    }
+    Writer::Nothing
+}
+
+/// The cycle in which the last store into a cell was issued that ended before a cycle.
+fn storer_of(
+    image: &Image,
+    certificate: &Certificate,
+    unit: u32,
+    cell: u32,
+    cycle: u16,
+) -> Option<u16>
+    requires { cycle ≤ length image.now.words }
+{
+    let delay = u16::from(delay_on(image, unit));
+    for back in 0..cycle {
+        let before = cycle - back - 1;
+        if let Some(issue) = ended_in(image, before, unit) {
+            let issued = before.saturating_sub(delay);
+            if stores_into(image, certificate, issued, issue, cell) {
+                return Some(issued);
+            }
+        }
+    }
+    None
+}
+
+/// The register whose word a unit stores that is issued a store in a cycle.
+fn stored_register(image: &Image, cycle: u16, unit: u32) -> Register {
+    let mut reg = 0;
+    if usize::from(cycle) < image.words.len()
+        && let Some(issue) = issued_in(word_in(image, cycle), unit)
+    {
+        reg = u32::from(register_at(&issue.regs, WORD_PORT));
+    }
+    Register {
+        unit,
+        port: WORD_PORT,
+        reg,
+    }
+}
+
+/// The same word as the turn before counts its sample.
+fn a_turn_later(image: &Image, signal: Signal) -> Signal {
+    Signal {
+        node: signal.node,
+        sample: signal.sample.saturating_add(u32::from(image.unroll)),
+    }
+}
+
+/// The label of an issue that is to come to a word: that word of a load, and else the node's of its own sample, if it
+/// does what the node does.
+fn label_for(
+    graph: &Graph,
+    image: &Image,
+    issue: &Issue,
+    cycle: u16,
+    signal: Signal,
+) -> Option<Signal>
+    requires { IsValid image.now }
+{
+    if matches!(issue.op, Op::Load) {
+        return Some(signal);
+    }
+    if does_node(graph, issue, signal.node) {
+        return Some(Signal {
+            node: signal.node,
+            sample: sample_at(image, cycle),
+        });
+    }
+    None
+}
+
+/// Notes what an issue comes to that has no label yet.
+fn want_issue(
+    search: &mut Search,
+    graph: &Graph,
+    image: &Image,
+    cycle: u16,
+    unit: u32,
+    signal: Signal,
+) -> Result<(), AllocError>
+    requires { IsValid image.now }
+{
+    if usize::from(cycle) < image.words.len()
+        && matches!(
+            issue_label(&search.certificate, cycle, unit),
+            Label::Unknown
+        )
+        && let Some(issue) = issued_in(word_in(image, cycle), unit)
+        && let Some(signal) = label_for(graph, image, issue, cycle, signal)
+    {
+        let index = usize::from(cycle) * UNITS as usize + unit as usize;
+        put_signal(&mut search.certificate.issues, index, signal);
+        search.known.push(Known {
+            cycle,
+            unit,
+            signal,
+        })?;
+    }
+    Ok(())
+}
+
+/// Notes the word that a register holds when the turn starts, and what the issue comes to by which it does, in the turn
+/// before.
+fn want_first(
+    search: &mut Search,
+    graph: &Graph,
+    image: &Image,
+    register: Register,
+    signal: Signal,
+) -> Result<(), AllocError>
+    requires { IsValid image.now }
+{
+    if let Writer::Issue { cycle, unit } = writer_of(image, register, image.words.len() as u16) {
+        want_issue(
+            search,
+            graph,
+            image,
+            cycle,
+            unit,
+            a_turn_later(image, signal),
+        )?;
+        if let Label::Signal(node, sample) = issue_label(&search.certificate, cycle, unit) {
+            let sample = sample.saturating_sub(u32::from(image.unroll));
+            let Register { unit, port, reg } = register;
+            let index = unit as usize * UNIT_REGISTERS
+                + port as usize * PORT_REGISTERS
+                + reg as usize;
+            put_signal(
+                &mut search.certificate.registers,
+                index,
+                Signal { node, sample },
+            );
+        }
+    }
+    Ok(())
+}
+
+/// Notes the word that a register holds at the start of a cycle.
+fn want_register(
+    search: &mut Search,
+    graph: &Graph,
+    image: &Image,
+    register: Register,
+    cycle: u16,
+    signal: Signal,
+) -> Result<(), AllocError>
+    requires valid { IsValid image.now }
+    requires cycle { cycle ≤ length image.now.words }
+{
+    match writer_of(image, register, cycle) {
+        Writer::Issue { cycle, unit } => want_issue(search, graph, image, cycle, unit, signal),
+        Writer::NoDriver => Ok(()),
+        Writer::Nothing => want_first(search, graph, image, register, signal),
+    }
+}
+
+/// Notes the word of a cell when the turn starts: of the store that it comes from in a turn before, and of the cell at
+/// the start of each turn since.
+fn want_kept(
+    search: &mut Search,
+    graph: &Graph,
+    image: &Image,
+    unit: u32,
+    cell: u32,
+    signal: Signal,
+) -> Result<(), AllocError>
+    requires { IsValid image.now }
+{
+    let turn = image.words.len() as u16;
+    let cells = cells_on(image, unit);
+    if cells == 0 || cells > CELLS {
+        return Ok(());
+    }
+    let (mut cell, mut signal) = (cell, signal);
+    for _ in 0..cells {
+        if !matches!(first_cell(&search.certificate, unit, cell), Label::Unknown) {
+            return Ok(());
+        }
+        let index = unit as usize * CELLS + cell as usize;
+        put_signal(&mut search.certificate.cells, index, signal);
+        cell = cell_in(cells as u32, u64::from(cell), u16::from(image.unroll)) as u32;
+        signal = a_turn_later(image, signal);
+        if let Some(issued) = storer_of(image, &search.certificate, unit, cell, turn) {
+            let register = stored_register(image, issued, unit);
+            return want_stored(search, graph, image, register, issued, signal);
+        }
+    }
+    Ok(())
+}
+
+/// Notes the word that a store reads which was issued in a cycle.
+fn want_stored(
+    search: &mut Search,
+    graph: &Graph,
+    image: &Image,
+    register: Register,
+    cycle: u16,
+    signal: Signal,
+) -> Result<(), AllocError>
+    requires { IsValid image.now }
+{
+    if usize::from(cycle) < image.words.len() {
+        want_register(search, graph, image, register, cycle, signal)?;
+    }
+    Ok(())
+}
+
+/// Notes the word that a cell holds at the start of a cycle.
+fn want_cell(
+    search: &mut Search,
+    graph: &Graph,
+    image: &Image,
+    unit: u32,
+    cell: u32,
+    cycle: u16,
+    signal: Signal,
+) -> Result<(), AllocError>
+    requires valid { IsValid image.now }
+    requires cycle { cycle ≤ length image.now.words }
+{
+    match storer_of(image, &search.certificate, unit, cell, cycle) {
+        Some(issued) => {
+            let register = stored_register(image, issued, unit);
+            want_stored(search, graph, image, register, issued, signal)
+        }
+        None => want_kept(search, graph, image, unit, cell, signal),
+    }
+}
+
+/// Notes the word of the cell that a load reads.
+fn want_loaded(
+    search: &mut Search,
+    graph: &Graph,
+    image: &Image,
+    issue: &Issue,
+    known: Known,
+) -> Result<(), AllocError>
+    requires valid { IsValid image.now }
+    requires cycle { known.cycle ≤ length image.now.words }
+{
+    let Known {
+        cycle,
+        unit,
+        signal,
+    } = known;
+    match operand_label(image, &search.certificate, cycle, issue, 0) {
+        Label::Address(_, cell) => want_cell(search, graph, image, unit, cell, cycle, signal),
+        _ => Ok(()),
+    }
+}
+
+/// Notes the words that the operands of a node are, at the registers that an issue reads.
+fn want_operands(
+    search: &mut Search,
+    graph: &Graph,
+    image: &Image,
+    issue: &Issue,
+    known: Known,
+) -> Result<(), AllocError>
+    requires valid { IsValid image.now }
+    requires cycle { known.cycle ≤ length image.now.words }
+{
+    let node = known.signal.node as usize;
+    if node >= graph.nodes.len() {
+        return Ok(());
+    }
+    let edges = &graph.nodes[node].edges;
+    let sample = sample_at(image, known.cycle);
+    for port in 0..PORTS {
+        if (port as usize) < edges.len() {
+            let edge = edge_at(edges, port);
+            let register = Register {
+                unit: known.unit,
+                port,
+                reg: u32::from(register_at(&issue.regs, port)),
+            };
+            let signal = Signal {
+                node: edge.node,
+                sample: sample.saturating_sub(u32::from(edge.delay)),
+            };
+            want_register(search, graph, image, register, known.cycle, signal)?;
+        }
+    }
+    Ok(())
+}
+
+/// Notes the words that an issue reads whose own word is known.
+fn want_reads(
+    search: &mut Search,
+    graph: &Graph,
+    image: &Image,
+    known: Known,
+) -> Result<(), AllocError>
+    requires { IsValid image.now }
+{
+    if usize::from(known.cycle) >= image.words.len() {
+        return Ok(());
+    }
+    match issued_in(word_in(image, known.cycle), known.unit) {
+        Some(issue) => match issue.op {
+            Op::Load => want_loaded(search, graph, image, issue, known),
+            _ => want_operands(search, graph, image, issue, known),
+        },
+        None => Ok(()),
+    }
+}
+
+/// Notes the cell that the address is of which a unit is issued in a cycle, if it is issued one.
+fn put_address(image: &Image, labels: &mut List<Label>, cycle: u16, unit: u32, issue: &Issue)
+    requires { IsValid image.now }
+{
+    let cells = modulus_of(image, unit);
+    if matches!(issue.op, Op::Addr) && 0 < cells && cells <= CELLS {
+        let cells = cells as u32;
+        let cell = cell_in(cells, number_of(issue.arg), cycle / image.period) as u32;
+        let index = usize::from(cycle) * UNITS as usize + unit as usize;
+        put(labels, index, Label::Address(cells, cell));
+    }
+}
+
+/// Notes the cells that addresses are of.
+fn put_addresses(image: &Image, labels: &mut List<Label>, turn: u16)
+    requires valid { IsValid image.now }
+    requires turn { turn ≤ length image.now.words }
+{
+    for cycle in 0..turn {
+        for unit in 0..UNITS {
+            if let Some(issue) = issued_in(word_in(image, cycle), unit) {
+                put_address(image, labels, cycle, unit, issue);
+            }
+        }
+    }
+}
+
+/// The node whose word an output puts.
+fn output_node(graph: &Graph, issue: &Issue) -> Option<u32> {
+    let first = first_output(graph);
+    let number = number_of(issue.arg);
+    if matches!(issue.op, Op::Output) && first < MOST_NODES && number < 256 {
+        Some(first as u32 + number as u32)
+    } else {
+        None
+    }
+}
+
+/// Notes the words of the outputs.
+fn want_outputs(
+    search: &mut Search,
+    graph: &Graph,
+    image: &Image,
+    turn: u16,
+) -> Result<(), AllocError>
+    requires valid { IsValid image.now }
+    requires turn { turn ≤ length image.now.words }
+{
+    for cycle in 0..turn {
+        let sample = sample_at(image, cycle);
+        for unit in 0..UNITS {
+            if let Some(issue) = issued_in(word_in(image, cycle), unit)
+                && let Some(node) = output_node(graph, issue)
+            {
+                want_issue(search, graph, image, cycle, unit, Signal { node, sample })?;
+            }
+        }
+    }
+    Ok(())
+}
+
+/// How many units an image has.
+fn count_units(image: &Image) -> usize
+    ensures { result ≤ 32 }
+{
+    let units = image.units.len();
+    let most = UNITS as usize;
+    if units < most { units } else { most }
+}
+
+/// Labels of an image by its graph, as far as they are found.
+pub fn recover(alloc: Global, graph: &Graph, image: &Image) -> Result<Certificate, AllocError>
+    requires { IsValid image.now }
+{
+    let turn = image.words.len() as u16;
+    let units = count_units(image);
+    let issues = usize::from(turn) * UNITS as usize;
+    let mut search = Search {
+        certificate: Certificate {
+            issues: unknowns(alloc, issues)?,
+            registers: unknowns(alloc, units * UNIT_REGISTERS)?,
+            cells: unknowns(alloc, units * CELLS)?,
+        },
+        known: List::new(alloc),
+    };
+    put_addresses(image, &mut search.certificate.issues, turn);
+    want_outputs(&mut search, graph, image, turn)?;
+    for next in 0..issues {
+        if next < search.known.len() {
+            let known = search.known[next];
+            want_reads(&mut search, graph, image, known)?;
+        }
+    }
+    Ok(search.certificate)
+}
