@@ -1,3 +1,4 @@
 pub mod Placings
 pub mod Units
+pub mod OneFault
 pub mod Passes

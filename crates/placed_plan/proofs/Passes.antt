@@ -59,8 +59,8 @@ use Rattle.placed_plan.specs.declared.fault.PlaceFault.{PlaceFault}
 use Rattle.placed_plan.specs.declared.fault.PlaceFault.TheVariants.{Line as Unstored, Missing, Surplus, TooWide}
 use Rattle.placed_plan.specs.declared.fault.PlaceFault.TheVariants.{WrongUnit, Late, Past, Busy, Blocked, FileFull}
 use Rattle.placed_plan.specs.declared.fault.PlaceFault.TheVariants.{Memory}
-use Rattle.placed_plan.proofs.Placings.{at_alike}
 use Rattle.placed_plan.proofs.Units.{on_right}
+use Rattle.placed_plan.proofs.OneFault.{plan_or_not, one_plan, one_place_fault}
 
 pub told : (r : Result Plan PlaceFault) (f : PlaceFault) → IsErrAnd r (λ (h : PlaceFault). h ≡ f) → r ≡ Err f
 told r f is = let x = err_from_is_err_and r is in x.1 ∙ ap (λ (h : PlaceFault). Err h) x.2
@@ -85,169 +85,21 @@ module _ (g : Graph) (d : Datapath) (places : List Place) (allowed : IsDatapath 
         (is.placed.schedule.placed v (omega (arith, there, is.units.place_count))).can.allows;
   }
 
--- There is one at most, and where there is one there is no fault.
 module _ (g : Graph) (d : Datapath) (places : List Place) (allowed : IsDatapath d) (sound : IsGraph g)
     (loopless : IsGraphLoopless g) where
-  same_lowered : (l m : Lowered) → IsLowered g d l → IsLowered g d m → l ≡ m
-  same_lowered l m x y = one_lowered d.hold 1 g d l m x y
-
-  -- nodes that are on the units of their places
-  module _ (a : Assigned) (low : IsLowered g d a.lowered) (on : AreOnGivenUnits places d a) where
-    pub problem : IsProblem d a
-    problem = record { path = allowed; schedulable = schedulable g d sound a low loopless (on_right places d a on) }
-
-    same_assigned : (b : Assigned) → IsLowered g d b.lowered → AreOnGivenUnits places d b → b ≡ a
-    same_assigned b its there =
-        let same = same_lowered b.lowered a.lowered its low in
-        let count : length b.units ≡ length a.units =
-        there.count ∙ ap (λ (l : Lowered). length l.nodes) same ∙ sym on.count in
-        let units = ext_get_or 0 b.units a.units count (λ i less.
-        there.given i (omega (arith, less, there.count)) ∙ sym (on.given i (omega (arith, less, count, on.count)))) in
-        ap (λ (l : Lowered). record { lowered = l; units = b.units }) same
-        ∙ ap (λ (us : List ℕ). record { lowered = a.lowered; units = us }) units
-
-    same_schedule : (s z : Schedule) → IsScheduleAt places d a s → IsScheduleAt places d a z → s ≡ z
-    same_schedule s z x y =
-        one_schedule_over IsGapApart IsOneCycle d.period (AtPlace places) d a (live_of d allowed) (at_alike places d a)
-        (operand_in d a problem) s z x y
-
-    pub allottable_at : (s : Schedule) (arcs : List Arc)
-        → IsScheduleAt places d a s
-        → IsArcs d a s arcs
-        → AreAllottable d arcs
-    allottable_at s arcs scheduled are =
-        allottable g d sound a low allowed (on_right places d a on) s scheduled arcs are
-
-    abbrev Can : Schedule → (height : ℕ → ℕ) → (v t : ℕ) → Type 0
-    Can s height v t = CanIssueOver IsGapApart IsOneCycle d.period (AtPlace places) d a s height v t
-
-    -- a node that cannot stand at its place has no schedule
-    refuted : (Cause : Datapath → Assigned → Schedule → (height : ℕ → ℕ) → (v t : ℕ) → Type 0)
-        → ((s : Schedule) (height : ℕ → ℕ) (v t : ℕ) → Can s height v t → Cause d a s height v t → ⊥)
-        → (v : ℕ)
-        → IsFirstUnplaced places d a Cause v
-        → (s : Schedule)
-        → IsScheduleAt places d a s
-        → ⊥
-    refuted Cause cannot v x s scheduled =
-        scheduled_not IsGapApart IsOneCycle d.period (AtPlace places) d a problem (at_alike places d a) s scheduled v
-        (record {
-          height = x.height;
-          heights = x.heights;
-          there = x.there;
-          schedule = x.schedule;
-          before = x.before;
-          none = λ t can.
-              cannot x.schedule x.height v t can
-              (subst (λ (c : ℕ). Cause d a x.schedule x.height v c) (sym can.allows) x.cause);
-        })
-
-  module _ (p : Plan) (is : IsPlanAt places g d p) where
-    -- each node can be on its unit
-    unit_refuted : (Cause : Datapath → Node → (u : ℕ) → Type 0)
-        → ((node : Node) (u : ℕ) → CanBeOn d node u → Cause d node u → ⊥)
-        → (v : ℕ)
-        → HasMisplacedNode g d places Cause v
-        → ⊥
-    unit_refuted Cause cannot v h =
-        let same = same_lowered h.lowered p.assigned.lowered h.is_lowered is.placed.lowered in
-        let x = subst (λ (l : Lowered). IsFirstMisplaced places d l Cause v) same h.misplaced in
-        cannot (node_of p.assigned.lowered.nodes v) (place_of places v).unit (is.units.can v x.there) x.cause
-
-    -- each node can be issued in its cycle
-    cycle_refuted : (Cause : Datapath → Assigned → Schedule → (height : ℕ → ℕ) → (v t : ℕ) → Type 0)
-        → ((s : Schedule) (height : ℕ → ℕ) (v t : ℕ)
-        → Can p.assigned is.placed.lowered is.units s height v t
-        → Cause d p.assigned s height v t
-        → ⊥)
-        → (v : ℕ)
-        → HasUnplacedNode g d places Cause v
-        → ⊥
-    cycle_refuted Cause cannot v h =
-        let same = same_assigned p.assigned is.placed.lowered is.units h.assigned h.is_lowered h.units in
-        refuted p.assigned is.placed.lowered is.units Cause cannot v
-        (subst (λ (a : Assigned). IsFirstUnplaced places d a Cause v) same h.unplaced) p.schedule is.placed.schedule
-
-    -- the lifetimes of the plan's nodes, however they are told
-    same_arcs : (a : Assigned) (s : Schedule) (arcs : List Arc)
-        → a ≡ p.assigned
-        → IsScheduleAt places d a s
-        → IsArcs d a s arcs
-        → arcs ≡ p.arcs
-    same_arcs a s arcs same scheduled are =
-        let here = subst (λ (b : Assigned). IsScheduleAt places d b s) same scheduled in
-        let there = subst (λ (b : Assigned). IsArcs d b s arcs) same are in
-        one_arcs d p.assigned p.schedule arcs p.arcs
-        (subst (λ (z : Schedule). IsArcs d p.assigned z arcs)
-        (same_schedule p.assigned is.placed.lowered is.units s p.schedule here is.placed.schedule) there)
-        is.placed.arcs
-
-    pub plan_or_not : (fault : PlaceFault) → IsPlaceFault g d places fault → ⊥
-    plan_or_not (Unstored f) h = lowered_or_not d.hold 1 g d p.assigned.lowered is.placed.lowered f h
-    plan_or_not (Missing v) h =
-        let same = same_lowered h.lowered p.assigned.lowered h.is_lowered is.placed.lowered in
-        absurd (omega (arith, h.lacks, is.units.place_count, ap (λ (l : Lowered). length l.nodes) same))
-    plan_or_not (Surplus v) h =
-        let same = same_lowered h.lowered p.assigned.lowered h.is_lowered is.placed.lowered in
-        absurd (omega (arith, h.lacks, is.units.place_count, ap (λ (l : Lowered). length l.nodes) same))
-    plan_or_not (TooWide v) h =
-        unit_refuted IsTooWide (λ node u can wide. absurd (omega (arith, can.width, wide))) v h
-    plan_or_not (WrongUnit v) h = unit_refuted IsOnWrongUnit (λ node u can cause. cause.wrong can.right) v h
-    plan_or_not (Late v) h = cycle_refuted IsLate (λ s height u t can late. late can.operands) v h
-    plan_or_not (Past v) h =
-        cycle_refuted IsPast (λ s height u t can cause. absurd (omega (arith, can.fits.period, cause.past))) v h
-    plan_or_not (Busy v) h = cycle_refuted IsBusy (λ s height u t can cause. cause.busy can.fits.unit) v h
-    plan_or_not (Blocked v) h =
-        cycle_refuted IsBlocked (λ s height u t can cause.
-        cause.blocked (λ port to. record { file = can.fits.files port to; bus = can.fits.buses port to })) v h
-    plan_or_not (FileFull unit port v) h =
-        let same = same_assigned p.assigned is.placed.lowered is.units h.assigned h.is_lowered h.units in
-        let arcs = same_arcs h.assigned h.schedule h.arcs same h.is_schedule h.are_arcs in
-        allotted_or_not d p.arcs
-        (allottable_at p.assigned is.placed.lowered is.units p.schedule p.arcs is.placed.schedule is.placed.arcs)
-        p.registers.regs
-        (record {
-          unroll = p.unroll;
-          unroll_is = is.placed.unroll;
-          fit = is.placed.registers;
-          sizes = is.placed.sizes;
-        })
-        (file.Full unit port v)
-        (record {
-          unroll = h.unroll;
-          unroll_is = subst (λ (xs : List Arc). IsUnroll xs h.unroll) arcs h.is_unroll;
-          none = subst (λ (xs : List Arc). IsWithoutRegister d h.unroll xs (port_of unit port) v) arcs h.none;
-        })
-    plan_or_not Memory h = h
-
-  pub one_plan : (p q : Plan) → IsPlanAt places g d p → IsPlanAt places g d q → p ≡ q
-  one_plan p q x y =
-      let assigned = same_assigned q.assigned y.placed.lowered y.units p.assigned x.placed.lowered x.units in
-      let here = subst (λ (b : Assigned). IsScheduleAt places d b p.schedule) assigned x.placed.schedule in
-      let schedule =
-      same_schedule q.assigned y.placed.lowered y.units p.schedule q.schedule here y.placed.schedule in
-      let arcs = same_arcs q y p.assigned p.schedule p.arcs assigned x.placed.schedule x.placed.arcs in
-      let unroll = one_unroll q.arcs p.unroll q.unroll
-      (subst (λ (xs : List Arc). IsUnroll xs p.unroll) arcs x.placed.unroll) y.placed.unroll in
-      let order = (allottable_at q.assigned y.placed.lowered y.units q.schedule q.arcs y.placed.schedule
-      y.placed.arcs).order in
-      let fit = subst (λ (xs : List Arc). IsFirstFit d.period p.unroll xs p.registers.regs) arcs x.placed.registers in
-      let regs = one_fit d.period q.unroll q.arcs order p.registers.regs q.registers.regs
-      (subst (λ (n : ℕ). IsFirstFit d.period n q.arcs p.registers.regs) unroll fit) y.placed.registers in
-      plan_from p q assigned schedule arcs (ap (λ (rs : List (List ℕ)). record { regs = rs }) regs) unroll
-      (x.placed.inputs ∙ sym y.placed.inputs) (x.placed.outs ∙ sym y.placed.outs)
-
   -- what is promised of an answer
   pub record IsAnswer (result : Result Plan PlaceFault) : Type 0 where
     pub plan : IfOk result (IsPlanAt places g d)
     pub fault : IfErr result (λ (fault : PlaceFault). (fault ≡ Memory) ⊎ IsPlaceFault g d places fault)
     pub found : (p : Plan) → IsPlanAt places g d p → (result ≡ Ok p) ⊎ (result ≡ Err Memory)
+    pub refused : (f : PlaceFault) → IsPlaceFault g d places f → (result ≡ Err f) ⊎ (result ≡ Err Memory)
 
   pub finds : (p : Plan) → IsPlanAt places g d p → IsAnswer (Ok p)
   finds p is = record {
     plan = is;
     fault = tt;
-    found = λ q other. inl (ap (λ (x : Plan). Ok x) (one_plan p q is other));
+    found = λ q other. inl (ap (λ (x : Plan). Ok x) (one_plan g d places allowed sound loopless p q is other));
+    refused = λ f h. absurd (plan_or_not g d places allowed sound loopless p is f h);
   }
 
   pub fails : (f : PlaceFault) → (f ≡ Memory) ⊎ IsPlaceFault g d places f → IsAnswer (Err f)
@@ -256,7 +108,11 @@ module _ (g : Graph) (d : Datapath) (places : List Place) (allowed : IsDatapath 
     fault = why;
     found = λ p is.
         ⊎_elim (λ (e : f ≡ Memory). inr (ap (λ (x : PlaceFault). Err x) e))
-        (λ (h : IsPlaceFault g d places f). absurd (plan_or_not p is f h)) why;
+        (λ (h : IsPlaceFault g d places f). absurd (plan_or_not g d places allowed sound loopless p is f h)) why;
+    refused = λ k is.
+        ⊎_elim (λ (e : f ≡ Memory). inr (ap (λ (x : PlaceFault). Err x) e))
+        (λ (h : IsPlaceFault g d places f).
+        inl (ap (λ (x : PlaceFault). Err x) (one_place_fault g d places allowed sound loopless f k h is))) why;
   }
 
   pub answers : (r : Result Plan PlaceFault) (f : PlaceFault)

@@ -1,5 +1,6 @@
 //! Why there is no plan with the places that are given.
 
+use bus_alloc::TableFault;
 use cyclic_life::ArcFault;
 use delay_memory::LineFault;
 use reg_alloc::FileFault;
@@ -68,6 +69,17 @@ impl From<AllocError> for PlaceFault {
     ghost from_gives = { λ _ fault. fault ≡ Memory };
 
     fn from(_: AllocError) -> PlaceFault {
+        PlaceFault::Memory
+    }
+}
+
+impl From<TableFault> for PlaceFault {
+    ghost use Rattle.std.specs.Prelude.{◌≡◌};
+    ghost use Rattle.placed_plan.specs.declared.fault.PlaceFault.TheVariants.{Memory};
+
+    ghost from_gives = { λ _ fault. fault ≡ Memory };
+
+    fn from(_: TableFault) -> PlaceFault {
         PlaceFault::Memory
     }
 }

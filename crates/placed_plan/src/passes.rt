@@ -10,6 +10,7 @@ ghost use Rattle.plan_soundness.specs.Feasible.{IsFeasiblePlan};
 ghost use Rattle.placed_plan.specs.Places.{IsPlanAt, IsGiven, IsNarrow};
 ghost use Rattle.placed_plan.specs.Faults.{IsPlaceFault};
 ghost use Rattle.placed_plan.specs.Private.Units.{IsMiscounted};
+ghost use Rattle.placed_plan.specs.declared.fault.PlaceFault as of_fault;
 ghost use Rattle.placed_plan.specs.declared.fault.PlaceFault.TheVariants.{Memory};
 
 use crate::fault::PlaceFault;
@@ -69,6 +70,9 @@ pub fn plan_at(
     // The one plan is always found, unless memory runs out.
     ensures found { (p : of_plan.Plan) → IsPlanAt places.now graph datapath.now p
         → (result ≡ Ok p) ⊎ (result ≡ Err Memory) }
+    // So is the first fault.
+    ensures refused { (fault : of_fault.PlaceFault) → IsPlaceFault graph datapath.now places.now fault
+        → (result ≡ Err fault) ⊎ (result ≡ Err Memory) }
 {
     let inputs = List::from_slice(alloc, graph.inputs.as_slice())?;
     let outs = graph.outs;
