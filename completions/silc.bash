@@ -73,6 +73,7 @@ show manifests|words *
 show image *.mic
 show guarded *.sil *.toml -
 show trace *.mic * - - -
+show trace *.sil *.toml - * - - -
 show datapath *.toml
 show rows - *
 show repeat - - *

@@ -116,6 +116,19 @@ def headline_clause(specs: Specs) -> Clause:
     return next(clause for clause in clauses_of(specs, *SENTENCE) if clause.name == HEADLINE)
 
 
+def premises_of(specs: Specs) -> list[Clause]:
+    """What the caller of the call has to see to."""
+    return [clause for clause in clauses_of(specs, *SENTENCE) if clause.text.startswith("requires")]
+
+
+def sentence() -> str:
+    """The sentence, as README.md has it."""
+    found = re.search(r"^> .+$", (ROOT / "README.md").read_text(), re.M)
+    if not found:
+        raise Unlisted("README.md has no line that begins with >")
+    return found[0]
+
+
 # The text.
 
 @dataclass(frozen=True)
@@ -259,9 +272,11 @@ def worked_text(values: list[Value], done: dict[Definition, None]) -> str:
     return f"Worked, and proved as {names}:\n\n```\n{texts}\n```\n\n"
 
 
-def text_of(headline: Headline, values: Values) -> str:
-    """What the sentence rests on: its clause, and part by part the definitions, with their worked values."""
-    found, doubled = [f"```\n{headline.clause.text.strip()}\n```\n\n"], doubled_names(headline.parts)
+def text_of(headline: Headline, values: Values, premises: list[Clause]) -> str:
+    """What the sentence rests on: its clause below what the caller has to see to, and part by part the definitions,
+    with their worked values."""
+    clauses = "\n".join(clause.text for clause in (*premises, headline.clause))
+    found, doubled = [f"```\n{clauses}\n```\n\n"], doubled_names(headline.parts)
     done: dict[Definition, None] = {}
     for part, reached in headline.parts:
         if part:
@@ -302,10 +317,12 @@ def declaration_of(one: Type) -> str:
 
 INTRODUCTION = """# What has to be trusted
 
-The first sentence of `README.md` is the clause `headline` of `silc::silc`. This page has what a reader has to read to \
-know what it promises: the clause, and part by part the definitions that it rests on, in the order of the sentence, \
-each file with the page that tells the same in prose. That the code meets them is for the prover; that they say what \
-they should is for the reader. `docs/PROOF.md` goes through the proof.
+{sentence}
+
+This sentence of `README.md` is the clause `headline` of `silc::silc`. This page has what a reader has to read to know \
+what it promises: the clause, and part by part the definitions that it rests on, in the order of the sentence, each \
+file with the page that tells the same in prose. That the code meets them is for the prover; that they say what they \
+should is for the reader. `docs/PROOF.md` goes through the proof.
 
 | Part of the sentence | Lines |
 |---|---|
@@ -316,14 +333,44 @@ images and runs come to, worked out by hand. Each is a clause of `crates/worked_
 is: the prover computes it from the definitions above it. They add nothing to what is promised, and do not count.
 
 A line that is blank, a comment or a `use` line does not count. Left out are the names of the proved standard library, \
-as `List`, `≡` and `slice_get`,{kit}: `rt lemma NAME` prints one. What the environment's calls do to files is said by \
-the contract of `Desk` (`crates/desk_core`); `D.view desk.old` and `D.view desk.new` are its state before and after \
-the call.
+as `List`, `≡` and `slice_get`,{kit}: `rt lemma NAME` prints one.
 
-What this clause leaves to the clause `planned` of the same call: that the source breaks no rule on names, elements, \
-types and loops, so that no item of it is left out of its equations and each width is one of the language; and that \
-the image is that of the plan on the datapath, so that its units, buses and latencies are the file's and its input \
-words have the widths that the source declares. Names are compared as text: of two names of one file it knows nothing.
+**The environment.** `D` is any type with the trait `Desk` (`crates/desk_core`), whose calls open, read, make and write \
+files by name; `D.view desk.old` and `D.view desk.new` are its state before and after the call, and their `files` all \
+files with their bytes. What each call does to them is the trait's contract. An environment may leave its files \
+unspecified (`None`), and then the clause says nothing of them. The environment in memory, `MemDesk`, always specifies \
+them. That of the program, `HostDesk` of `crates/silc_main`, never does, since another process may change a file \
+between two calls: that the host's files act like those in memory is trusted.
+
+**What this clause leaves to the clause `planned`** of the same call: that the source breaks no rule on names, \
+elements, types and loops, so that no item of it is left out of its equations and each width is one of the language; \
+and that the image is that of the plan on the datapath, so that its units, buses and latencies are the file's and its \
+input words have the widths that the source declares. Names are compared as text: of two names of one file it knows \
+nothing. That `compile` answers Done wherever there is a plan is the clause `compiles` of `silc_laws::silc_completes`.
+
+**Some rules that surprise.** Each is one of the language or the machine, told on its page. What was before the first \
+sample is given and never computed: an element has there what its own `@@` gives, or 0, also a parameter that is \
+another name of a word with a past of its own. Of two outputs that end on one latch in one cycle the latch keeps that \
+of the greater unit, and this is no conflict. Roles, weights and `weighs` of the grammar say what is refused as too deep; \
+the sentence does not depend on them.
+
+**How to read the definitions.**
+
+| Written | Read |
+|---|---|
+| `abbrev`, `unfoldable` | a definition; the words tell the prover how far to open it |
+| `record R : Type 0 where`, a line `pub f : P` | R holds where each of its fields P does; or R is a structure with these fields |
+| `data D where`, a line `c : A → D` | D has the cases c, each with what it holds; as a relation: the rules by which it holds |
+| `Type 0` | a type, or a statement: a statement is the type of its proofs |
+| `(x : A) → B`, `A → B` | for each x of A, B; A implies B; a function from A to B |
+| `(x : A) × B`, `A × B` | there is an x of A with B; A and B; a pair |
+| `A ⊎ B`, `¬ A`, `A → ⊥`, `Unit {{0}}` | A or B; not A; not A; true |
+| `a ≡ b`, `a ≢ b` | they are equal; they are not |
+| `[]`, `x ∷ l`, `l ++ m`, `length l` | the empty list; x before l; l and then m; how many |
+| `ℕ`, `ℤ`, `pos n`, `negsuc n` | 0, 1, 2 and so on; whole numbers; n; -(n + 1) |
+| `a - b` on `ℕ`, `a / b`, `a % b` | 0 where b is more; the quotient rounded down; what is left |
+| `λ x. e`, `let x = e in f`, `case` | the function of x with the value e; as usual; by its form |
+| `module _ (x : A)` | what is indented below it is said for each x |
 
 `tools/trusted --write` makes this page of the sources, and `tools/trusted --check` says whether it is as they are.
 
@@ -351,8 +398,10 @@ def page_text(specs: Specs) -> str:
     values.check([one for _, reached in headline.parts for one in reached.definitions])
     counts = {heading(part) if part else "Where `compile` answers Done": count(reached)
               for part, reached in headline.parts}
-    counts["Where `compile` answers Done"] += headline.clause.lines()
+    premises = premises_of(specs)
+    counts["Where `compile` answers Done"] += sum(clause.lines() for clause in (*premises, headline.clause))
     parts = "".join(f"| {title} | {many:,} |\n" for title, many in counts.items())
-    introduction = INTRODUCTION.format(lines=sum(counts.values()), parts=parts, kit=kit_of(specs, headline))
-    return (introduction + "## Where `compile` answers Done\n\n" + text_of(headline, values) + COUNTS
+    introduction = INTRODUCTION.format(sentence=sentence(), lines=sum(counts.values()), parts=parts,
+                                       kit=kit_of(specs, headline))
+    return (introduction + "## Where `compile` answers Done\n\n" + text_of(headline, values, premises) + COUNTS
             + promises_table(specs))

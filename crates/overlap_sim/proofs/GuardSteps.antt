@@ -11,6 +11,7 @@ use Rattle.plan_soundness.specs.Parts.{lines_of}
 use Rattle.plan_soundness.specs.ImageOf.{IsPreloadOfOver, width_of}
 use Rattle.plan_soundness.specs.Run.{RunsSolutionLate}
 use Rattle.plan_soundness.proofs.Machines.{machine_of}
+use Rattle.plan_soundness.proofs.Units.{on_right_units}
 use Rattle.microcode_asm.proofs.ReadyPlans.{inits_rise}
 use Rattle.overlap_plan.specs.IsStagePlan.{IsStagePlan, plan_of}
 use Rattle.overlap_plan.specs.declared.plan.StagePlan.{StagePlan}
@@ -43,7 +44,8 @@ stage_ready d sp path planned =
       };
       few = planned.few;
       offsets =
-          offsets_of planned.graph d (plan_of sp) planned.sound planned.plan.lowered planned.plan.assigned;
+          offsets_of planned.graph d (plan_of sp) planned.sound planned.plan.lowered
+          (on_right_units planned.plan.assigned);
     }
 
 -- its guarded image is valid without its stages

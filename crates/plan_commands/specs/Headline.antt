@@ -33,8 +33,7 @@ RunsTheSolution program image =
     × IsRunOut (microprogram_of image) stream (out program words (length stream))
 
 -- The bytes of the source are one program, and the file describes a datapath. The microcode spells an image in version
--- 2
--- and nothing else. That image takes the program's input words in their widths, puts its output words, and runs the
+-- 2, and nothing else. That image takes the program's input words in their widths, puts its output words, and runs the
 -- program's one solution in the datapath's period.
 pub record CarriesTheSolution (source datapath microcode : List ℕ) : Type 0 where
   pub tokens : List Token
