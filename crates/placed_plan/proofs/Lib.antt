@@ -1,4 +1,4 @@
 pub mod Placings
-pub mod Units
+pub mod GivenUnits
 pub mod OneFault
-pub mod Passes
+pub mod PlansAt

@@ -56,7 +56,7 @@ use Rattle.placed_plan.specs.declared.fault.PlaceFault.TheVariants.{Line as Unst
 use Rattle.placed_plan.specs.declared.fault.PlaceFault.TheVariants.{WrongUnit, Late, Past, Busy, Blocked, FileFull}
 use Rattle.placed_plan.specs.declared.fault.PlaceFault.TheVariants.{Memory}
 use Rattle.placed_plan.proofs.Placings.{at_alike}
-use Rattle.placed_plan.proofs.Units.{on_right}
+use Rattle.placed_plan.proofs.GivenUnits.{on_right}
 
 -- There is one at most, and where there is one there is no fault.
 module _ (g : Graph) (d : Datapath) (places : List Place) (allowed : IsDatapath d) (sound : IsGraph g)

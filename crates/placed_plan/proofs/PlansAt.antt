@@ -59,7 +59,7 @@ use Rattle.placed_plan.specs.declared.fault.PlaceFault.{PlaceFault}
 use Rattle.placed_plan.specs.declared.fault.PlaceFault.TheVariants.{Line as Unstored, Missing, Surplus, TooWide}
 use Rattle.placed_plan.specs.declared.fault.PlaceFault.TheVariants.{WrongUnit, Late, Past, Busy, Blocked, FileFull}
 use Rattle.placed_plan.specs.declared.fault.PlaceFault.TheVariants.{Memory}
-use Rattle.placed_plan.proofs.Units.{on_right}
+use Rattle.placed_plan.proofs.GivenUnits.{on_right}
 use Rattle.placed_plan.proofs.OneFault.{plan_or_not, one_plan, one_place_fault}
 
 pub told : (r : Result Plan PlaceFault) (f : PlaceFault) → IsErrAnd r (λ (h : PlaceFault). h ≡ f) → r ≡ Err f
@@ -234,3 +234,46 @@ module _ (g : Graph) (d : Datapath) (places : List Place) (allowed : IsDatapath 
           outs = refl;
         };
       }
+
+  -- What is answered at each place where `plan_at` returns.
+
+  pub at_lines : (r : Result Plan PlaceFault) (f : LineFault)
+      → IsErrAnd r (λ (h : PlaceFault). h ≡ of_line f)
+      → (f ≡ line.Memory) ⊎ IsLineFault g d f
+      → IsAnswer r
+  at_lines r f is why = answers r (of_line f) (told r (of_line f) is) (line_fails f why)
+
+  pub at_count : (l : Lowered)
+      → IsLowered g d l
+      → (r : Result Plan PlaceFault) (f : PlaceFault)
+      → r ≡ Err f
+      → IsMiscounted (length places) (length l.nodes) f
+      → IsAnswer r
+  at_count l low r f same why = answers r f same (inr (count_fails l low f why))
+
+  pub at_units : (l : Lowered)
+      → IsLowered g d l
+      → length places ≡ length l.nodes
+      → (r : Result Plan PlaceFault) (f : PlaceFault)
+      → r ≡ Err f
+      → (f ≡ Memory) ⊎ IsMisplaced places d l f
+      → IsAnswer r
+  at_units l low count r f same why = answers r f same (unit_fails l low count f why)
+
+  module _ (a : Assigned) (low : IsLowered g d a.lowered) (on : AreOnGivenUnits places d a) where
+    pub at_cycles : (r : Result Plan PlaceFault) (f : PlaceFault)
+        → r ≡ Err f
+        → (f ≡ Memory) ⊎ IsUnplaced places d a f
+        → IsAnswer r
+    at_cycles r f same why = answers r f same (cycle_fails a low on f why)
+
+    pub at_registers : (s : Schedule)
+        → IsScheduleAt places d a s
+        → (arcs : List Arc)
+        → IsArcs d a s arcs
+        → (r : Result Plan PlaceFault) (f : FileFault)
+        → IsErrAnd r (λ (h : PlaceFault). h ≡ of_file f)
+        → (f ≡ file.Memory) ⊎ IsFileFault d arcs f
+        → IsAnswer r
+    at_registers s scheduled arcs are r f is why =
+        answers r (of_file f) (told r (of_file f) is) (file_fails a low on s scheduled arcs are f why)
