@@ -26,12 +26,11 @@ fn number(word: &[u8]) -> Option<u32> {
     }
     let mut value: u32 = 0;
     for byte in word {
-        if !byte.is_ascii_digit() {
+        let digit = byte.wrapping_sub(b'0');
+        if u32::from(digit) >= RADIX {
             return None;
         }
-        value = value
-            .checked_mul(RADIX)?
-            .checked_add(u32::from(*byte - b'0'))?;
+        value = value.checked_mul(RADIX)?.checked_add(u32::from(digit))?;
     }
     Some(value)
 }
@@ -46,10 +45,15 @@ fn unit_named(datapath: &Datapath, name: &[u8]) -> Option<u8> {
     None
 }
 
+/// Whether these are the same bytes.
+fn is_word(word: &[u8], expected: &[u8]) -> bool {
+    word == expected
+}
+
 /// A number behind a label, and the rest of the line.
 fn labelled<'a>(line: &'a [u8], label: &[u8]) -> Result<(u32, &'a [u8]), LineCause> {
     let (word, rest) = split_word(line);
-    if word != label {
+    if !is_word(word, label) {
         return Err(LineCause::Form);
     }
     let (word, rest) = split_word(rest);
@@ -62,9 +66,11 @@ fn labelled<'a>(line: &'a [u8], label: &[u8]) -> Result<(u32, &'a [u8]), LineCau
 /// The place behind the number of a node.
 fn place_behind(line: &[u8], datapath: &Datapath) -> Result<Place, LineCause> {
     let (cycle, rest) = labelled(line, b"cycle")?;
-    let cycle = u16::try_from(cycle).map_err(|_| LineCause::Number)?;
+    let Ok(cycle) = u16::try_from(cycle) else {
+        return Err(LineCause::Number);
+    };
     let (word, rest) = split_word(rest);
-    if word != b"unit" {
+    if !is_word(word, b"unit") {
         return Err(LineCause::Form);
     }
     match unit_named(datapath, split_word(rest).0) {
@@ -86,7 +92,7 @@ pub(crate) fn entry_of(
     number: u32,
     at: usize,
 ) -> Result<Option<Entry>, GivenFault> {
-    if split_word(line).0 != b"node" {
+    if !is_word(split_word(line).0, b"node") {
         return Ok(None);
     }
     match placing(line, datapath) {

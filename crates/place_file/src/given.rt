@@ -105,7 +105,8 @@ fn check_entry(
 
 /// The entry of node v.
 fn entry_for(entries: &List<Entry>, index: &List<usize>, v: usize) -> Result<Entry, GivenFault> {
-    match index.get(v).and_then(|k| entries.get(*k)) {
+    let k = index.get(v).copied().unwrap_or(NO_ENTRY);
+    match entries.get(k) {
         Some(entry) => Ok(*entry),
         None => Err(GivenFault::Missing(u32::try_from(v).unwrap_or(u32::MAX))),
     }

@@ -1,7 +1,6 @@
 -- Places come to one plan or to one fault, and not both.
 use Rattle.std.proofs.Common.{◌≡◌, ◌⊎◌, ◌∙◌, inl, inr, ⊎_elim, refl, sym, ap, subst, arith, ℕ, ◌+◌, ◌<◌, ◌≤◌, List, []}
 use Rattle.std.proofs.Common.{length, ext_get_or}
-use Rattle.std.proofs.lemmas.Bool.{cases_lt}
 use Rattle.operations.specs.declared.units.PortRef.{PortRef}
 use Rattle.datapath.specs.Allowed.{IsDatapath}
 use Rattle.datapath.specs.declared.types.Datapath.{Datapath}
@@ -47,7 +46,7 @@ use Rattle.planner.proofs.Asked.{schedulable, allottable}
 use Rattle.planner.proofs.OnePlan.{plan_from}
 use Rattle.placed_plan.specs.Places.{place_of, CanBeOn, AreOnGivenUnits, AtPlace, IsScheduleAt, IsPlanAt}
 use Rattle.placed_plan.specs.Causes.{IsTooWide, IsOnWrongUnit, IsLate, IsPast, IsBusy, IsBlocked}
-use Rattle.placed_plan.specs.Faults.{IsFirstMisplaced, IsFirstUnplaced, LacksPlace, LacksNode, HasMisplacedNode}
+use Rattle.placed_plan.specs.Faults.{IsFirstMisplaced, IsFirstUnplaced, HasMisplacedNode}
 use Rattle.placed_plan.specs.Faults.{HasUnplacedNode, HasUnkeptNode, IsPlaceFault}
 use Rattle.placed_plan.specs.Private.Errors.{of_file}
 use Rattle.placed_plan.specs.declared.place.Place.{Place}
@@ -229,7 +228,6 @@ module _ (g : Graph) (d : Datapath) (places : List Place) (allowed : IsDatapath 
       (subst (λ (n : ℕ). IsFirstFit d.period n q.arcs p.registers.regs) unroll fit) y.placed.registers in
       plan_from p q assigned schedule arcs (ap (λ (rs : List (List ℕ)). record { regs = rs }) regs) unroll
       (x.placed.inputs ∙ sym y.placed.inputs) (x.placed.outs ∙ sym y.placed.outs)
-
 
   -- There is one fault at most.
 

@@ -1,34 +1,24 @@
 -- What `plan_at` answers.
-use Rattle.std.proofs.Common.{◌≡◌, ◌⊎◌, ◌∙◌, inl, inr, ⊎_elim, refl, sym, ap, subst, arith, ℕ, ◌+◌, ◌<◌, ◌≤◌, List}
-use Rattle.std.proofs.Common.{length, ext_get_or, Result, Ok, Err}
+use Rattle.std.proofs.Common.{◌≡◌, ◌⊎◌, ◌∙◌, inl, inr, ⊎_elim, refl, sym, ap, subst, arith, ℕ, List}
+use Rattle.std.proofs.Common.{length, Result, Ok, Err}
 use Rattle.std.specs.Prelude.{IfOk, IfErr, IsErrAnd}
 use Rattle.std.proofs.lemmas.Result.{err_from_is_err_and}
-use Rattle.operations.specs.declared.units.PortRef.{PortRef}
 use Rattle.fix_word.specs.declared.types.SigType.{SigType}
 use Rattle.datapath.specs.Allowed.{IsDatapath}
 use Rattle.datapath.specs.declared.types.Datapath.{Datapath}
 use Rattle.signal_graph.specs.GraphRules.{IsGraph}
 use Rattle.signal_graph.specs.GraphSolves.{IsGraphLoopless}
 use Rattle.signal_graph.specs.declared.graph.Graph.{Graph}
-use Rattle.signal_graph.specs.declared.graph.Node.{Node}
-use Rattle.plan_core.specs.Hardware.{port_of}
-use Rattle.plan_core.specs.Operands.{node_of}
 use Rattle.plan_core.specs.Lowered.{IsLowered}
-use Rattle.plan_core.specs.Reservations.{IsGapApart, IsOneCycle}
-use Rattle.plan_core.specs.ListSchedule.{CanIssue, CanIssueOver, IsListScheduleOver}
 use Rattle.plan_core.specs.Arcs.{IsArcs, IsUnroll}
 use Rattle.plan_core.specs.FirstFit.{IsFirstFit}
-use Rattle.plan_core.specs.Refusals.{IsWithoutCycleOver, IsWithoutRegister}
 use Rattle.plan_core.specs.declared.delay_lines.Lowered.{Lowered}
 use Rattle.plan_core.specs.declared.schedule.Assigned.{Assigned}
 use Rattle.plan_core.specs.declared.schedule.Schedule.{Schedule}
 use Rattle.plan_core.specs.declared.registers.Arc.{Arc}
 use Rattle.plan_core.specs.declared.registers.Registers.{Registers}
 use Rattle.plan_core.specs.declared.plan.Plan.{Plan}
-use Rattle.plan_core.proofs.OneArcs.{one_arcs, one_unroll}
-use Rattle.plan_core.proofs.OneFit.{one_fit}
-use Rattle.plan_core.proofs.OneHeight.{live_of}
-use Rattle.plan_core.proofs.OneSchedule.{one_schedule_over}
+use Rattle.plan_core.proofs.OneArcs.{one_unroll}
 use Rattle.plan_soundness.specs.Units.{IsRouted}
 use Rattle.plan_soundness.specs.Feasible.{IsFeasiblePlan}
 use Rattle.plan_soundness.proofs.Machines.{machine_of}
@@ -36,21 +26,13 @@ use Rattle.plan_soundness.proofs.RunsSolution.{placed_feasible, placed_routed}
 use Rattle.delay_memory.specs.Faults.{IsLineFault}
 use Rattle.delay_memory.specs.declared.fault.LineFault.{LineFault}
 use Rattle.delay_memory.specs.declared.fault.LineFault.TheVariants as line
-use Rattle.delay_memory.proofs.OneFault.{one_lowered, lowered_or_not}
-use Rattle.schedule_priority.specs.Problem.{IsProblem}
-use Rattle.schedule_priority.proofs.Problems.{operand_in}
-use Rattle.list_schedule.proofs.OneFault.{scheduled_not}
-use Rattle.reg_alloc.specs.Allottable.{AreAllottable, AreAllotted}
+use Rattle.reg_alloc.specs.Allottable.{AreAllotted}
 use Rattle.reg_alloc.specs.Faults.{IsFileFault}
 use Rattle.reg_alloc.specs.declared.fault.FileFault.{FileFault}
 use Rattle.reg_alloc.specs.declared.fault.FileFault.TheVariants as file
-use Rattle.reg_alloc.proofs.OneAnswer.{allotted_or_not}
-use Rattle.planner.proofs.Asked.{schedulable, allottable}
-use Rattle.planner.proofs.OnePlan.{plan_from}
-use Rattle.placed_plan.specs.Places.{place_of, CanBeOn, AreOnGivenUnits, AtPlace, IsScheduleAt, IsGiven, IsPlanAt}
+use Rattle.placed_plan.specs.Places.{AreOnGivenUnits, IsScheduleAt, IsGiven, IsPlanAt}
 use Rattle.placed_plan.specs.Places.{IsNarrow}
-use Rattle.placed_plan.specs.Causes.{IsTooWide, IsOnWrongUnit, IsLate, IsPast, IsBusy, IsBlocked}
-use Rattle.placed_plan.specs.Faults.{IsFirstMisplaced, IsFirstUnplaced, HasMisplacedNode, HasUnplacedNode, IsPlaceFault}
+use Rattle.placed_plan.specs.Faults.{IsPlaceFault}
 use Rattle.placed_plan.specs.Private.Errors.{of_line, of_file}
 use Rattle.placed_plan.specs.Private.Units.{IsMiscounted, IsMisplaced}
 use Rattle.placed_plan.specs.Private.Placing.{IsUnplaced}

@@ -8,7 +8,7 @@ use Rattle.plan_core.specs.Reservations.{IsGapApart, IsOneCycle}
 use Rattle.plan_core.specs.ListSchedule.{AreDestinations}
 use Rattle.plan_core.specs.declared.schedule.Assigned.{Assigned}
 use Rattle.plan_core.specs.declared.schedule.Slot.{Slot}
-use Rattle.bus_alloc.specs.Table.{Reservations, FitsAtOver}
+use Rattle.bus_alloc.specs.Table.{FitsAtOver}
 use Rattle.list_schedule.specs.Placing.{IsReadyAt, HasTableOf, PlacesOver, ArePlacedOver}
 use Rattle.placed_plan.specs.Places.{place_of, AtPlace}
 use Rattle.placed_plan.specs.Causes.{IsLate, IsPast, IsBusy, IsBlocked}

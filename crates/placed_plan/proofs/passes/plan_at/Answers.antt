@@ -1,4 +1,4 @@
-use Rattle.std.proofs.Common.{◌≡◌, ◌∙◌, arith, rules, length, Err}
+use Rattle.std.proofs.Common.{◌∙◌, arith, rules}
 use Rattle.delay_memory.proofs.LoweredNodes.{node_count}
 use Rattle.planner.proofs.Asked.{schedulable, held, allottable}
 use Rattle.planner.proofs.Answers.{bound}
@@ -24,9 +24,9 @@ schedule_at-requires-clause-problem c =
     record {
       path = c.requires.datapath;
       schedulable = schedulable c.args.graph c.args.datapath.now c.requires.sound (bound c.in_ok-lowered.lowered c.in_ok-units.units)
-    c.in_ok-lowered.ensures.lowered c.requires.loopless (on_right c.args.places.now c.args.datapath.now (bound c.in_ok-lowered.lowered c.in_ok-units.units)
-    (on_given c.args.places.now c.args.datapath.now (bound c.in_ok-lowered.lowered c.in_ok-units.units) (omega (arith, c.in_ok-check_count.ensures.same))
-    c.in_ok-units.ensures.count c.in_ok-units.ensures.units));
+          c.in_ok-lowered.ensures.lowered c.requires.loopless (on_right c.args.places.now c.args.datapath.now (bound c.in_ok-lowered.lowered c.in_ok-units.units)
+          (on_given c.args.places.now c.args.datapath.now (bound c.in_ok-lowered.lowered c.in_ok-units.units) (omega (arith, c.in_ok-check_count.ensures.same))
+          c.in_ok-units.ensures.count c.in_ok-units.ensures.units));
     }
 
 pub arcs-requires-clause-held : goal.arcs-requires-clause-held
@@ -229,4 +229,3 @@ returns-clause-refused c =
     c.unroll-unroll.result c.in_ok-registers.registers c.in_ok-inputs.inputs
     (unrolled c.as_slice-2.result.now c.in_ok-arcs.arcs c.unroll-unroll.result c.as_slice-2.ensures
     c.unroll-unroll.ensures) c.in_ok-registers.ensures.registers (c.in_ok-inputs.ensures ∙ c.as_slice.ensures))).refused
-
