@@ -25,11 +25,7 @@ pub struct Given {
 const NO_ENTRY: usize = usize::MAX;
 
 /// What the lines say.
-fn entries_of(
-    alloc: Global,
-    text: &[u8],
-    datapath: &Datapath,
-) -> Result<List<Entry>, GivenFault> {
+fn entries_of(alloc: Global, text: &[u8], datapath: &Datapath) -> Result<List<Entry>, GivenFault> {
     let mut entries = List::new(alloc);
     let mut line: u32 = 0;
     for at in 0..text.len() {
