@@ -1,0 +1,2 @@
+pub mod HostDesk
+pub mod Streams

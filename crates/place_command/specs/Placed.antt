@@ -1,0 +1,68 @@
+-- What `silc_place SRC DP PLAN OUT` writes: microcode of the plan that has the places that PLAN gives.
+use Rattle.std.specs.Prelude.{◌≡◌, ◌≢◌, ◌≤◌, ℕ, List, length, map}
+use Rattle.desk_core.specs.View.{Name, Content, Files}
+use Rattle.desk_core.specs.Desk.{content_of}
+use Rattle.datapath.specs.declared.types.Datapath.{Datapath}
+use Rattle.front_end.specs.GraphOf.{IsProgramGraph}
+use Rattle.micro_image.specs.declared.image.Image.{Image}
+use Rattle.plan_core.specs.declared.plan.Plan.{Plan}
+use Rattle.plan_soundness.specs.ImageOf.{IsImageOf, width_of}
+use Rattle.plan_soundness.specs.Units.{IsRouted}
+use Rattle.placed_plan.specs.Places.{IsPlanAt, IsGiven, IsNarrow}
+use Rattle.placed_plan.specs.declared.place.Place.{Place}
+use Rattle.place_file.specs.Given.{GivesPlaces}
+use Rattle.silage_meaning.specs.Solves.{input_types, output_types}
+use Rattle.silage_syntax.specs.Tree.{Program}
+use Rattle.silc_files.specs.Limits.{microcode_limit}
+use Rattle.statuses.specs.declared.status.Status.TheVariants.{Done, Desk}
+use Rattle.plan_commands.specs.Compile.{IsDoneOf}
+use Rattle.plan_commands.specs.Headline.{SpellsOnly, RunsTheSolution}
+use Rattle.plan_commands.specs.Plans.{IsPlannedOverBy}
+use Rattle.place_command.specs.declared.ending.PlaceEnding.{PlaceEnding}
+use Rattle.place_command.specs.declared.ending.PlaceEnding.TheVariants.{Told, Refused}
+
+-- The program of the source has a plan over the datapath of the file, in which each node stands where a line of the text
+-- says. The microcode spells the image of that plan in version 2 and nothing else, and that image runs the program's
+-- one solution in the datapath's period.
+pub record IsPlaced (source datapath text microcode : List ℕ) : Type 0 where
+  pub program : Program
+  pub path : Datapath
+  pub places : List Place
+  pub gives : GivesPlaces path text places
+  pub plan : Plan
+  pub planned : IsPlannedOverBy IsProgramGraph (IsPlanAt places) source datapath program path plan
+  pub given : IsGiven places plan
+  pub routed : IsRouted path plan
+  pub narrow : IsNarrow path plan
+  pub image : Image
+  pub image_of : IsImageOf path plan image
+  pub spelled : SpellsOnly microcode image
+  -- so that every command reads it
+  pub short : length microcode ≤ microcode_limit
+  pub inputs : image.inputs ≡ map width_of (input_types program)
+  pub outs : image.outs ≡ length (output_types program)
+  pub runs : RunsTheSolution program image
+  pub period : image.period ≡ path.period
+
+-- so it is of the source, the datapath and the plan in the files
+abbrev pub ArePlaced : Name → Name → Name → Content → Files → Type 0
+ArePlaced src datapath plan microcode files =
+    IsPlaced (content_of (files src)) (content_of (files datapath)) (content_of (files plan)) microcode
+
+-- OUT has microcode of the plan that PLAN's lines give, and every other file is as it was
+abbrev pub HasThePlan : (src datapath plan out : Name) → (before after : Files) → Type 0
+HasThePlan src datapath plan = IsDoneOf (ArePlaced src datapath plan)
+
+-- all was read, and OUT written
+abbrev pub IsDone : PlaceEnding → Type 0
+IsDone (Told ending) = ending.status ≡ Done
+IsDone (Refused refusal) = ⊥
+
+-- it is an error
+abbrev pub IsError : PlaceEnding → Type 0
+IsError ending = IsDone ending → ⊥
+
+-- it ended before OUT was begun
+abbrev pub IsUnmade : PlaceEnding → Type 0
+IsUnmade (Told ending) = (ending.status ≢ Done) × (ending.status ≢ Desk)
+IsUnmade (Refused refusal) = Unit {0}

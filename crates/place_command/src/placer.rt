@@ -1,0 +1,152 @@
+//! From files to microcode.
+
+ghost use Rattle.std.specs.Prelude.{◌≡◌, ◌≢◌, [], ◌∷◌, IfOk, IfErr};
+ghost use Rattle.datapath.specs.Allowed.{IsDatapath};
+ghost use Rattle.desk_core.specs.Desk.{FaultsNeverFall, IfSpecified};
+ghost use Rattle.desk_core.specs.Whole.{IsUnchangedButInput};
+ghost use Rattle.signal_graph.specs.GraphRules.{IsGraph};
+ghost use Rattle.signal_graph.specs.GraphSolves.{IsGraphLoopless};
+ghost use Rattle.microcode_asm.specs.Planned.{IsAssemblable};
+ghost use Rattle.placed_plan.specs.Places.{IsPlanAt};
+ghost use Rattle.silc_files.specs.Endings.{IsAmong, UsesOnly};
+ghost use Rattle.silc_files.specs.Reading.{OnlyReads};
+ghost use Rattle.plan_commands.specs.Compile.{HasTheSolution};
+ghost use Rattle.plan_commands.specs.Compiling.{IsMadeOf};
+ghost use Rattle.place_command.specs.Placed.{ArePlaced, HasThePlan, IsDone, IsError, IsUnmade};
+ghost use Rattle.place_command.specs.Private.Placing.{AreGivenIn, IsInputPlacing, IsFeasibleMicrocode};
+ghost use Rattle.statuses.specs.declared.status.Status.TheVariants.{Memory};
+
+use crate::ending::{PlaceEnding, Refusal, misplaced, ungiven};
+use datapath::Datapath;
+use desk_core::{Desk, write_whole};
+use lists::{Bytes, List};
+use micro_file::encode;
+use microcode_asm::assemble_feasible;
+use place_file::{Given, places_in};
+use placed_plan::{Place, plan_at};
+use plan_commands::{Inputs, datapath_in, read_inputs, source_in};
+use plan_core::Plan;
+use signal_graph::Graph;
+use silc_files::{Input, read_input};
+use statuses::Status;
+use std::alloc::Global;
+
+/// A plan, its datapath, and the places that were given for it.
+#[derive(Drop)]
+pub(crate) struct Placed {
+    pub plan: Plan,
+    pub path: Datapath,
+    pub places: List<Place>,
+}
+
+/// The places that the input gives.
+fn given_in(alloc: Global, text: &Input, path: &Datapath) -> Result<Given, PlaceEnding>
+    ensures gives { IfOk result (λ given. AreGivenIn text.now path.now given.places) }
+    ensures err { IfErr result IsError }
+{
+    match text {
+        Input::Whole(bytes) => match places_in(alloc, bytes.as_slice(), path) {
+            Ok(given) => Ok(given),
+            Err(fault) => Err(ungiven(fault)),
+        },
+        Input::TooLong => Err(PlaceEnding::Refused(Refusal::TooLong)),
+    }
+}
+
+/// The plan of a graph with the places that the input gives.
+fn placed_over(
+    alloc: Global,
+    graph: Graph,
+    path: Datapath,
+    text: &Input,
+) -> Result<Placed, PlaceEnding>
+    requires sound { IsGraph graph }
+    requires loopless { IsGraphLoopless graph }
+    requires path { IsDatapath path }
+    ensures path { IfOk result (λ placed. placed.path ≡ path) }
+    ensures plan { IfOk result (λ placed. IsPlanAt placed.places graph path placed.plan) }
+    ensures gives { IfOk result (λ placed. AreGivenIn text.now placed.path placed.places) }
+    ensures err { IfErr result IsError }
+{
+    let given = given_in(alloc, text, &path)?;
+    match plan_at(alloc, graph, given.places.as_slice(), &path) {
+        Ok(plan) => Ok(Placed {
+            plan,
+            path,
+            places: given.places,
+        }),
+        Err(fault) => Err(misplaced(fault, given.lines.as_slice())),
+    }
+}
+
+/// The plan of the inputs with the places that the text gives.
+fn placed_of(alloc: Global, inputs: &Inputs, text: &Input) -> Result<Placed, PlaceEnding>
+    ensures ok { IfOk result (IsInputPlacing inputs.now text.now) }
+    ensures err { IfErr result IsError }
+{
+    let accepted = source_in(alloc, &inputs.source)?;
+    let path = datapath_in(alloc, &inputs.datapath)?;
+    placed_over(alloc, accepted.graph, path, text)
+}
+
+/// The microcode of a plan.
+fn microcode_of(alloc: Global, placed: &Placed) -> Result<Bytes, Status>
+    requires path { IsDatapath placed.now.path }
+    requires plan { IsAssemblable placed.now.path placed.now.plan }
+    ensures ok { IfOk result (IsFeasibleMicrocode placed.now.path placed.now.plan) }
+    ensures err { IfErr result (λ status. status ≡ Memory) }
+{
+    let image = assemble_feasible(alloc, &placed.plan, &placed.path)?;
+    Ok(encode(alloc, &image)?)
+}
+
+/// Reads the source, the datapath and the plan, and then makes the microcode.
+fn make<D: Desk>(
+    alloc: Global,
+    desk: &mut D,
+    source: &str,
+    datapath: &str,
+    plan: &str,
+) -> Result<Bytes, PlaceEnding>
+    ensures reads { OnlyReads (IsAmong (source.now ∷ datapath.now ∷ plan.now ∷ [])) (D.view desk.old)
+        (D.view desk.new) }
+    ensures ok { IfOk result (IsMadeOf (ArePlaced source.now datapath.now plan.now) plan.now (D.view desk.old)
+        (D.view desk.new)) }
+    ensures err { IfErr result IsError }
+{
+    let inputs = read_inputs(alloc, desk, source, datapath)?;
+    let text = read_input(alloc, desk, plan)?;
+    let placed = placed_of(alloc, &inputs, &text)?;
+    Ok(microcode_of(alloc, &placed)?)
+}
+
+/// Reads a source, a datapath and a plan, and writes to OUT the microcode of the plan that has the units and the cycles of
+/// the given one. All three are read before one is judged: first the source, then the datapath, then the plan.
+pub fn place<D: Desk>(
+    alloc: Global,
+    desk: &mut D,
+    source: &str,
+    datapath: &str,
+    plan: &str,
+    output: &str,
+) -> PlaceEnding
+    requires { output.now ≢ plan.now }
+    ensures faults { FaultsNeverFall (D.view desk.old) (D.view desk.new) }
+    // What is written where it is done: the solution of the source, as microcode of the plan that is given.
+    ensures headline { IsDone result → IfSpecified (HasTheSolution source.now datapath.now output.now)
+        (D.view desk.old).files (D.view desk.new).files }
+    ensures placed { IsDone result → IfSpecified (HasThePlan source.now datapath.now plan.now output.now)
+        (D.view desk.old).files (D.view desk.new).files }
+    // Where it is refused, OUT is not made.
+    ensures unmade { IsUnmade result → IsUnchangedButInput (D.view desk.old) (D.view desk.new) }
+    ensures only { UsesOnly (IsAmong (source.now ∷ datapath.now ∷ plan.now ∷ [])) output.now
+        (D.view desk.old) (D.view desk.new) }
+{
+    match make(alloc, desk, source, datapath, plan) {
+        Ok(microcode) => match write_whole(desk, output, &microcode) {
+            Ok(()) => PlaceEnding::from(Status::Done),
+            Err(_) => PlaceEnding::from(Status::Desk),
+        },
+        Err(ending) => ending,
+    }
+}

@@ -1,0 +1,4 @@
+pub mod Placings
+pub mod GivenUnits
+pub mod OneFault
+pub mod PlansAt

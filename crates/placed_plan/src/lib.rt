@@ -1,0 +1,13 @@
+//! Plans with units and cycles that are given, by whatever planner: their buses, lifetimes and registers are found, or
+//! the first node that cannot stand at its place is reported. Page `docs/PLANNING.md`, "Plans from elsewhere".
+#![tactic(auto)]
+
+mod fault;
+mod passes;
+mod place;
+mod placing;
+mod units;
+
+pub use fault::PlaceFault;
+pub use passes::plan_at;
+pub use place::Place;

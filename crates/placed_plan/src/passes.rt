@@ -1,0 +1,100 @@
+//! The passes of a plan with places that are given, in their order.
+
+ghost use Rattle.std.specs.Prelude.{◌≡◌, ◌⊎◌, ◌^◌, ◌<◌, length, Ok, Err, IfOk, IfErr, OnOk};
+ghost use Rattle.datapath.specs.Allowed.{IsDatapath};
+ghost use Rattle.signal_graph.specs.GraphRules.{IsGraph};
+ghost use Rattle.signal_graph.specs.GraphSolves.{IsGraphLoopless};
+ghost use Rattle.plan_core.specs.declared.plan.Plan as of_plan;
+ghost use Rattle.plan_soundness.specs.Units.{IsRouted};
+ghost use Rattle.plan_soundness.specs.Feasible.{IsFeasiblePlan};
+ghost use Rattle.placed_plan.specs.Places.{IsPlanAt, IsGiven, IsNarrow};
+ghost use Rattle.placed_plan.specs.Faults.{IsPlaceFault};
+ghost use Rattle.placed_plan.specs.Private.Units.{IsMiscounted};
+ghost use Rattle.placed_plan.specs.declared.fault.PlaceFault as of_fault;
+ghost use Rattle.placed_plan.specs.declared.fault.PlaceFault.TheVariants.{Memory};
+
+use crate::fault::PlaceFault;
+use crate::place::Place;
+use crate::placing::schedule_at;
+use crate::units::units_of;
+use cyclic_life::arcs;
+use datapath::Datapath;
+use delay_memory::lower_owned;
+use lists::List;
+use plan_core::{Assigned, Plan};
+use reg_alloc::{allot, unroll};
+use schedule_priority::Problem;
+use signal_graph::Graph;
+use std::alloc::Global;
+
+/// Refuses places that are not as many as the nodes.
+fn check_count(nodes: usize, places: usize) -> Result<(), PlaceFault>
+    requires { nodes < 2 ^ 32 }
+    ensures same { OnOk result (places ≡ nodes) }
+    ensures fault { IfErr result (IsMiscounted places nodes) }
+{
+    if places < nodes {
+        return Err(PlaceFault::Missing(places as u32));
+    }
+    if nodes < places {
+        return Err(PlaceFault::Surplus(nodes as u32));
+    }
+    Ok(())
+}
+
+/// Plans a graph with the units and cycles that are given: node v of the lowered list has place v. Its delay lines,
+/// buses, lifetimes and registers are found. Page `docs/PLANNING.md`, "Plans from elsewhere".
+///
+/// # Errors
+///
+/// `Line` where a node needs a delay line and gets none; else `Missing` or `Surplus` where the places are not as many as
+/// the nodes; else `TooWide` or `WrongUnit` at the first node that cannot be on its unit; else `Late`, `Past`, `Busy` or
+/// `Blocked` at the first node, in the order in which nodes are placed, that cannot be issued in its cycle; else
+/// `FileFull` where a copy of a lifetime has no register. `Memory` where no memory is left.
+pub fn plan_at(
+    alloc: Global,
+    graph: Graph,
+    places: &[Place],
+    datapath: &Datapath,
+) -> Result<Plan, PlaceFault>
+    requires datapath { IsDatapath datapath.now }
+    requires sound { IsGraph graph }
+    requires loopless { IsGraphLoopless graph }
+    ensures plan { IfOk result (IsPlanAt places.now graph datapath.now) }
+    // It is feasible, whatever rule the places follow, and each transfer and each word fits the processor.
+    ensures feasible { IfOk result (IsFeasiblePlan graph datapath.now) }
+    ensures routed { IfOk result (IsRouted datapath.now) }
+    ensures narrow { IfOk result (IsNarrow datapath.now) }
+    ensures given { IfOk result (IsGiven places.now) }
+    ensures fault { IfErr result (λ fault. (fault ≡ Memory) ⊎ IsPlaceFault graph datapath.now places.now fault) }
+    // The one plan is always found, unless memory runs out.
+    ensures found { (p : of_plan.Plan) → IsPlanAt places.now graph datapath.now p
+        → (result ≡ Ok p) ⊎ (result ≡ Err Memory) }
+    // So is the first fault.
+    ensures refused { (fault : of_fault.PlaceFault) → IsPlaceFault graph datapath.now places.now fault
+        → (result ≡ Err fault) ⊎ (result ≡ Err Memory) }
+{
+    let inputs = List::from_slice(alloc, graph.inputs.as_slice())?;
+    let outs = graph.outs;
+    let lowered = lower_owned(alloc, graph, datapath)?;
+    check_count(lowered.nodes.len(), places.len())?;
+    let units = units_of(alloc, &lowered, places, datapath)?;
+    let assigned = Assigned { lowered, units };
+    let problem = Problem {
+        datapath,
+        assigned: &assigned,
+    };
+    let schedule = schedule_at(alloc, &problem, places)?;
+    let arcs = arcs(alloc, &schedule, &assigned, datapath)?;
+    let unroll = unroll(arcs.as_slice());
+    let registers = allot(alloc, &arcs, datapath)?;
+    Ok(Plan {
+        assigned,
+        schedule,
+        arcs,
+        registers,
+        unroll,
+        inputs,
+        outs,
+    })
+}

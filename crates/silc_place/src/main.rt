@@ -1,0 +1,90 @@
+//! The program `silc_place` over the host's files and standard streams.
+#![tactic(auto)]
+
+use host_desk::HostDesk;
+use place_command::{PlaceEnding, code, place, report};
+use statuses::Status;
+use std::env;
+use std::io::{self, ErrorKind};
+use std::process::ExitCode;
+
+const HELP: &str = "silc_place compiles SRC for the datapath DP with the units and cycles that PLAN gives.
+
+usage: silc_place SRC DP PLAN OUT    writes the microcode of that plan to OUT
+       silc_place --help | --version
+
+PLAN is what 'silc schedule SRC DP' prints, or any text that has for each node a line as
+node 3 cycle 5 unit alu
+with more behind it or not. Lines that do not begin with 'node' give no place. What wrote PLAN is not
+trusted: where OUT is written, it is the solution of SRC, and each node stands where PLAN says.
+
+The exit code is that of 'silc compile SRC DP OUT', and 16 where PLAN gives no plan. An error is reported
+in one line on standard error, and no OUT is made then, except where it can't be written.";
+
+const VERSION: &str = "silc_place 0.1.0";
+
+/// The words of the command, after the program's name.
+fn words<R: std::rt::Env + AllocGlobal>(rt: &R) -> io::Result<Vec<String>> {
+    let mut words = Vec::new(rt.alloc());
+    for word in env::args(rt)?.skip(1) {
+        words.push(word)?;
+    }
+    Ok(words)
+}
+
+/// What the program says of itself, where that is all that it is asked.
+fn about(words: &[String]) -> Option<&'static str> {
+    match words {
+        [word] if word.as_str() == "--help" => Some(HELP),
+        [word] if word.as_str() == "--version" => Some(VERSION),
+        _ => None,
+    }
+}
+
+/// The status where the words could not be had: one that is not UTF-8 is no word of a command.
+fn unread(error: &io::Error) -> Status {
+    if error.kind() == ErrorKind::OutOfMemory {
+        Status::Memory
+    } else {
+        Status::Words
+    }
+}
+
+/// Carries out the command that the words are. An output that is an input is none.
+fn carry_out(rt: HostRuntime, words: &[String]) -> ExitCode {
+    let alloc = rt.alloc();
+    let mut desk = HostDesk::new(rt);
+    let ending = match words {
+        [source, datapath, plan, output]
+            if output != plan && output != source && output != datapath =>
+        {
+            place(alloc, &mut desk, source, datapath, plan, output)
+        }
+        _ => PlaceEnding::from(Status::Words),
+    };
+    let code = code(&ending);
+    if code > 0 {
+        report(&mut desk, &ending);
+    }
+    ExitCode::from(code)
+}
+
+/// Reports why the program did not do what it was asked, in one line. What can't be written there is lost.
+fn refused(rt: &HostRuntime, status: Status) -> ExitCode {
+    let _ = eprintln!(rt; "silc_place: {status}");
+    ExitCode::from(statuses::code(&status))
+}
+
+fn main(rt: HostRuntime) -> ExitCode {
+    let words = match words(&rt) {
+        Ok(words) => words,
+        Err(error) => return refused(&rt, unread(&error)),
+    };
+    if let Some(text) = about(&words) {
+        return match println!(rt; "{text}") {
+            Ok(()) => ExitCode::SUCCESS,
+            Err(_) => refused(&rt, Status::Desk),
+        };
+    }
+    carry_out(rt, &words)
+}
