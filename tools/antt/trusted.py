@@ -341,7 +341,7 @@ as `List`, `≡` and `slice_get`,{kit}: `rt lemma NAME` prints one.
 write files by name; `D.view desk.old` and `D.view desk.new` are its state before and after the call, and their \
 `files` all files with their bytes. What each call does to them is the trait's contract. An environment may leave its \
 files unspecified (`None`), and then the clause says nothing of them. The environment in memory, `MemDesk`, always \
-specifies them. That of the program, `HostDesk` of `crates/silc_main`, never does, since another process may change a \
+specifies them. That of the program, `HostDesk` of `crates/host_desk`, never does, since another process may change a \
 file between two calls: that the host's files act like those in memory is trusted.
 
 **What this clause leaves to the clause `planned`** of the same call: that the source breaks no rule on names, \

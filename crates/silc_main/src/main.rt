@@ -1,10 +1,7 @@
 //! The program `silc` over the host's files and standard streams.
 #![tactic(auto)]
 
-mod host;
-mod streams;
-
-use host::HostDesk;
+use host_desk::HostDesk;
 use silc::{Kept, Status, code, silc};
 use std::env;
 use std::io::{self, ErrorKind};

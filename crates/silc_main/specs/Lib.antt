@@ -1,2 +1,0 @@
-pub mod HostDesk
-pub mod Streams
