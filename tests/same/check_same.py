@@ -1,0 +1,199 @@
+#!/usr/bin/env python3
+"""What `silc_same` says of microcode beside a source.
+
+usage: tests/same/check_same.py [--silc PROGRAM] [--changes N]
+
+The microcode that `silc compile` makes of each example on each of its datapaths passes, in both versions of the file.
+Of each of them N files with one bit changed are tried, 20 where no number is given: one that is still some microcode is
+refused in a line that says `not shown`, or puts the rows of the example on its samples. Microcode of another example is
+refused, and so is a source or a file that is none, each in its line. Where `silc` or `silc_same` is not built, it is
+skipped with 77. The last line is 'N passed, M failed'.
+"""
+import os
+import random
+import subprocess
+import sys
+import tempfile
+from collections import Counter
+from collections.abc import Callable, Iterator
+from pathlib import Path
+from typing import TypeAlias
+
+from silc import micro_file
+
+# A check, which is given a folder.
+Check: TypeAlias = Callable[[Path], None]
+
+HERE = Path(__file__).resolve().parent
+ROOT = HERE.parent.parent
+SILC = ROOT / "crates" / "silc_main" / "out" / "silc_main"
+SAME = Path(os.environ.get("SILC_SAME") or ROOT / "crates" / "silc_same" / "out" / "silc_same")
+CHANGES, ROWS, SKIPPED = 20, 200, 77
+
+
+class Wrong(Exception):
+    """What is otherwise than it has to be."""
+
+
+def ended(folder: Path, *words: object) -> tuple[int, str]:
+    """How a program ends that prints nothing but errors, and the line of its error."""
+    done = subprocess.run([*map(str, words)], cwd=folder, stdin=subprocess.DEVNULL, capture_output=True, text=True)
+    if done.stdout:
+        raise Wrong(f"{Path(str(words[0])).name} prints {done.stdout[:80]!r}")
+    return done.returncode, done.stderr
+
+
+def is_same(folder: Path, source: Path, microcode: str) -> bool:
+    """Whether the microcode is shown to run the source. Where it is not, one line says so."""
+    status, line = ended(folder, SAME, source, microcode)
+    if status == 0 and not line:
+        return True
+    if status == 1 and line.startswith(f"silc_same: {microcode}: not shown: ") and line.count("\n") == 1:
+        return False
+    raise Wrong(f"silc_same ends with {status}: {line!r}")
+
+
+def rows_of(silc: Path, folder: Path, microcode: str) -> str | None:
+    """The rows that microcode puts, or nothing where it meets a conflict or takes other samples."""
+    status, _ = ended(folder, silc, "sim", microcode, "samples", "rows")
+    return (folder / "rows").read_text() if status == 0 else None
+
+
+def first_lines(file: Path) -> str:
+    return "".join(file.read_text().splitlines(keepends=True)[:ROWS])
+
+
+def changed(rng: random.Random, data: bytes) -> bytes | None:
+    """The bytes with one bit changed, where they are still some microcode and no other file of the same."""
+    bit = rng.randrange(40, 8 * len(data))
+    flipped = bytearray(data)
+    flipped[bit >> 3] ^= 1 << (bit & 7)
+    try:
+        micro_file.image_of(bytes(flipped))
+    except micro_file.BadImage:
+        return None
+    return bytes(flipped)
+
+
+def check_changes(silc: Path, folder: Path, source: Path, changes: int, told: Counter) -> None:
+    """Files with one bit changed."""
+    example = source.parent
+    data = (folder / "packed").read_bytes()
+    (folder / "samples").write_text(first_lines(example / "samples.txt"))
+    rows = first_lines(example / "expected.txt")
+    if rows_of(silc, folder, "packed") != rows:
+        raise Wrong("the rows of its microcode are others")
+    rng, tried = random.Random(f"{source.name} {len(data)}"), 0
+    while tried < changes:
+        other = changed(rng, data)
+        if other is None:
+            continue
+        tried += 1
+        (folder / "changed").write_bytes(other)
+        if not is_same(folder, source, "changed"):
+            told["refused"] += 1
+            continue
+        told["passed"] += 1
+        if rows_of(silc, folder, "changed") != rows:
+            raise Wrong(f"change {tried} passes, and puts other rows")
+
+
+def check_example(silc: Path, folder: Path, source: Path, datapath: Path, changes: int, told: Counter) -> None:
+    """The microcode of an example in both versions, and files with one bit changed."""
+    status, line = ended(folder, silc, "compile", source, datapath, "packed")
+    if status:
+        raise Wrong(f"it is not compiled: {line}")
+    image = micro_file.image_of((folder / "packed").read_bytes())
+    (folder / "bytes").write_bytes(micro_file.bytes_of(image, 1))
+    for microcode in ("packed", "bytes"):
+        status, line = ended(folder, SAME, source, microcode)
+        if status or line:
+            raise Wrong(f"{microcode}: {line}")
+    if (source.parent / "samples.txt").exists():
+        check_changes(silc, folder, source, changes, told)
+
+
+def check_others(silc: Path, folder: Path, examples: list[tuple[Path, Path]]) -> None:
+    """The microcode of each example beside the source of the next."""
+    sources = sorted({source for source, _ in examples})
+    of = dict(examples)
+    for source, other in zip(sources, sources[1:] + sources[:1]):
+        ended(folder, silc, "compile", other, of[other], "other")
+        if is_same(folder, source, "other"):
+            raise Wrong(f"the microcode of {other.name} passes for {source.name}")
+
+
+def check_line(folder: Path, words: list[str], status: int, line: str) -> None:
+    (folder / "good").write_text("func main(x : fix<8,0>) y : fix<8,0> = begin y = x + 1; end;")
+    (folder / "bad").write_text("func main(x : fix<8,0>) y : fix<8,0> =\nbegin y = z; end;")
+    (folder / "short").write_bytes(micro_file.image.MAGIC)
+    said = ended(folder, SAME, *words)
+    if said != (status, f"{line}\n"):
+        raise Wrong(f"silc_same {' '.join(words)} ends with {said}")
+
+
+def lines() -> Iterator[tuple[list[str], int, str]]:
+    """Words, and how `silc_same` ends with them."""
+    for words in ([], ["good"], ["good", "short", "more"]):
+        yield words, 2, "usage: silc_same SRC MIC"
+    yield ["bad", "short"], 1, "silc_same: bad: line 2: unknown name"
+    yield ["good", "short"], 1, "silc_same: short: short at 4"
+    yield ["good", "bad"], 1, "silc_same: bad: bad magic"
+    yield ["absent", "short"], 1, "silc_same: absent can't be read"
+    yield ["good", "absent"], 1, "silc_same: absent can't be read"
+
+
+def examples() -> list[tuple[Path, Path]]:
+    """The sources of examples of one program, each with each of its datapaths."""
+    found = [(datapath.with_name(f"{datapath.parent.name}.sil"), datapath)
+             for datapath in sorted((ROOT / "examples").glob("*/*.toml"))]
+    return [(source, datapath) for source, datapath in found if source.is_file()]
+
+
+def checks(silc: Path, changes: int, told: Counter) -> Iterator[tuple[str, Check]]:
+    """Each check by its name."""
+    for words, status, line in lines():
+        yield f"silc_same {' '.join(words)}", lambda folder, one=(words, status, line): check_line(folder, *one)
+    for pair in examples():
+        yield str(pair[1].relative_to(ROOT)), \
+            lambda folder, pair=pair: check_example(silc, folder, *pair, changes, told)
+    yield "the microcode of other examples", lambda folder: check_others(silc, folder, examples())
+
+
+def options(words: list[str]) -> tuple[Path, int] | None:
+    """The program `silc`, and how many changes of each file are tried."""
+    given = dict(zip(words[::2], words[1::2]))
+    changes = given.pop("--changes", str(CHANGES))
+    silc = given.pop("--silc", os.environ.get("SILC") or str(SILC))
+    if given or len(words) % 2 or not changes.isdecimal():
+        return None
+    return Path(silc).resolve(), int(changes)
+
+
+def main(words: list[str]) -> int:
+    asked = options(words)
+    if asked is None:
+        print(__doc__, file=sys.stderr)
+        return 2
+    silc, changes = asked
+    for program in (silc, SAME):
+        if not os.access(program, os.X_OK):
+            print(f"check_same: skipped: there is no program {program}; `tools/build silc_main silc_same` builds it")
+            return SKIPPED
+    told: Counter = Counter()
+    passed = failed = 0
+    for name, check in checks(silc, changes, told):
+        with tempfile.TemporaryDirectory(prefix="silc-same-") as folder:
+            try:
+                check(Path(folder))
+                passed += 1
+            except Wrong as why:
+                failed += 1
+                print(f"{name}: {why}", flush=True)
+    print(f"of the files with one bit changed {told['refused']} are refused, and {told['passed']} put the same rows")
+    print(f"{passed} passed, {failed} failed")
+    return 1 if failed or not passed else 0
+
+
+if __name__ == "__main__":
+    sys.exit(main(sys.argv[1:]))
