@@ -1,5 +1,5 @@
 -- An image that runs the graph of a program runs the source that has that program.
-use Rattle.std.proofs.Common.{◌∙◌, ap, map, List, ℕ}
+use Rattle.std.proofs.Common.{◌∙◌, ap, map, List, ℕ, Result, Ok, Err, OnOk}
 use Rattle.loop_expand.specs.GraphFor.{IsGraphFor}
 use Rattle.micro_image.specs.declared.image.Image.{Image}
 use Rattle.plan_commands.proofs.Compiled.{runs_the_solution}
@@ -10,7 +10,12 @@ use Rattle.source_faults.specs.Faults.{HasProgram}
 use Rattle.same_source.specs.Same.{IsOnlyImage, RunsSource, IsSource, IsMicrocode, IsRefusal}
 use Rattle.same_source.specs.Private.Image.{RunsGraph, IsGraphRefusal}
 use Rattle.same_source.specs.declared.refusal.Refusal.{Refusal}
-use Rattle.same_source.specs.declared.refusal.Refusal.TheVariants.{OtherWords, NotShown, Memory}
+use Rattle.same_source.specs.declared.refusal.Refusal.TheVariants.{Source, TooLong, Microcode, OtherWords}
+use Rattle.same_source.specs.declared.refusal.Refusal.TheVariants.{NotShown, Memory}
+
+pub on_ok : {A E P Q : Type 0} (r : Result A E) → (P → Q) → OnOk r P → OnOk r Q
+on_ok (Ok x) f h = f h
+on_ok (Err e) f h = tt
 
 module _ (source microcode : List ℕ) (p : Program) (g : Graph) (image : Image)
     (program : HasProgram source p) (graph : IsGraphFor p g) (spelled : IsOnlyImage microcode image) where
@@ -28,6 +33,9 @@ module _ (source microcode : List ℕ) (p : Program) (g : Graph) (image : Image)
   }
 
   pub graph_refusal : (refusal : Refusal) → IsGraphRefusal refusal → IsRefusal source microcode refusal
+  graph_refusal (Source line fault) is = absurd is
+  graph_refusal TooLong is = absurd is
+  graph_refusal (Microcode fault) is = absurd is
   graph_refusal OtherWords is = ((p, program), (image, spelled.spells))
   graph_refusal (NotShown mismatch) is = ((p, program), (image, spelled.spells))
   graph_refusal Memory is = is

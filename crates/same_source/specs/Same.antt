@@ -41,7 +41,7 @@ pub record RunsSource (source microcode : List ℕ) : Type 0 where
 
 -- the source has the fault, in this line
 pub record HasFaultIn (source : List ℕ) (line : Option ℕ) (fault : FrontFault) : Type 0 where
-  pub fault : IsFrontFault source fault
+  pub first : IsFrontFault source fault
   pub rejection : Rejection
   pub is : rejection.error ≡ Fault fault
   pub in_line : rejection.line ≡ line

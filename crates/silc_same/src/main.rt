@@ -21,10 +21,12 @@ fn compare<R: Files + AllocGlobal>(rt: &R, source: &str, microcode: &str) -> Res
     let microcode_bytes = read(rt, microcode)?;
     match runs_source(rt.alloc(), &source_bytes, &microcode_bytes) {
         Ok(()) => Ok(()),
-        Err(Refusal::Source {
-            line: Some(line),
-            fault,
-        }) => bail!("{source}: line {line}: {fault}"),
+        Err(
+            Refusal::Source {
+                line: Some(line),
+                fault,
+            },
+        ) => bail!("{source}: line {line}: {fault}"),
         Err(refusal @ Refusal::Source { .. }) => bail!("{source}: {refusal}"),
         Err(refusal) => bail!("{microcode}: {refusal}"),
     }
