@@ -1,10 +1,14 @@
 -- Microcode of a plan with places that a text gives is that of the files, and carries the solution of the source.
-use Rattle.std.proofs.Common.{◌≡◌, ◌≢◌, ◌∙◌, ap, List, ℕ, map, [], ◌∷◌}
+use Rattle.std.proofs.Common.{◌≡◌, ◌≢◌, ◌∙◌, ap, List, ℕ, map, [], ◌∷◌, Result, Ok, Err, IfOk}
 use Rattle.desk_core.specs.View.{Name, Content, Files, View}
 use Rattle.desk_core.specs.Desk.{IfSpecified, WhereSpecified, content_of}
 use Rattle.desk_core.specs.Whole.{IsReadThrough, IsWrittenWhole}
 use Rattle.desk_core.proofs.WholeLemmas.{through_from}
 use Rattle.datapath.specs.declared.types.Datapath.{Datapath}
+use Rattle.datapath.specs.Allowed.{IsDatapath}
+use Rattle.signal_graph.specs.declared.graph.Graph.{Graph}
+use Rattle.loop_expand.specs.GraphFor.{IsGraphFor}
+use Rattle.silage_syntax.specs.Tree.{Program}
 use Rattle.microcode_asm.specs.Planned.{IsAssemblable}
 use Rattle.microcode_asm.proofs.ReadyPlans.{placed_assemblable}
 use Rattle.plan_soundness.specs.ImageOf.{width_of}
@@ -18,14 +22,36 @@ use Rattle.silc_files.proofs.Endings.{finished}
 use Rattle.plan_commands.specs.Compile.{HasTheSolution}
 use Rattle.plan_commands.specs.Compiling.{IsMadeOf}
 use Rattle.plan_commands.specs.Headline.{CarriesTheSolution}
-use Rattle.plan_commands.specs.Planning.{AreRead}
+use Rattle.plan_commands.specs.Planning.{AreRead, IsSourceIn, IsPathIn}
 use Rattle.plan_commands.specs.declared.planning.Inputs.{Inputs}
 use Rattle.plan_commands.proofs.Compiled.{runs_the_solution}
 use Rattle.plan_commands.proofs.Errors.{read_plan}
+use Rattle.plan_commands.proofs.Plans.{input_plan_by}
 use Rattle.plan_commands.proofs.Making.{compile_done, written_at}
 use Rattle.place_command.specs.Placed.{IsPlaced, ArePlaced, HasThePlan}
-use Rattle.place_command.specs.Private.Placing.{IsInputPlacing, IsFeasibleMicrocode}
+use Rattle.place_command.specs.Private.Placing.{AreGivenIn, IsInputPlacing, IsFeasibleMicrocode}
+use Rattle.place_command.specs.declared.ending.PlaceEnding.{PlaceEnding}
 use Rattle.place_command.specs.declared.placer.Placed.{Placed}
+
+-- the plan of the graph is that of the inputs
+pub input_placing : (inputs : Inputs) (text : Input) (program : Program) (g : Graph)
+    → IsSourceIn inputs.source program g
+    → IsGraphFor program g
+    → (d : Datapath)
+    → IsPathIn inputs.datapath d
+    → IsDatapath d
+    → (r : Result Placed PlaceEnding)
+    → IfOk r (λ (placed : Placed). placed.path ≡ d)
+    → IfOk r (λ (placed : Placed). IsPlanAt placed.places g d placed.plan)
+    → IfOk r (λ (placed : Placed). AreGivenIn text placed.path placed.places)
+    → IfOk r (IsInputPlacing inputs text)
+input_placing inputs text program g has keeps d is_path allowed (Ok placed) same plan gives = record {
+  plan =
+      input_plan_by (IsPlanAt placed.places) inputs.source inputs.datapath program g has keeps d is_path allowed
+      placed.path placed.plan same plan;
+  gives = gives;
+}
+input_placing inputs text program g has keeps d is_path allowed (Err e) same plan gives = tt
 
 -- a plan of the inputs can be assembled
 pub assemblable : (inputs : Inputs) (text : Input) (placed : Placed)
@@ -43,25 +69,24 @@ module _ (src datapath plan : Name) (old mid new : View) (inputs : Inputs) (are 
       → IsFeasibleMicrocode placed.path placed.plan microcode
       → IsMadeOf (ArePlaced src datapath plan) plan old new microcode
   made microcode of =
-      let g = is.plan.graph in
       let d = placed.path in
       let p = placed.plan in
-      let keeps = is.plan.keeps in
-      let at = is.plan.plan in
+      let r = read_plan (IsPlanAt placed.places) src datapath old mid inputs are d p is.plan in
+      let g = r.graph in
+      let keeps = r.keeps in
+      let at = r.plan in
       record {
         read = through_from plan text_limit old mid new first.unchanged.files through;
         compiled = λ files specified. record {
-          program = is.plan.program;
+          program = r.program;
           path = d;
           places = placed.places;
           gives = is.gives (content_of (files plan)) (text_is files (first.unchanged.files ∙ specified));
           plan = p;
-          planned =
-              (read_plan (IsPlanAt placed.places) src datapath old mid inputs are d p is.plan).specified files
-              specified;
-          given = at_given g d placed.places is.plan.allowed keeps.sound p at;
-          routed = at_routed g d placed.places is.plan.allowed keeps.sound p at;
-          narrow = at_narrow g d placed.places is.plan.allowed keeps.sound p at;
+          planned = r.specified files specified;
+          given = at_given g d placed.places r.allowed keeps.sound p at;
+          routed = at_routed g d placed.places r.allowed keeps.sound p at;
+          narrow = at_narrow g d placed.places r.allowed keeps.sound p at;
           image = of.image;
           image_of = of.image_of;
           spelled = of.spelled;
@@ -69,8 +94,8 @@ module _ (src datapath plan : Name) (old mid new : View) (inputs : Inputs) (are 
           inputs = of.image_of.inputs ∙ ap (map width_of) (at.placed.inputs ∙ keeps.keeps.inputs);
           outs = of.image_of.outs ∙ at.placed.outs ∙ keeps.keeps.outs;
           runs =
-              runs_the_solution is.plan.program g of.image keeps
-              (of.runs g keeps.sound (at_feasible g d placed.places is.plan.allowed keeps.sound p at));
+              runs_the_solution r.program g of.image keeps
+              (of.runs g keeps.sound (at_feasible g d placed.places r.allowed keeps.sound p at));
           period = of.image_of.period;
         };
       }
