@@ -8,6 +8,7 @@ usage: tests/hardware/check_routes.py
 It runs the built `silc`, or the one that `SILC` names. Without Yosys, nextpnr and icestorm it is skipped, and ends with
 77. docs/BOARD.md, which tests/check_board.py runs, has a core with multipliers.
 """
+import importlib.util
 import os
 import re
 import shutil
@@ -90,8 +91,11 @@ def icebox_pins(board: Board) -> tuple[dict[str, Place], list[Place]] | None:
     folder = next((top / name for name in ICEBOX if (top / name / "icebox.py").is_file()), None)
     if not folder:
         return None
-    sys.path.insert(0, str(folder))
-    import icebox
+    found = importlib.util.spec_from_file_location("icebox", folder / "icebox.py")
+    if found is None or found.loader is None:
+        return None
+    icebox = importlib.util.module_from_spec(found)
+    found.loader.exec_module(icebox)
     package, chip = TABLES[board.fpga.name]
     return {pin: (x, y, z) for pin, x, y, z in icebox.pinloc_db[package]}, icebox.padin_pio_db[chip]
 
