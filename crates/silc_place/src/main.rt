@@ -8,7 +8,8 @@ use std::env;
 use std::io::{self, ErrorKind};
 use std::process::ExitCode;
 
-const HELP: &str = "silc_place compiles SRC for the datapath DP with the units and cycles that PLAN gives.
+const HELP: &str =
+    "silc_place compiles SRC for the datapath DP with the units and cycles that PLAN gives.
 
 usage: silc_place SRC DP PLAN OUT    writes the microcode of that plan to OUT
        silc_place --help | --version
@@ -56,8 +57,7 @@ fn carry_out(rt: HostRuntime, words: &[String]) -> ExitCode {
     let mut desk = HostDesk::new(rt);
     let ending = match words {
         [source, datapath, plan, output]
-            if output != plan && output != source && output != datapath =>
-        {
+            if output != plan && output != source && output != datapath => {
             place(alloc, &mut desk, source, datapath, plan, output)
         }
         _ => PlaceEnding::from(Status::Words),
