@@ -89,5 +89,6 @@ module _ (places : List Place) (d : Datapath) where
     on_right on = record {
       count = on.count;
       right = λ v there.
-          subst (λ (u : ℕ). IsRightUnit d (node_of a.lowered.nodes v) u) (sym (on.given v there)) (on.can v there).right;
+          subst (λ (u : ℕ). IsRightUnit d (node_of a.lowered.nodes v) u) (sym (on.given v there))
+          (on.can v there).right;
     }

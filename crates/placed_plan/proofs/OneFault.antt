@@ -394,7 +394,8 @@ module _ (g : Graph) (d : Datapath) (places : List Place) (allowed : IsDatapath 
       same : length x.lowered.nodes ≡ length y.lowered.nodes
       same = ap (λ (m : Lowered). length m.nodes) (same_lowered x.lowered y.lowered x.is_lowered y.is_lowered)
 
-      by : ((length places < length x.lowered.nodes) × (f ≡ Missing (length places)))
+      by :
+          ((length places < length x.lowered.nodes) × (f ≡ Missing (length places)))
           ⊎ ((length x.lowered.nodes < length places) × (f ≡ Surplus (length x.lowered.nodes)))
           → ((length places < length y.lowered.nodes) × (h ≡ Missing (length places)))
           ⊎ ((length y.lowered.nodes < length places) × (h ≡ Surplus (length y.lowered.nodes)))
@@ -460,7 +461,8 @@ module _ (g : Graph) (d : Datapath) (places : List Place) (allowed : IsDatapath 
           → IsFirstMisplaced places d y.lowered IsOnWrongUnit x.v
       wrong_here m = subst (λ (l : Lowered). IsFirstMisplaced places d l IsOnWrongUnit x.v) same m
 
-      by : (IsFirstMisplaced places d x.lowered IsTooWide x.v × (f ≡ TooWide x.v))
+      by :
+          (IsFirstMisplaced places d x.lowered IsTooWide x.v × (f ≡ TooWide x.v))
           ⊎ (IsFirstMisplaced places d x.lowered IsOnWrongUnit x.v × (f ≡ WrongUnit x.v))
           → (IsFirstMisplaced places d y.lowered IsTooWide y.v × (h ≡ TooWide y.v))
           ⊎ (IsFirstMisplaced places d y.lowered IsOnWrongUnit y.v × (h ≡ WrongUnit y.v))

@@ -10,7 +10,8 @@ returns-in-Ok-write_whole-clause-placed g c =
     (g.D.Desk.view c.args.desk.now) (g.D.Desk.view c.make.new.desk) (g.D.Desk.view c.write_whole.new.desk)
     c.in-Ok.microcode c.requires c.in-Ok.ensures.reads.unchanged.files c.in-Ok.ensures.ok
     (subst
-    (λ bytes. IsWrittenWhole c.args.output.now bytes (g.D.Desk.view c.make.new.desk) (g.D.Desk.view c.write_whole.new.desk))
+    (λ bytes.
+    IsWrittenWhole c.args.output.now bytes (g.D.Desk.view c.make.new.desk) (g.D.Desk.view c.write_whole.new.desk))
     c.deref.ensures c.in-Ok-write_whole.ensures.ok)
 
 pub returns-in-Ok-write_whole-clause-headline : goal.returns-in-Ok-write_whole-clause-headline
@@ -20,5 +21,6 @@ returns-in-Ok-write_whole-clause-headline g c =
     (g.D.Desk.view c.args.desk.now) (g.D.Desk.view c.make.new.desk) (g.D.Desk.view c.write_whole.new.desk)
     c.in-Ok.microcode c.requires c.in-Ok.ensures.reads.unchanged.files c.in-Ok.ensures.ok
     (subst
-    (λ bytes. IsWrittenWhole c.args.output.now bytes (g.D.Desk.view c.make.new.desk) (g.D.Desk.view c.write_whole.new.desk))
+    (λ bytes.
+    IsWrittenWhole c.args.output.now bytes (g.D.Desk.view c.make.new.desk) (g.D.Desk.view c.write_whole.new.desk))
     c.deref.ensures c.in-Ok-write_whole.ensures.ok)
