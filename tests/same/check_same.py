@@ -16,6 +16,7 @@ import sys
 import tempfile
 from collections import Counter
 from collections.abc import Callable, Iterator
+from functools import partial
 from pathlib import Path
 from typing import TypeAlias
 
@@ -75,7 +76,7 @@ def changed(rng: random.Random, data: bytes) -> bytes | None:
     return bytes(flipped)
 
 
-def check_changes(silc: Path, folder: Path, source: Path, changes: int, told: Counter) -> None:
+def check_changes(folder: Path, silc: Path, source: Path, changes: int, told: Counter[str]) -> None:
     """Files with one bit changed."""
     example = source.parent
     data = (folder / "packed").read_bytes()
@@ -98,7 +99,7 @@ def check_changes(silc: Path, folder: Path, source: Path, changes: int, told: Co
             raise Wrong(f"change {tried} passes, and puts other rows")
 
 
-def check_example(silc: Path, folder: Path, source: Path, datapath: Path, changes: int, told: Counter) -> None:
+def check_example(folder: Path, silc: Path, source: Path, datapath: Path, changes: int, told: Counter[str]) -> None:
     """The microcode of an example in both versions, and files with one bit changed."""
     status, line = ended(folder, silc, "compile", source, datapath, "packed")
     if status:
@@ -110,13 +111,13 @@ def check_example(silc: Path, folder: Path, source: Path, datapath: Path, change
         if status or line:
             raise Wrong(f"{microcode}: {line}")
     if (source.parent / "samples.txt").exists():
-        check_changes(silc, folder, source, changes, told)
+        check_changes(folder, silc, source, changes, told)
 
 
-def check_others(silc: Path, folder: Path, examples: list[tuple[Path, Path]]) -> None:
+def check_others(folder: Path, silc: Path, pairs: list[tuple[Path, Path]]) -> None:
     """The microcode of each example beside the source of the next."""
-    sources = sorted({source for source, _ in examples})
-    of = dict(examples)
+    sources = sorted({source for source, _ in pairs})
+    of = dict(pairs)
     for source, other in zip(sources, sources[1:] + sources[:1]):
         ended(folder, silc, "compile", other, of[other], "other")
         if is_same(folder, source, "other"):
@@ -134,8 +135,8 @@ def check_line(folder: Path, words: list[str], status: int, line: str) -> None:
 
 def lines() -> Iterator[tuple[list[str], int, str]]:
     """Words, and how `silc_same` ends with them."""
-    for words in ([], ["good"], ["good", "short", "more"]):
-        yield words, 2, "usage: silc_same SRC MIC"
+    for count in (0, 1, 3):
+        yield ["good", "short", "more"][:count], 2, "usage: silc_same SRC MIC"
     yield ["bad", "short"], 1, "silc_same: bad: line 2: unknown name"
     yield ["good", "short"], 1, "silc_same: short: short at 4"
     yield ["good", "bad"], 1, "silc_same: bad: bad magic"
@@ -150,14 +151,14 @@ def examples() -> list[tuple[Path, Path]]:
     return [(source, datapath) for source, datapath in found if source.is_file()]
 
 
-def checks(silc: Path, changes: int, told: Counter) -> Iterator[tuple[str, Check]]:
+def checks(silc: Path, changes: int, told: Counter[str]) -> Iterator[tuple[str, Check]]:
     """Each check by its name."""
     for words, status, line in lines():
-        yield f"silc_same {' '.join(words)}", lambda folder, one=(words, status, line): check_line(folder, *one)
-    for pair in examples():
-        yield str(pair[1].relative_to(ROOT)), \
-            lambda folder, pair=pair: check_example(silc, folder, *pair, changes, told)
-    yield "the microcode of other examples", lambda folder: check_others(silc, folder, examples())
+        yield f"silc_same {' '.join(words)}", partial(check_line, words=words, status=status, line=line)
+    for source, datapath in examples():
+        yield str(datapath.relative_to(ROOT)), \
+            partial(check_example, silc=silc, source=source, datapath=datapath, changes=changes, told=told)
+    yield "the microcode of other examples", partial(check_others, silc=silc, pairs=examples())
 
 
 def options(words: list[str]) -> tuple[Path, int] | None:
@@ -180,7 +181,7 @@ def main(words: list[str]) -> int:
         if not os.access(program, os.X_OK):
             print(f"check_same: skipped: there is no program {program}; `tools/build silc_main silc_same` builds it")
             return SKIPPED
-    told: Counter = Counter()
+    told: Counter[str] = Counter()
     passed = failed = 0
     for name, check in checks(silc, changes, told):
         with tempfile.TemporaryDirectory(prefix="silc-same-") as folder:
