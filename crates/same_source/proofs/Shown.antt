@@ -1,5 +1,5 @@
 -- An image that runs the graph of a program runs the source that has that program.
-use Rattle.std.proofs.Common.{◌∙◌, ap, map, List, ℕ, Result, Ok, Err, OnOk}
+use Rattle.std.proofs.Common.{◌≡◌, ◌∙◌, ap, sym, length, map, List, ℕ, Result, Ok, Err, OnOk}
 use Rattle.loop_expand.specs.GraphFor.{IsGraphFor}
 use Rattle.micro_image.specs.declared.image.Image.{Image}
 use Rattle.plan_commands.proofs.Compiled.{runs_the_solution}
@@ -7,8 +7,9 @@ use Rattle.plan_soundness.specs.ImageOf.{width_of}
 use Rattle.signal_graph.specs.declared.graph.Graph.{Graph}
 use Rattle.silage_syntax.specs.Tree.{Program}
 use Rattle.source_faults.specs.Faults.{HasProgram}
-use Rattle.same_source.specs.Same.{IsOnlyImage, RunsSource, IsSource, IsMicrocode, IsRefusal}
-use Rattle.same_source.specs.Private.Image.{RunsGraph, IsGraphRefusal}
+use Rattle.same_source.specs.Same.{IsOnlyImage, RunsSource, IsRefusal}
+use Rattle.silage_meaning.specs.Solves.{input_types, output_types}
+use Rattle.same_source.specs.Private.Image.{HasWordsOf, RunsGraph, IsGraphRefusal}
 use Rattle.same_source.specs.declared.refusal.Refusal.{Refusal}
 use Rattle.same_source.specs.declared.refusal.Refusal.TheVariants.{Source, TooLong, Microcode, OtherWords}
 use Rattle.same_source.specs.declared.refusal.Refusal.TheVariants.{NotShown, Memory}
@@ -32,10 +33,24 @@ module _ (source microcode : List ℕ) (p : Program) (g : Graph) (image : Image)
     runs = runs_the_solution p g image graph runs.runs;
   }
 
-  pub graph_refusal : (refusal : Refusal) → IsGraphRefusal refusal → IsRefusal source microcode refusal
+  other_words : (HasWordsOf g image → ⊥)
+      → image.inputs ≡ map width_of (input_types p)
+      → image.outs ≡ length (output_types p)
+      → ⊥
+  other_words none inputs outs =
+      none
+      (record { inputs = inputs ∙ sym (ap (map width_of) graph.keeps.inputs); outs = outs ∙ sym graph.keeps.outs })
+
+  pub graph_refusal : (refusal : Refusal) → IsGraphRefusal g image refusal → IsRefusal source microcode refusal
   graph_refusal (Source line fault) is = absurd is
   graph_refusal TooLong is = absurd is
   graph_refusal (Microcode fault) is = absurd is
-  graph_refusal OtherWords is = ((p, program), (image, spelled.spells))
+  graph_refusal OtherWords is = record {
+    program = p;
+    has = program;
+    image = image;
+    spells = spelled.spells;
+    other = other_words is;
+  }
   graph_refusal (NotShown mismatch) is = ((p, program), (image, spelled.spells))
   graph_refusal Memory is = is

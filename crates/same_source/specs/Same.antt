@@ -1,5 +1,5 @@
 -- Microcode that runs a source, whoever made it.
-use Rattle.std.specs.Prelude.{◌≡◌, ℕ, ◌<◌, List, length, map, Option}
+use Rattle.std.specs.Prelude.{◌≡◌, ℕ, ◌<◌, ◌≤◌, List, length, map, Option}
 use Rattle.micro_file.specs.Faults.{IsFormFault}
 use Rattle.micro_image.specs.declared.image.Image.{Image}
 use Rattle.micro_image.specs.Size.{most_bytes}
@@ -57,11 +57,20 @@ IsSource source = (program : Program) × HasProgram source program
 abbrev pub IsMicrocode : List ℕ → Type 0
 IsMicrocode microcode = (image : Image) × Spells microcode image
 
+-- the source has a program and the bytes spell an image, but that image takes or puts other words than the program
+pub record HasOtherWords (source microcode : List ℕ) : Type 0 where
+  pub program : Program
+  pub has : HasProgram source program
+  pub image : Image
+  pub spells : Spells microcode image
+  pub other : image.inputs ≡ map width_of (input_types program) → image.outs ≡ length (output_types program) → ⊥
+
 -- what a refusal says of the bytes
 abbrev pub IsRefusal : (source microcode : List ℕ) → Refusal → Type 0
 IsRefusal source microcode (Source line fault) = HasFaultIn source line fault
 IsRefusal source microcode TooLong = IsSource source × (most_bytes < length microcode)
-IsRefusal source microcode (Microcode fault) = IsSource source × IsFormFault microcode fault
-IsRefusal source microcode OtherWords = IsSource source × IsMicrocode microcode
+IsRefusal source microcode (Microcode fault) =
+    IsSource source × (length microcode ≤ most_bytes) × IsFormFault microcode fault
+IsRefusal source microcode OtherWords = HasOtherWords source microcode
 IsRefusal source microcode (NotShown mismatch) = IsSource source × IsMicrocode microcode
 IsRefusal source microcode Memory = Unit {0}

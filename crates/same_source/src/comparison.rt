@@ -58,7 +58,8 @@ fn image_of(alloc: Global, microcode: &[u8]) -> Result<Image, Refusal>
 
 /// Whether an image takes and puts words as a graph does.
 fn has_words_of(alloc: Global, graph: &Graph, image: &Image) -> Result<bool, AllocError>
-    ensures { IfOk result (λ has. IsTrue has → HasWordsOf graph.now image.now) }
+    ensures yes { IfOk result (λ has. IsTrue has → HasWordsOf graph.now image.now) }
+    ensures no { IfOk result (λ has. HasWordsOf graph.now image.now → IsTrue has) }
 {
     let widths = widths_of(alloc, &graph.inputs)?;
     Ok(widths.as_slice() == image.inputs.as_slice() && image.outs == graph.outs)
@@ -69,7 +70,7 @@ fn check_image(alloc: Global, graph: &Graph, image: &Image) -> Result<(), Refusa
     requires graph { IsGraph graph.now }
     requires image { IsValid image.now }
     ensures runs { OnOk result (RunsGraph graph.now image.now) }
-    ensures err { IfErr result IsGraphRefusal }
+    ensures err { IfErr result (IsGraphRefusal graph.now image.now) }
 {
     if !has_words_of(alloc, graph, image)? {
         return Err(Refusal::OtherWords);

@@ -18,9 +18,9 @@ pub record RunsGraph (g : Graph) (image : Image) : Type 0 where
   pub outs : image.outs ≡ g.outs
   pub runs : RunsSolution g image
 
--- a refusal of an image beside a graph
-abbrev pub IsGraphRefusal : Refusal → Type 0
-IsGraphRefusal OtherWords = Unit {0}
-IsGraphRefusal (NotShown mismatch) = Unit {0}
-IsGraphRefusal Memory = Unit {0}
-IsGraphRefusal _ = ⊥
+-- what a refusal says of an image beside a graph
+abbrev pub IsGraphRefusal : Graph → Image → Refusal → Type 0
+IsGraphRefusal g image OtherWords = HasWordsOf g image → ⊥
+IsGraphRefusal g image (NotShown mismatch) = Unit {0}
+IsGraphRefusal g image Memory = Unit {0}
+IsGraphRefusal g image _ = ⊥
