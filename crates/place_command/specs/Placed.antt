@@ -14,6 +14,7 @@ use Rattle.place_file.specs.Given.{GivesPlaces}
 use Rattle.silage_meaning.specs.Solves.{input_types, output_types}
 use Rattle.silage_syntax.specs.Tree.{Program}
 use Rattle.silc_files.specs.Limits.{microcode_limit}
+use Rattle.statuses.specs.Status.{code_of}
 use Rattle.statuses.specs.declared.status.Status.TheVariants.{Done, Desk}
 use Rattle.plan_commands.specs.Compile.{IsDoneOf}
 use Rattle.plan_commands.specs.Headline.{SpellsOnly, RunsTheSolution}
@@ -66,3 +67,12 @@ IsError ending = IsDone ending → ⊥
 abbrev pub IsUnmade : PlaceEnding → Type 0
 IsUnmade (Told ending) = (ending.status ≢ Done) × (ending.status ≢ Desk)
 IsUnmade (Refused refusal) = Unit {0}
+
+-- the exit code where PLAN gives no plan
+abbrev pub refused : ℕ
+refused = 16
+
+-- the exit code of the program
+abbrev pub place_code : PlaceEnding → ℕ
+place_code (Told ending) = code_of ending.status
+place_code (Refused refusal) = refused

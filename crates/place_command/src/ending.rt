@@ -1,7 +1,7 @@
 //! How the command ended.
 
 ghost use Rattle.std.specs.Prelude.{◌≡◌, None};
-ghost use Rattle.place_command.specs.Placed.{IsError};
+ghost use Rattle.place_command.specs.Placed.{IsError, place_code};
 
 use place_file::GivenFault;
 use placed_plan::PlaceFault;
@@ -105,7 +105,9 @@ pub(crate) fn ungiven(fault: GivenFault) -> PlaceEnding
 }
 
 /// The exit code of the program.
-pub fn code(ending: &PlaceEnding) -> u8 {
+pub fn code(ending: &PlaceEnding) -> u8
+    ensures { result ≡ place_code ending.now }
+{
     match ending {
         PlaceEnding::Told(ending) => statuses::code(&ending.status),
         PlaceEnding::Refused(_) => REFUSED,
