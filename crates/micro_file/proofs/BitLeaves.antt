@@ -24,11 +24,11 @@ use Rattle.micro_bits.proofs.Bits.{IsDigits, bits_back, bits_mod, number_below, 
 use Rattle.micro_image.proofs.Length.{length-bits}
 use Rattle.micro_bits.specs.Numbers.{number_of, some_at, numbered}
 use Rattle.micro_bits.specs.declared.fault.BitFault.TheVariants as fault
-use Rattle.micro_file.specs.Bits.{unless_short, number_at, number_less_1_at, number_upto, number_below as below_at}
-use Rattle.micro_file.specs.Bits.{number_less_1_upto, entry_at, as_raw_word, raw_word_at, operation_at}
-use Rattle.micro_file.specs.Bits.{as_argument}
-use Rattle.micro_file.specs.Fields.{Reading, ◌>>=◌, found, element}
-use Rattle.micro_file.specs.Tables.{kinds, modes}
+use Rattle.micro_file.specs.Private.Bits.{unless_short, number_at, number_less_1_at, number_upto, number_below as below_at}
+use Rattle.micro_file.specs.Private.Bits.{number_less_1_upto, entry_at, as_raw_word, raw_word_at, operation_at}
+use Rattle.micro_file.specs.Private.Bits.{as_argument}
+use Rattle.micro_file.specs.Private.Fields.{Reading, ◌>>=◌, found, element}
+use Rattle.micro_file.specs.Private.Tables.{kinds, modes}
 use Rattle.micro_file.proofs.FormReader.{IsUnroll}
 use Rattle.micro_file.proofs.Readers.{bit_values, digits-take, digits-drop, Took, IsReader, bound, ok_is, was_found}
 use Rattle.micro_file.proofs.Readers.{joined, tested, such_reader, so_spelled}

@@ -18,14 +18,14 @@ use Rattle.micro_image.specs.Valid.{IsValid}
 use Rattle.micro_bits.proofs.Bits.{IsDigits, bits_digits, digits_append}
 use Rattle.micro_file.specs.declared.misread.Misread.{Misread}
 use Rattle.micro_file.specs.declared.misread.Misread.TheVariants as misread
-use Rattle.micro_file.specs.Bits.{at_bits}
-use Rattle.micro_file.specs.Bytes.{at_bytes, byte_at, only_byte}
-use Rattle.micro_file.specs.Fields.{Reading, refused}
-use Rattle.micro_file.specs.File.{numbered, head_at, ended, byte_image_at, padding_at, bit_image_at, byte_placed}
-use Rattle.micro_file.specs.File.{image_behind, whole_at}
-use Rattle.micro_file.specs.Hardware.{image_at}
-use Rattle.micro_file.specs.PackedWords.{packed_word_at}
-use Rattle.micro_file.specs.Words.{word_at}
+use Rattle.micro_file.specs.Private.Bits.{at_bits}
+use Rattle.micro_file.specs.Private.Bytes.{at_bytes, byte_at, only_byte}
+use Rattle.micro_file.specs.Private.Fields.{Reading, refused}
+use Rattle.micro_file.specs.Private.File.{numbered, head_at, ended, byte_image_at, padding_at, bit_image_at, byte_placed}
+use Rattle.micro_file.specs.Private.File.{image_behind, whole_at}
+use Rattle.micro_file.specs.Private.Hardware.{image_at}
+use Rattle.micro_file.specs.Private.PackedWords.{packed_word_at}
+use Rattle.micro_file.specs.Private.Words.{word_at}
 use Rattle.micro_file.proofs.BitsForm.{reads_bits}
 use Rattle.micro_file.proofs.BytesForm.{reads_bytes}
 use Rattle.micro_file.proofs.HardwareReader.{IsHardware, few_words, all_have, all_counted}

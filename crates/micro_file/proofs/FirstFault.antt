@@ -5,7 +5,7 @@ use Rattle.micro_image.specs.Spells.{Spells}
 use Rattle.micro_bits.proofs.Bits.{IsDigits}
 use Rattle.micro_file.specs.declared.fault.FormFault.{FormFault}
 use Rattle.micro_file.specs.declared.misread.Misread.{Misread}
-use Rattle.micro_file.specs.File.{whole_at}
+use Rattle.micro_file.specs.Private.File.{whole_at}
 use Rattle.micro_file.specs.Faults.{placed, IsFormFault}
 use Rattle.micro_file.proofs.FileReader.{whole_spells, spelled_whole}
 use Rattle.micro_file.proofs.Readers.{byte_values, misread_as, not_both}

@@ -22,11 +22,11 @@ use Rattle.micro_image.specs.Bytes.{one_byte, eight_bytes, format_bytes}
 use Rattle.micro_image.specs.Codes.{mode_number}
 use Rattle.micro_image.specs.Valid.{IsWithin, IsBelow, IsNoFormat, IsFormatWhere, IsFormatFor, offsets, IsArgument}
 use Rattle.micro_image.specs.Valid.{AreRegisters}
-use Rattle.micro_file.specs.Tables.{modes}
-use Rattle.micro_file.specs.Fields.{Reading, kept, is_below}
-use Rattle.micro_file.specs.Bytes.{byte_at, byte_within, entry_at, some_format_at, no_format_at, format_at, argument_at}
-use Rattle.micro_file.specs.Bytes.{register_at, registers_at}
-use Rattle.micro_file.specs.Arguments.{is_argument}
+use Rattle.micro_file.specs.Private.Tables.{modes}
+use Rattle.micro_file.specs.Private.Fields.{Reading, kept, is_below}
+use Rattle.micro_file.specs.Private.Bytes.{byte_at, byte_within, entry_at, some_format_at, no_format_at, format_at, argument_at}
+use Rattle.micro_file.specs.Private.Bytes.{register_at, registers_at}
+use Rattle.micro_file.specs.Private.Arguments.{is_argument}
 use Rattle.micro_bits.proofs.Bits.{IsDigits}
 use Rattle.micro_file.proofs.Readers.{byte_values, Takes, ◌⨟◌, Took, IsReader, IsTestOf, tested, such_reader}
 use Rattle.micro_file.proofs.Readers.{so_spelled, ok_is, was_kept}

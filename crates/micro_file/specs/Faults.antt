@@ -5,7 +5,7 @@ use Rattle.micro_file.specs.declared.fault.FormFault.{FormFault}
 use Rattle.micro_file.specs.declared.fault.FormFault.TheVariants as form
 use Rattle.micro_file.specs.declared.misread.Misread.{Misread}
 use Rattle.micro_file.specs.declared.misread.Misread.TheVariants.{Magic, Version, Short, Field, Trailing}
-use Rattle.micro_file.specs.File.{whole_at}
+use Rattle.micro_file.specs.Private.File.{whole_at}
 
 -- what was misread, with its place in a file of so many bytes: the byte in which a field that is not allowed begins,
 -- the first byte behind the last field, or where a file that is too short ends

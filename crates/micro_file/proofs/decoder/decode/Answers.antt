@@ -1,6 +1,6 @@
 use Rattle.std.proofs.Common.{sym, subst, ◌∙◌, arith}
 use Rattle.micro_file.specs.declared.misread.Unread.{Unread}
-use Rattle.micro_file.specs.File.{whole_at}
+use Rattle.micro_file.specs.Private.File.{whole_at}
 use Rattle.micro_file.specs.Private.Reads.{Fails}
 use Rattle.micro_file.proofs.FileReader.{whole_spells, spelled_whole}
 use Rattle.micro_file.proofs.InsideFile.{stops_inside}

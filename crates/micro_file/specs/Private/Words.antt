@@ -6,10 +6,10 @@ use Rattle.micro_image.specs.declared.image.Image.{Image}
 use Rattle.micro_image.specs.declared.image.Issue.{Issue}
 use Rattle.micro_image.specs.declared.image.Take.{Take}
 use Rattle.micro_image.specs.declared.image.Word.{Word}
-use Rattle.micro_file.specs.Bytes.{at_bytes, byte_at, byte_below, byte_upto, number_within}
-use Rattle.micro_file.specs.Fields.{Reading, ◌>>=◌, kept, found, last_of, many_at}
-use Rattle.micro_file.specs.Hardware.{issue_on_at}
-use Rattle.micro_file.specs.Order.{is_above, kept_next, enable_before, take_before}
+use Rattle.micro_file.specs.Private.Bytes.{at_bytes, byte_at, byte_below, byte_upto, number_within}
+use Rattle.micro_file.specs.Private.Fields.{Reading, ◌>>=◌, kept, found, last_of, many_at}
+use Rattle.micro_file.specs.Private.Hardware.{issue_on_at}
+use Rattle.micro_file.specs.Private.Order.{is_above, kept_next, enable_before, take_before}
 
 -- an issue after those in front: its unit is there and rises
 unfoldable pub issue_at : Image → List Issue → List ℕ → Reading Issue

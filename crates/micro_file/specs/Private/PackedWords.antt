@@ -8,10 +8,10 @@ use Rattle.micro_image.specs.declared.image.Take.{Take}
 use Rattle.micro_image.specs.declared.image.Word.{Word}
 use Rattle.micro_image.specs.Fields.{nth, no_unit}
 use Rattle.operations.specs.declared.units.PortRef.{PortRef}
-use Rattle.micro_file.specs.Bits.{at_bits, number_at, number_below}
-use Rattle.micro_file.specs.Fields.{Reading, ◌>>=◌, refused, each_at}
-use Rattle.micro_file.specs.Hardware.{issue_on_at}
-use Rattle.micro_file.specs.Order.{kept_next, take_before}
+use Rattle.micro_file.specs.Private.Bits.{at_bits, number_at, number_below}
+use Rattle.micro_file.specs.Private.Fields.{Reading, ◌>>=◌, refused, each_at}
+use Rattle.micro_file.specs.Private.Hardware.{issue_on_at}
+use Rattle.micro_file.specs.Private.Order.{kept_next, take_before}
 
 -- a value is put behind those in front
 abbrev pub put_behind : {A : Type 0} → List A → Reading A → Reading (List A)

@@ -5,9 +5,9 @@ use Rattle.micro_image.specs.declared.image.Issue.{Issue}
 use Rattle.micro_image.specs.declared.image.UnitDesc.{UnitDesc}
 use Rattle.micro_image.specs.declared.image.Word.{Word}
 use Rattle.micro_image.specs.Operations.{reads}
-use Rattle.micro_file.specs.Fields.{Reading, ◌>>=◌, many_at}
-use Rattle.micro_file.specs.FormAt.{FormAt}
-use Rattle.micro_file.specs.Units.{units_at}
+use Rattle.micro_file.specs.Private.Fields.{Reading, ◌>>=◌, many_at}
+use Rattle.micro_file.specs.Private.FormAt.{FormAt}
+use Rattle.micro_file.specs.Private.Units.{units_at}
 
 module _ (form : FormAt) where
   -- a count, and this many widths
