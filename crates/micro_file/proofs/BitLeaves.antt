@@ -197,13 +197,13 @@ raw_word_reader =
 -- ---- entries of a table
 
 -- the allowed elements are those of the table, each at its place, and so many bits hold a place
-record IsTable {A : Type 0} (Allowed : A → Type 0) (w : ℕ) (table : List A) (place : A → ℕ) : Type 0 where
-  there : (x : A) → Allowed x → slice_get table (place x) ≡ Some x
-  fits : (x : A) → Allowed x → place x < 2 ^ w
-  only : (k : ℕ) (x : A) → slice_get table k ≡ Some x → (place x ≡ k) × Allowed x
+pub record IsTable {A : Type 0} (Allowed : A → Type 0) (w : ℕ) (table : List A) (place : A → ℕ) : Type 0 where
+  pub there : (x : A) → Allowed x → slice_get table (place x) ≡ Some x
+  pub fits : (x : A) → Allowed x → place x < 2 ^ w
+  pub only : (k : ℕ) (x : A) → slice_get table k ≡ Some x → (place x ≡ k) × Allowed x
 
 -- an element of a table
-entry_reader : {A : Type 0} (Allowed : A → Type 0) (w : ℕ) (table : List A) (place : A → ℕ)
+pub entry_reader : {A : Type 0} (Allowed : A → Type 0) (w : ℕ) (table : List A) (place : A → ℕ)
     → IsTable Allowed w table place
     → IsReader bit_values Allowed (λ x. bits w (place x)) (entry_at w table)
 entry_reader {A} Allowed w table place is = record {
@@ -287,7 +287,7 @@ unroll_reader = entry_reader IsUnroll 2 factors (λ n. n / 2) (record {
 })
 
 -- the operations of a kind are a table
-operation_table : (k : Kind) → IsTable (λ o. kind_of o ≡ k) (place_width k) (operations_of k) place_of
+pub operation_table : (k : Kind) → IsTable (λ o. kind_of o ≡ k) (place_width k) (operations_of k) place_of
 operation_table k = record {
   there = λ o is. (once_placed o k (place_of o)).1 (is, refl);
   fits = λ o is. subst (λ (j : Kind). place_of o < 2 ^ place_width j) is (places_held o);

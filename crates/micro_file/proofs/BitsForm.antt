@@ -243,7 +243,7 @@ some_format_reader : IsReader bit_values IsFormat format_bits some_format_at
 some_format_reader = record { took = some_format_took; again = some_format_again }
 
 -- what takes no bits
-none_reader : {A : Type 0} (Allowed : A → Type 0) (x : A)
+pub none_reader : {A : Type 0} (Allowed : A → Type 0) (x : A)
     → Allowed x
     → ((y : A) → Allowed y → x ≡ y)
     → IsReader bit_values Allowed (λ _. []) (λ left. Ok (x, left))
@@ -286,7 +286,7 @@ module _ (files : List (List ℤ)) (read : ℕ) (have : HaveRegisters files) (le
   count_at port = length (nth files port [])
 
   -- a file has no more registers than eight bits can name
-  few_registers : (port : ℕ) → count_at port ≤ 2 ^ 8
+  pub few_registers : (port : ℕ) → count_at port ≤ 2 ^ 8
   few_registers port = elim (cases_lt port (length files)) [
     | inl lt ↦ (have port lt).1
     | inr past ↦ rw (get_or_past files port [] past) (omega arith)

@@ -30,7 +30,7 @@ pub record IsOn (image : Image) (number : ℕ) (unit : UnitDesc) (issue : Issue)
   pub on : IsIssueOn (length image.inputs) image.outs issue unit
 
 -- a unit has a file for each port that an operation of its kind reads
-enough_files : (op : Op) (unit : UnitDesc)
+pub enough_files : (op : Op) (unit : UnitDesc)
     → length unit.files ≡ ports unit.kind
     → kind_of op ≡ unit.kind
     → reads op ≤ length unit.files

@@ -43,16 +43,16 @@ byte_fits [] fits x e = absurd cc
 byte_fits (b ∷ bytes) fits x e = subst (λ (p : ℕ × List ℕ). p.0 < 256) (ok_is (b, bytes) x e) (fits.digit 0)
 
 -- a shift that the processor has
-abbrev is_shift : ℤ → Bool
+abbrev pub is_shift : ℤ → Bool
 is_shift shift = int_le (negsuc 39) shift && int_le shift (pos 80)
 
-shift_low : (z : ℤ) → is_shift z ≡ true → negsuc 39 ≤ℤ z
+pub shift_low : (z : ℤ) → is_shift z ≡ true → negsuc 39 ≤ℤ z
 shift_low z e = grind (arith, ints)
 
-shift_high : (z : ℤ) → is_shift z ≡ true → z ≤ℤ pos 80
+pub shift_high : (z : ℤ) → is_shift z ≡ true → z ≤ℤ pos 80
 shift_high z e = grind (arith, ints)
 
-shift_is : (z : ℤ) → negsuc 39 ≤ℤ z → z ≤ℤ pos 80 → is_shift z ≡ true
+pub shift_is : (z : ℤ) → negsuc 39 ≤ℤ z → z ≤ℤ pos 80 → is_shift z ≡ true
 shift_is z low high = grind (arith, ints)
 
 shift_fits : (z : ℤ) → negsuc 39 ≤ℤ z → z ≤ℤ pos 80 → FitsSigned w8 z

@@ -7,6 +7,7 @@ use Rattle.micro_image.specs.declared.version.Version.TheVariants.{One, Two}
 use Rattle.micro_image.specs.Spells.{bits_of}
 use Rattle.micro_file.specs.declared.misread.Misread.{Misread}
 use Rattle.micro_file.specs.declared.misread.Misread.TheVariants as misread
+pub use Rattle.micro_file.specs.File.{bytes_of, byte_misread}
 use Rattle.micro_file.specs.Private.Bits.{at_bits}
 use Rattle.micro_file.specs.Private.Bytes.{at_bytes, byte_at, only_byte}
 use Rattle.micro_file.specs.Private.Fields.{Reading, ◌>>=◌, refused}
@@ -47,16 +48,6 @@ bit_image_at bits = do
   image ← image_at at_bits packed_word_at bits
   rest ← padding_at image.1
   ended (image.0, rest)
-
--- so many bits that are left begin in this many last bytes
-abbrev pub bytes_of : ℕ → ℕ
-bytes_of left = (left + 7) / 8
-
--- what was misread in bits, in bytes
-abbrev pub byte_misread : Misread → Misread
-byte_misread (misread.Field left) = misread.Field (bytes_of left)
-byte_misread (misread.Trailing left) = misread.Trailing (bytes_of left)
-byte_misread misread = misread
 
 -- what was read in bits, or why not, in bytes
 abbrev pub byte_placed : {A : Type 0} → Result A Misread → Result A Misread
