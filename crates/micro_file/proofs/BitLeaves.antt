@@ -24,7 +24,8 @@ use Rattle.micro_bits.proofs.Bits.{IsDigits, bits_back, bits_mod, number_below, 
 use Rattle.micro_image.proofs.Length.{length-bits}
 use Rattle.micro_bits.specs.Numbers.{number_of, some_at, numbered}
 use Rattle.micro_bits.specs.declared.fault.BitFault.TheVariants as fault
-use Rattle.micro_file.specs.Private.Bits.{unless_short, number_at, number_less_1_at, number_upto, number_below as below_at}
+use Rattle.micro_file.specs.Private.Bits.{unless_short, number_at, number_less_1_at, number_upto}
+use Rattle.micro_file.specs.Private.Bits.{number_below as below_at}
 use Rattle.micro_file.specs.Private.Bits.{number_less_1_upto, entry_at, as_raw_word, raw_word_at, operation_at}
 use Rattle.micro_file.specs.Private.Bits.{as_argument}
 use Rattle.micro_file.specs.Private.Fields.{Reading, ◌>>=◌, found, element}

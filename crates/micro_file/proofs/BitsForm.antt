@@ -23,7 +23,8 @@ use Rattle.micro_image.specs.Operations.{Argument, nothing, input_word, output_w
 use Rattle.micro_image.specs.Operations.{is_formatted, reads}
 use Rattle.micro_image.specs.Valid.{IsFormatWhere, offsets, IsArgumentOf, AreRegisters}
 use Rattle.micro_bits.proofs.Bits.{IsDigits}
-use Rattle.micro_file.specs.Private.Bits.{number_at, number_upto, number_less_1_upto, number_below, entry_at, raw_word_at}
+use Rattle.micro_file.specs.Private.Bits.{number_at, number_upto, number_less_1_upto, number_below, entry_at}
+use Rattle.micro_file.specs.Private.Bits.{raw_word_at}
 use Rattle.micro_file.specs.Private.Bits.{some_words_at, preload_at, some_format_at, no_format, argument_at}
 use Rattle.micro_file.specs.Private.Bits.{register_at, registers_at, at_bits}
 use Rattle.micro_file.specs.Private.Fields.{Reading, kept, many_at}

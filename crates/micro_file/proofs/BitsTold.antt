@@ -1,5 +1,6 @@
 -- The fields of version 2 are read as they are laid out.
-use Rattle.std.proofs.Common.{◌≡◌, ℕ, zero, suc, ◌+◌, ◌-◌, ◌^◌, ◌<◌, ◌≤◌, ◌/◌, Bool, true, false, cond, eqb, not, List, [], ◌∷◌}
+use Rattle.std.proofs.Common.{◌≡◌, ℕ, zero, suc, ◌+◌, ◌-◌, ◌^◌, ◌<◌, ◌≤◌, ◌/◌, Bool, true, false, cond, eqb, not, List}
+use Rattle.std.proofs.Common.{[], ◌∷◌}
 use Rattle.std.proofs.Common.{◌++◌, length, replicate, Ok, ℤ, pos, refl, sym, ap, arith}
 use Rattle.std.specs.Int.{w64, cast_unsigned}
 use Rattle.std.specs.Prelude.{◌-ℤ◌}
@@ -35,7 +36,8 @@ use Rattle.micro_file.proofs.BitLeaves.{entry_reader, operation_table}
 use Rattle.micro_file.proofs.BitsForm.{few_registers, none_reader}
 use Rattle.micro_file.proofs.FormReader.{IsUnroll, HaveRegisters}
 use Rattle.micro_file.proofs.FormTold.{TellsForm}
-use Rattle.micro_file.proofs.Layouts.{Tells, Is, Sized, tells_placed, tells_given, tells_next, tells_many, tells_field, tells_judged}
+use Rattle.micro_file.proofs.Layouts.{Tells, Is, Sized, tells_placed, tells_given, tells_next, tells_many, tells_field}
+use Rattle.micro_file.proofs.Layouts.{tells_judged}
 use Rattle.micro_file.proofs.Readers.{bit_values, IsReader, such_reader}
 use Rattle.micro_file.proofs.Sizes.{here, sized_bits, sized_kept, sized_ok, sized_entry}
 
@@ -84,8 +86,8 @@ less_1_upto_told w limit few left fits =
 raw_told : Is bit_values (field raw_bits IsMachineWord) raw_word_at
 unfolding raw_word_at
 raw_told left fits =
-    tells_field bit_values raw_bits IsMachineWord here raw_word_at 40 (pos 0) (λ z. length-bits 40 (cast_unsigned w64 z))
-    raw_word_reader left fits
+    tells_field bit_values raw_bits IsMachineWord here raw_word_at 40 (pos 0)
+    (λ z. length-bits 40 (cast_unsigned w64 z)) raw_word_reader left fits
     (sized_ok 40 (here left) left (number_at 40 left) as_raw_word (sized_bits 40 (here left) left))
 
 kind_told : Is bit_values (field (λ k. bits 3 (kind_number k)) Any) (entry_at 3 kinds)
@@ -205,7 +207,8 @@ argument_of w limit read reader sized left fits =
 argument_told : (argument : Argument) (inputs outs : ℕ)
     → inputs ≤ 16
     → outs ≤ 16
-    → Is bit_values (field (argument_bits argument) (IsArgumentOf argument inputs outs)) (argument_at argument inputs outs)
+    → Is bit_values (field (argument_bits argument) (IsArgumentOf argument inputs outs))
+    (argument_at argument inputs outs)
 unfolding argument_at
 argument_told nothing inputs outs few less left fits =
     tells_field bit_values (λ (z : ℤ). []) (λ z. z ≡ pos 0) here (λ rest. Ok (pos 0, rest)) 0 (pos 0) (λ z. refl)

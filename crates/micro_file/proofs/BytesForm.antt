@@ -10,7 +10,8 @@ use Rattle.micro_image.specs.Bytes.{one_byte, eight_bytes, in_bytes}
 use Rattle.micro_image.specs.Codes.{kind_number}
 use Rattle.micro_image.specs.Operations.{opcode, kind_of, reads}
 use Rattle.micro_file.specs.Private.Tables.{kinds}
-use Rattle.micro_file.specs.Private.Bytes.{raw_word_at, raw_words_at, is_unroll, unroll_at, same_kind, operation_at, at_bytes}
+use Rattle.micro_file.specs.Private.Bytes.{raw_word_at, raw_words_at, is_unroll, unroll_at, same_kind, operation_at}
+use Rattle.micro_file.specs.Private.Bytes.{at_bytes}
 use Rattle.micro_file.proofs.Readers.{byte_values, IsReader, tested, such_reader}
 use Rattle.micro_file.proofs.FormReader.{IsUnroll, ReadsForm}
 use Rattle.micro_file.proofs.Several.{all_from, grows_all, many_reader}

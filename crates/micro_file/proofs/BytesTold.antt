@@ -1,5 +1,6 @@
 -- The fields of version 1 are read as they are laid out.
-use Rattle.std.proofs.Common.{◌≡◌, ℕ, ◌^◌, ◌<◌, ◌≤◌, Bool, true, false, cond, ltb, eqb, List, [], ◌∷◌, length, Some, None, Ok, Err}
+use Rattle.std.proofs.Common.{◌≡◌, ℕ, ◌^◌, ◌<◌, ◌≤◌, Bool, true, false, cond, ltb, eqb, List, [], ◌∷◌, length, Some}
+use Rattle.std.proofs.Common.{None, Ok, Err}
 use Rattle.std.proofs.Common.{ℤ, pos, negsuc, refl, arith, inl, ◌&&◌, Option}
 use Rattle.std.specs.Int.{w8, w16, w32, w64, cast_signed}
 use Rattle.std.specs.Prelude.{int_le, ◌≤ℤ◌}
@@ -167,7 +168,8 @@ some_format_told : Is byte_values words.some_format some_format_at
 unfolding words.some_format some_format_at
 some_format_told left fits =
     tells_same byte_values words.some_format left
-    (kept_shift left >>= λ s. entry_at modes s.1 >>= λ m. byte_within 1 40 m.1 >>= λ w. Ok (whole_format s.0 m.0 w.0, w.1))
+    (kept_shift left >>= λ s.
+    entry_at modes s.1 >>= λ m. byte_within 1 40 m.1 >>= λ w. Ok (whole_format s.0 m.0 w.0, w.1))
     (some_format_at left) (regroup left (byte_at left) _)
     (tells_next byte_values (byte (λ b. words.IsShift (cast_signed w8 b))) _ left
     (λ (s : ℕ × List ℕ).

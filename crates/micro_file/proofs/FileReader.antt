@@ -21,7 +21,8 @@ use Rattle.micro_file.specs.declared.misread.Misread.TheVariants as misread
 use Rattle.micro_file.specs.Private.Bits.{at_bits}
 use Rattle.micro_file.specs.Private.Bytes.{at_bytes, byte_at, only_byte}
 use Rattle.micro_file.specs.Private.Fields.{Reading, refused}
-use Rattle.micro_file.specs.Private.File.{numbered, head_at, ended, byte_image_at, padding_at, bit_image_at, byte_placed}
+use Rattle.micro_file.specs.Private.File.{numbered, head_at, ended, byte_image_at, padding_at, bit_image_at}
+use Rattle.micro_file.specs.Private.File.{byte_placed}
 use Rattle.micro_file.specs.Private.File.{image_behind, whole_at}
 use Rattle.micro_file.specs.Private.Hardware.{image_at}
 use Rattle.micro_file.specs.Private.PackedWords.{packed_word_at}

@@ -1,5 +1,6 @@
 -- A file is read as it is laid out, and what ends the reading is what its layout says.
-use Rattle.std.proofs.Common.{◌≡◌, ◌⊎◌, ℕ, ◌%◌, ◌^◌, ◌<◌, ◌≤◌, Bool, true, false, cond, eqb, List, [], ◌∷◌, ◌++◌, length}
+use Rattle.std.proofs.Common.{◌≡◌, ◌⊎◌, ℕ, ◌%◌, ◌^◌, ◌<◌, ◌≤◌, Bool, true, false, cond, eqb, List, [], ◌∷◌, ◌++◌}
+use Rattle.std.proofs.Common.{length}
 use Rattle.std.proofs.Common.{take, drop, replicate, Result, Ok, Err, refl, sym, ap, subst, ◌∙◌, arith, inl, inr}
 use Rattle.std.proofs.Math.Nat.{mod-lt}
 use Rattle.std.specs.List.{list_all}
@@ -24,7 +25,8 @@ use Rattle.micro_file.specs.Words.{own_bytes, word}
 use Rattle.micro_file.specs.Private.Bits.{at_bits}
 use Rattle.micro_file.specs.Private.Bytes.{at_bytes, byte_at, only_byte}
 use Rattle.micro_file.specs.Private.Fields.{Reading, ◌>>=◌, refused}
-use Rattle.micro_file.specs.Private.File.{numbered, head_at, ended, byte_image_at, padding_at, bit_image_at, byte_placed}
+use Rattle.micro_file.specs.Private.File.{numbered, head_at, ended, byte_image_at, padding_at, bit_image_at}
+use Rattle.micro_file.specs.Private.File.{byte_placed}
 use Rattle.micro_file.specs.Private.File.{image_behind, whole_at}
 use Rattle.micro_file.specs.Private.Hardware.{image_at}
 use Rattle.micro_file.specs.Private.PackedWords.{packed_word_at}
@@ -64,8 +66,8 @@ sized_only only left = by (byte_at left) (sized_byte misread.Magic left)
 
 magic_told : (only : ℕ) → Is byte_values (magic only) (only_byte misread.Magic only)
 magic_told only left fits =
-    tells_field byte_values one_byte (λ (b : ℕ). b ≡ only) (λ _. misread.Magic) (only_byte misread.Magic only) 1 0 one_len
-    (only_reader misread.Magic only) left fits (sized_only only left)
+    tells_field byte_values one_byte (λ (b : ℕ). b ≡ only) (λ _. misread.Magic) (only_byte misread.Magic only) 1 0
+    one_len (only_reader misread.Magic only) left fits (sized_only only left)
 
 abbrev version_at : List ℕ → Reading Version
 version_at left = byte_at left >>= numbered
@@ -177,8 +179,11 @@ end_told {A} base x left fits = by (eqb (length left) 0) refl
 abbrev zeros_to_end : List ℕ → List ℕ
 zeros_to_end left = replicate (length left % 8) 0
 
+abbrev behind_padding : List ℕ → Reading (Unit {0})
+behind_padding rest = Ok (tt, rest)
+
 abbrev padding_reading : List ℕ → Reading (Unit {0})
-padding_reading left = padding_at left >>= λ rest. Ok (tt, rest)
+padding_reading left = padding_at left >>= behind_padding
 
 -- what begins with the zeros is passed
 passed : (left : List ℕ) (x : Unit {0}) (rest : List ℕ)
@@ -198,12 +203,9 @@ padding_told left fits = by (list_all is_zero (take (length left % 8) left)) ref
     zeros : length (zeros_to_end left) ≡ k
     zeros = length-replicate {A = ℕ} k 0
 
-    reading : Bool → Reading (Unit {0})
-    reading b = cond b (Ok (drop k left)) (refused left) >>= λ rest. Ok (tt, rest)
-
     by : (b : Bool)
         → list_all is_zero (take k left) ≡ b
-        → Tells bit_values padding left (cond b (Ok (drop k left)) (refused left) >>= λ rest. Ok (tt, rest))
+        → Tells bit_values padding left (cond b (Ok (drop k left)) (refused left) >>= behind_padding)
     by true e =
         let size : length (take k left) ≡ k = omega (arith, length-take k left, inside) in
         let front : take k left ≡ zeros_to_end left =
@@ -235,12 +237,15 @@ padding_told left fits = by (list_all is_zero (take (length left % 8) left)) ref
         let read : padding_reading left ≡ misread_as (Unit {0} × List ℕ) (misread.Field (length left)) = rw e refl in
         record {
           there =
-              inr (refl, record {
-                some = tt;
-                whole = omega (arith, zeros, inside);
-                none = λ x rest h.
-                    absurd (no_err (misread.Field (length left)) (x, rest) (sym (passed left x rest h) ∙ read));
-              });
+              inr (
+                refl,
+                record {
+                  some = tt;
+                  whole = omega (arith, zeros, inside);
+                  none = λ x rest h.
+                      absurd (no_err (misread.Field (length left)) (x, rest) (sym (passed left x rest h) ∙ read));
+                },
+              );
           only = only_err read;
           fits = λ y same. absurd (no_ok (misread.Field (length left)) y same);
         }
@@ -316,12 +321,12 @@ bit_told left fits =
 -- behind the padding
 padded_told : (x : Image) (r : Result (List ℕ) Misread) (m : Misread)
     → (r >>= λ rest. ended (x, rest)) ≡ misread_as Image m
-    → ((r >>= λ rest. Ok (tt, rest)) >>= λ p. end_at x p.1) ≡ misread_as (Image × List ℕ) m
+    → ((r >>= behind_padding) >>= λ p. end_at x p.1) ≡ misread_as (Image × List ℕ) m
 padded_told x (Err n) m e = as_err n m (err_is n m e)
 padded_told x (Ok rest) m e = ended_told (Ok (x, rest)) m e
 
 told_padded : (x : Image) (r : Result (List ℕ) Misread) (m : Misread)
-    → ((r >>= λ rest. Ok (tt, rest)) >>= λ p. end_at x p.1) ≡ misread_as (Image × List ℕ) m
+    → ((r >>= behind_padding) >>= λ p. end_at x p.1) ≡ misread_as (Image × List ℕ) m
     → (r >>= λ rest. ended (x, rest)) ≡ misread_as Image m
 told_padded x (Err n) m e = as_err n m (err_is n m e)
 told_padded x (Ok rest) m e = told_ended (Ok (x, rest)) m e
@@ -398,12 +403,20 @@ misread_stops bytes m fits e = by (head_at bytes) refl e
         → image_behind v ≡ Err m
         → Stops bytes m
     behind (One, rest) h e =
-        inr (One, rest, subst (head bytes) h (head_told bytes fits).there,
-        byte_stops rest m (digits_behind bytes (One, rest) fits h) e)
+        inr (
+          One,
+          rest,
+          subst (head bytes) h (head_told bytes fits).there,
+          byte_stops rest m (digits_behind bytes (One, rest) fits h) e,
+        )
     behind (Two, rest) h e =
         let p = was_placed (bit_image_at (bits_of rest)) m e in
-        inr (Two, rest, subst (head bytes) h (head_told bytes fits).there,
-        (p.0, bit_stops (bits_of rest) p.0 (bits_of_digits rest) p.1, p.2))
+        inr (
+          Two,
+          rest,
+          subst (head bytes) h (head_told bytes fits).there,
+          (p.0, bit_stops (bits_of rest) p.0 (bits_of_digits rest) p.1, p.2),
+        )
 
     by : (r : Reading Version)
         → head_at bytes ≡ r
@@ -430,7 +443,8 @@ stops_misread bytes m fits h = elim h [
         → StopsBehind v rest m
         → (head_at bytes >>= image_behind) ≡ misread_as Image m
     behind One rest h s = rw h (stops_byte rest m (digits_behind bytes (One, rest) fits h) s)
-    behind Two rest h s = rw (h, stops_bit (bits_of rest) s.0 (bits_of_digits rest) s.1) (as_err (byte_misread s.0) m (sym s.2))
+    behind Two rest h s =
+        rw (h, stops_bit (bits_of rest) s.0 (bits_of_digits rest) s.1) (as_err (byte_misread s.0) m (sym s.2))
 
 -- bytes are digits
 pub bytes_digits : (bytes : List ℕ) → AreBytes bytes → IsDigits byte_values bytes

@@ -35,7 +35,8 @@ module _ {base : ℕ} {spell : Form} {own : Own} {form : FormAt} (is : ReadsForm
   inputs_told left fits =
       tells_next base (field spell.channels (IsWithin 1 16)) (many (λ _. field spell.width (IsWithin 0 40)) []) left
       (λ (n : ℕ × List ℕ). many_at (λ _. form.width) [] n.0 n.1) (form.channels left) (told.channels left fits)
-      (λ x e d. tells_many base (λ _. field spell.width (IsWithin 0 40)) (λ _. form.width) (λ _. told.width) [] x.0 x.1 d)
+      (λ x e d.
+      tells_many base (λ _. field spell.width (IsWithin 0 40)) (λ _. form.width) (λ _. told.width) [] x.0 x.1 d)
 
   units_told : Is base (chain (field spell.units (IsWithin 1 32)) (some_units spell own)) (units_at form)
   unfolding units_at
@@ -128,6 +129,6 @@ module _ {base : ℕ} {spell : Form} {own : Own} {form : FormAt} (is : ReadsForm
       (λ (r : List ℕ × List ℕ). Ok (whole_issue number o.0 f.0 a.0 r.0, r.1)) (form.named unit.files (reads o.0) a.1)
       (told.named o.0 unit.files have
       (enough_files o.0 unit counted
-      (field_allowed base (own.operation unit.kind) (λ op. kind_of op ≡ unit.kind) left (form.operation unit.kind left) o
-      (told.operation unit.kind left fits) e)) a.1 d3)
+      (field_allowed base (own.operation unit.kind) (λ op. kind_of op ≡ unit.kind) left (form.operation unit.kind left)
+      o (told.operation unit.kind left fits) e)) a.1 d3)
       (λ r e4 d4. tells_given base (whole_issue number o.0 f.0 a.0 r.0) r.1 d4))))

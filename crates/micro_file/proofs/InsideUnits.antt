@@ -13,7 +13,8 @@ use Rattle.micro_file.specs.declared.misread.Misread.{Misread}
 use Rattle.micro_file.specs.declared.misread.Misread.TheVariants.{Field}
 use Rattle.micro_file.specs.Private.Fields.{Reading, ◌>>=◌, many_at}
 use Rattle.micro_file.specs.Private.FormAt.{FormAt}
-use Rattle.micro_file.specs.Private.Units.{file_at, cells_at, ram_at, unit_at, is_tied, judged, judged_at, some_units_at}
+use Rattle.micro_file.specs.Private.Units.{file_at, cells_at, ram_at, unit_at, is_tied, judged, judged_at}
+use Rattle.micro_file.specs.Private.Units.{some_units_at}
 use Rattle.micro_file.specs.Private.Units.{units_at}
 use Rattle.micro_file.specs.Private.Hardware.{inputs_at, hardware_at, image_at, issue_on_at}
 use Rattle.micro_file.specs.Private.Places.{IsIn}

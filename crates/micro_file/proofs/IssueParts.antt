@@ -24,7 +24,8 @@ use Rattle.micro_image.specs.Valid.{IsWithin, IsBelow, IsNoFormat, IsFormatWhere
 use Rattle.micro_image.specs.Valid.{AreRegisters}
 use Rattle.micro_file.specs.Private.Tables.{modes}
 use Rattle.micro_file.specs.Private.Fields.{Reading, kept, is_below}
-use Rattle.micro_file.specs.Private.Bytes.{byte_at, byte_within, entry_at, some_format_at, no_format_at, format_at, argument_at}
+use Rattle.micro_file.specs.Private.Bytes.{byte_at, byte_within, entry_at, some_format_at, no_format_at, format_at}
+use Rattle.micro_file.specs.Private.Bytes.{argument_at}
 use Rattle.micro_file.specs.Private.Bytes.{register_at, registers_at}
 use Rattle.micro_file.specs.Private.Arguments.{is_argument}
 use Rattle.micro_bits.proofs.Bits.{IsDigits}

@@ -195,11 +195,14 @@ module _ {A : Type 0} (base : ℕ) (spell : A → List ℕ) (Allowed : A → Typ
       → field_or spell Allowed blame left (Err n)
   field_stops n e (inl a) = inl (a.0, λ x. omega (arith, a.1, size x))
   field_stops n e (inr a) =
-      inr (a.0, record {
-        some = some;
-        whole = omega (arith, a.1, size some);
-        none = λ x rest h. absurd (no_err n (x, rest) (sym (stands_read x rest h) ∙ e));
-      })
+      inr (
+        a.0,
+        record {
+          some = some;
+          whole = omega (arith, a.1, size some);
+          none = λ x rest h. absurd (no_err n (x, rest) (sym (stands_read x rest h) ∙ e));
+        },
+      )
 
   tells_by : (r : Reading A)
       → read left ≡ r

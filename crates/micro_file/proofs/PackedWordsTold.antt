@@ -1,5 +1,6 @@
 -- The microwords of version 2 are read as they are laid out.
-use Rattle.std.proofs.Common.{◌≡◌, ℕ, zero, suc, ◌-◌, ◌^◌, ◌<◌, ◌≤◌, Bool, true, false, cond, eqb, ltb, List, [], ◌∷◌, ◌++◌}
+use Rattle.std.proofs.Common.{◌≡◌, ℕ, zero, suc, ◌-◌, ◌^◌, ◌<◌, ◌≤◌, Bool, true, false, cond, eqb, ltb, List, [], ◌∷◌}
+use Rattle.std.proofs.Common.{◌++◌}
 use Rattle.std.proofs.Common.{length, Ok, Err, refl, sym, subst, arith, inl, inr, ap}
 use Rattle.std.proofs.lemmas.Bool.{cases_lt}
 use Rattle.std.proofs.lemmas.Bool.Decides.{nat_tests}
@@ -32,7 +33,8 @@ use Rattle.micro_file.proofs.BitsTold.{tells_bits, number_told, whole_told, tell
 use Rattle.micro_file.proofs.HardwareTold.{issue_on_told}
 use Rattle.micro_file.proofs.IssueOnReader.{HasFewWords}
 use Rattle.micro_file.proofs.Issues.{HasFiles, AllHave}
-use Rattle.micro_file.proofs.Layouts.{Tells, Is, tells_placed, tells_same, tells_given, tells_next, tells_each, tells_judged}
+use Rattle.micro_file.proofs.Layouts.{Tells, Is, tells_placed, tells_same, tells_given, tells_next, tells_each}
+use Rattle.micro_file.proofs.Layouts.{tells_judged}
 use Rattle.micro_file.proofs.Readers.{bit_values}
 use Rattle.micro_file.proofs.Transfers.{take_sound, take_whole}
 use Rattle.micro_file.proofs.WordsTold.{next_after, after_next}

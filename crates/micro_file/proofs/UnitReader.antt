@@ -17,7 +17,8 @@ use Rattle.micro_file.specs.declared.misread.Misread.{Misread}
 use Rattle.micro_file.specs.declared.misread.Misread.TheVariants.{Field}
 use Rattle.micro_file.specs.Private.Fields.{Reading, ◌>>=◌, many_at}
 use Rattle.micro_file.specs.Private.FormAt.{FormAt}
-use Rattle.micro_file.specs.Private.Units.{file_at, cells_at, ram_at, unit_at, is_ram, is_some_ram, is_tied_by, is_tied, judged}
+use Rattle.micro_file.specs.Private.Units.{file_at, cells_at, ram_at, unit_at, is_ram, is_some_ram, is_tied_by, is_tied}
+use Rattle.micro_file.specs.Private.Units.{judged}
 use Rattle.micro_file.specs.Private.Units.{judged_at, some_units_at, units_at}
 use Rattle.micro_file.specs.Private.Ends.{ends_of, all_judged}
 use Rattle.micro_bits.proofs.Bits.{IsDigits}

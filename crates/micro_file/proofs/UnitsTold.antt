@@ -18,7 +18,8 @@ use Rattle.micro_file.specs.Hardware.{Any, Own, IsTied, file, cells_of, ram_of, 
 use Rattle.micro_file.specs.Layout.{Reading, chain, field, given, many}
 use Rattle.micro_file.specs.Private.Fields.{◌>>=◌, many_at}
 use Rattle.micro_file.specs.Private.FormAt.{FormAt}
-use Rattle.micro_file.specs.Private.Units.{file_at, cells_at, ram_at, unit_at, is_tied, judged, judged_at, some_units_at}
+use Rattle.micro_file.specs.Private.Units.{file_at, cells_at, ram_at, unit_at, is_tied, judged, judged_at}
+use Rattle.micro_file.specs.Private.Units.{some_units_at}
 use Rattle.micro_file.specs.Private.Units.{units_at}
 use Rattle.micro_file.specs.Private.Ends.{ends_of}
 use Rattle.micro_file.proofs.FormReader.{ReadsForm}

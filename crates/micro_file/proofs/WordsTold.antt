@@ -1,5 +1,6 @@
 -- The microwords of version 1 are read as they are laid out.
-use Rattle.std.proofs.Common.{◌≡◌, ℕ, ◌<◌, ◌≤◌, Bool, true, false, List, [], ◌∷◌, length, Option, Some, None, Ok, Err, ℤ}
+use Rattle.std.proofs.Common.{◌≡◌, ℕ, ◌<◌, ◌≤◌, Bool, true, false, List, [], ◌∷◌, length, Option, Some, None, Ok, Err}
+use Rattle.std.proofs.Common.{ℤ}
 use Rattle.std.proofs.Common.{refl, sym, ap, subst, ◌∙◌, arith, inl, inr}
 use Rattle.std.specs.Int.{w16}
 use Rattle.std.specs.Prelude.{slice_get}
@@ -29,7 +30,8 @@ use Rattle.micro_file.proofs.BytesTold.{tells_bytes, below_told, two_told, one_l
 use Rattle.micro_file.proofs.HardwareTold.{issue_on_told}
 use Rattle.micro_file.proofs.IssueOnReader.{HasFewWords}
 use Rattle.micro_file.proofs.Issues.{HasFiles, AllHave}
-use Rattle.micro_file.proofs.Layouts.{Tells, Is, Sized, tells_placed, tells_same, tells_given, tells_next, tells_many, tells_judged}
+use Rattle.micro_file.proofs.Layouts.{Tells, Is, Sized, tells_placed, tells_same, tells_given, tells_next, tells_many}
+use Rattle.micro_file.proofs.Layouts.{tells_judged}
 use Rattle.micro_file.proofs.Layouts.{tells_field, field_allowed}
 use Rattle.micro_file.proofs.Leaves.{byte_reader, upto_reader}
 use Rattle.micro_file.proofs.Readers.{byte_values, Took, IsReader, IsTestOf, tested, bound, ok_is, was_found, found_is}
@@ -272,8 +274,8 @@ module _ (image : Image) (few : HasFewWords image) (have : AllHave image) where
 
   upto_told : (limit : ℕ) → Is byte_values (byte (λ n. n ≤ limit)) (byte_upto limit)
   upto_told limit left fits =
-      tells_field byte_values one_byte (λ (n : ℕ). n ≤ limit) here (byte_upto limit) 1 0 one_len (upto_reader limit) left
-      fits (sized_kept 1 left (byte_at left) _ (sized_byte (here left) left))
+      tells_field byte_values one_byte (λ (n : ℕ). n ≤ limit) here (byte_upto limit) 1 0 one_len (upto_reader limit)
+      left fits (sized_kept 1 left (byte_at left) _ (sized_byte (here left) left))
 
   issues_told : Is byte_values (chain (byte (λ n. n ≤ length image.units)) (many (words.issue image) []))
       (issues_at image)
