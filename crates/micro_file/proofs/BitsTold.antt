@@ -1,10 +1,9 @@
 -- The fields of version 2 are read as they are laid out.
-use Rattle.std.proofs.Common.{◌≡◌, ℕ, zero, suc, ◌+◌, ◌-◌, ◌^◌, ◌<◌, ◌≤◌, ◌/◌, Bool, true, false, cond, eqb, not, List}
+use Rattle.std.proofs.Common.{◌≡◌, ℕ, ◌+◌, ◌-◌, ◌^◌, ◌<◌, ◌≤◌, ◌/◌, Bool, true, false, cond, eqb, not, List}
 use Rattle.std.proofs.Common.{[], ◌∷◌}
-use Rattle.std.proofs.Common.{◌++◌, length, replicate, Ok, ℤ, pos, refl, sym, ap, arith}
+use Rattle.std.proofs.Common.{◌++◌, length, replicate, Ok, ℤ, pos, refl, sym, arith}
 use Rattle.std.specs.Int.{w64, cast_unsigned}
 use Rattle.std.specs.Prelude.{◌-ℤ◌}
-use Rattle.std.proofs.lemmas.Bool.{cases_lt}
 use Rattle.fix_word.specs.Words.{IsMachineWord}
 use Rattle.fix_word.specs.declared.operation.Op.{Op}
 use Rattle.fix_word.specs.declared.operation.Op.TheVariants as op
@@ -22,7 +21,7 @@ use Rattle.micro_image.specs.Operations.{kind_of, is_formatted, reads}
 use Rattle.micro_image.specs.Valid.{IsWithin, IsBelow, offsets, IsArgumentOf}
 use Rattle.micro_bits.proofs.Bits.{IsDigits}
 use Rattle.micro_file.specs.Hardware.{Any}
-use Rattle.micro_file.specs.Layout.{Layout, Stands, field, given, choice, many, judged, placed}
+use Rattle.micro_file.specs.Layout.{Layout, field, given, choice, many}
 use Rattle.micro_file.specs.PackedWords as packed
 use Rattle.micro_file.specs.PackedWords.{number, own_bits}
 use Rattle.micro_file.specs.Private.Bits.{number_at, number_less_1_at, number_upto, number_below, number_less_1_upto}
@@ -38,7 +37,7 @@ use Rattle.micro_file.proofs.FormReader.{IsUnroll, HaveRegisters}
 use Rattle.micro_file.proofs.FormTold.{TellsForm}
 use Rattle.micro_file.proofs.Layouts.{Tells, Is, Sized, tells_placed, tells_given, tells_next, tells_many, tells_field}
 use Rattle.micro_file.proofs.Layouts.{tells_judged}
-use Rattle.micro_file.proofs.Readers.{bit_values, IsReader, such_reader}
+use Rattle.micro_file.proofs.Readers.{bit_values, IsReader}
 use Rattle.micro_file.proofs.Sizes.{here, sized_bits, sized_kept, sized_ok, sized_entry}
 
 -- ---- numbers

@@ -1,9 +1,8 @@
 -- The fields of version 1 are read as they are laid out.
-use Rattle.std.proofs.Common.{◌≡◌, ℕ, ◌^◌, ◌<◌, ◌≤◌, Bool, true, false, cond, ltb, eqb, List, [], ◌∷◌, length, Some}
-use Rattle.std.proofs.Common.{None, Ok, Err}
-use Rattle.std.proofs.Common.{ℤ, pos, negsuc, refl, arith, inl, ◌&&◌, Option}
+use Rattle.std.proofs.Common.{◌≡◌, ℕ, ◌^◌, ◌<◌, ◌≤◌, Bool, true, false, cond, List, [], length}
+use Rattle.std.proofs.Common.{Ok, Err}
+use Rattle.std.proofs.Common.{ℤ, pos, refl, arith}
 use Rattle.std.specs.Int.{w8, w16, w32, w64, cast_signed}
-use Rattle.std.specs.Prelude.{int_le, ◌≤ℤ◌}
 use Rattle.fix_word.specs.Words.{IsMachineWord}
 use Rattle.fix_word.specs.declared.operation.Op.{Op}
 use Rattle.fix_word.specs.declared.operation.Op.TheVariants as op
@@ -16,25 +15,23 @@ use Rattle.micro_image.specs.Bytes.{one_byte, two_bytes, four_bytes, eight_bytes
 use Rattle.micro_image.specs.Codes.{kind_number, mode_number}
 use Rattle.micro_image.specs.Operations.{kind_of, opcode, is_formatted, reads}
 use Rattle.micro_image.specs.Valid.{IsWithin, IsArgument}
-use Rattle.micro_bits.proofs.Bits.{IsDigits}
 use Rattle.micro_file.specs.Hardware.{Any}
-use Rattle.micro_file.specs.Layout.{field, given, choice, many}
+use Rattle.micro_file.specs.Layout.{field, choice, many}
 use Rattle.micro_file.specs.Words as words
 use Rattle.micro_file.specs.Words.{byte, own_bytes}
-use Rattle.micro_file.specs.Private.Arguments.{is_argument}
 use Rattle.micro_file.specs.Private.Bytes.{byte_at, byte_within, byte_below, number_at, number_within, raw_word_at}
-use Rattle.micro_file.specs.Private.Bytes.{entry_at, unroll_at, is_unroll, operation_at, same_kind, some_format_at}
-use Rattle.micro_file.specs.Private.Bytes.{no_format_at, format_at, argument_at, signed_at, register_at, at_bytes}
+use Rattle.micro_file.specs.Private.Bytes.{entry_at, unroll_at, operation_at, some_format_at}
+use Rattle.micro_file.specs.Private.Bytes.{no_format_at, argument_at, signed_at, register_at, at_bytes}
 use Rattle.micro_file.specs.Private.Fields.{Reading, ◌>>=◌, kept}
 use Rattle.micro_file.specs.Private.Tables.{kinds, operations, modes}
-use Rattle.micro_file.proofs.BytesForm.{reads_bytes, operation_of_reader, unroll_reader}
-use Rattle.micro_file.proofs.FormReader.{IsUnroll, HaveRegisters}
+use Rattle.micro_file.proofs.BytesForm.{operation_of_reader, unroll_reader}
+use Rattle.micro_file.proofs.FormReader.{IsUnroll}
 use Rattle.micro_file.proofs.FormTold.{TellsForm}
 use Rattle.micro_file.proofs.IssueParts.{argument_reader, shift_low, shift_high, shift_is, is_shift}
-use Rattle.micro_file.proofs.Layouts.{Tells, Is, tells_given, tells_next, tells_many, tells_field, tells_same}
+use Rattle.micro_file.proofs.Layouts.{Is, tells_given, tells_next, tells_many, tells_field, tells_same}
 use Rattle.micro_file.proofs.Leaves.{byte_reader, within_reader, below_reader, two_reader, four_reader, raw_word_reader}
 use Rattle.micro_file.proofs.Leaves.{kind_reader, mode_reader}
-use Rattle.micro_file.proofs.Readers.{byte_values, IsReader, IsTestOf, tested, such_reader}
+use Rattle.micro_file.proofs.Readers.{byte_values, IsTestOf, tested, such_reader}
 use Rattle.micro_file.proofs.Sizes.{here, sized_byte, sized_number, sized_kept, sized_ok, sized_entry}
 
 -- ---- fields

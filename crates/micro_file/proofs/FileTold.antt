@@ -1,8 +1,7 @@
 -- A file is read as it is laid out, and what ends the reading is what its layout says.
-use Rattle.std.proofs.Common.{◌≡◌, ◌⊎◌, ℕ, ◌%◌, ◌^◌, ◌<◌, ◌≤◌, Bool, true, false, cond, eqb, List, [], ◌∷◌, ◌++◌}
+use Rattle.std.proofs.Common.{◌≡◌, ℕ, ◌%◌, ◌<◌, ◌≤◌, Bool, true, false, cond, eqb, List, ◌++◌}
 use Rattle.std.proofs.Common.{length}
 use Rattle.std.proofs.Common.{take, drop, replicate, Result, Ok, Err, refl, sym, ap, subst, ◌∙◌, arith, inl, inr}
-use Rattle.std.proofs.Math.Nat.{mod-lt}
 use Rattle.std.specs.List.{list_all}
 use Rattle.std.proofs.lemmas.Bool.{cases_lt}
 use Rattle.std.proofs.lemmas.Bool.Decides.{nat_tests}
@@ -19,7 +18,7 @@ use Rattle.micro_file.specs.declared.misread.Misread.TheVariants as misread
 use Rattle.micro_file.specs.File.{magic, version_number, head, end, padding, byte_file, bit_file, byte_misread}
 use Rattle.micro_file.specs.File.{StopsBehind, Stops}
 use Rattle.micro_file.specs.Hardware.{Any, image}
-use Rattle.micro_file.specs.Layout.{Layout, chain, field_or, Stands}
+use Rattle.micro_file.specs.Layout.{chain, field_or, Stands}
 use Rattle.micro_file.specs.PackedWords.{own_bits, packed_word}
 use Rattle.micro_file.specs.Words.{own_bytes, word}
 use Rattle.micro_file.specs.Private.Bits.{at_bits}
@@ -42,7 +41,7 @@ use Rattle.micro_file.proofs.Layouts.{Tells, Is, Sized, tells_next, tells_field,
 use Rattle.micro_file.proofs.Leaves.{byte_reader, only_reader}
 use Rattle.micro_file.proofs.PackedWordsTold.{packed_word_told}
 use Rattle.micro_file.proofs.Padding.{is_zero, zeros_replicate, padding_passes}
-use Rattle.micro_file.proofs.Readers.{byte_values, bit_values, digits-drop, Took, Takes, IsReader, bound, ok_is, well}
+use Rattle.micro_file.proofs.Readers.{byte_values, bit_values, digits-drop, Took, Takes, IsReader, bound, ok_is}
 use Rattle.micro_file.proofs.Readers.{misread_as}
 use Rattle.micro_file.proofs.Sizes.{sized_byte}
 use Rattle.micro_file.proofs.WordsTold.{word_told}

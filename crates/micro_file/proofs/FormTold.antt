@@ -1,5 +1,5 @@
 -- What is proved of the fields of a form: each is read as it is laid out.
-use Rattle.std.proofs.Common.{◌≡◌, ℕ, ◌<◌, ◌≤◌, List, length, ℤ}
+use Rattle.std.proofs.Common.{◌≡◌, ℕ, ◌≤◌, List, length, ℤ}
 use Rattle.fix_word.specs.declared.operation.Op.{Op}
 use Rattle.operations.specs.declared.units.Kind.{Kind}
 use Rattle.micro_image.specs.Form.{Form}

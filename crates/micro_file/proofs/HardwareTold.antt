@@ -1,5 +1,5 @@
 -- All but the words, what an issue does, and an image are read as they are laid out.
-use Rattle.std.proofs.Common.{◌≡◌, ℕ, ◌*◌, ◌≤◌, List, [], length, Ok, ℤ, arith}
+use Rattle.std.proofs.Common.{◌≡◌, ℕ, ◌*◌, List, [], length, Ok, ℤ}
 use Rattle.fix_word.specs.declared.operation.Op.{Op}
 use Rattle.fix_word.specs.declared.types.Format.{Format}
 use Rattle.operations.specs.Units.{ports}
@@ -10,9 +10,8 @@ use Rattle.micro_image.specs.declared.image.Word.{Word}
 use Rattle.micro_image.specs.Form.{Form}
 use Rattle.micro_image.specs.Operations.{kind_of, reads}
 use Rattle.micro_image.specs.Valid.{IsWithin, IsArgument}
-use Rattle.micro_bits.proofs.Bits.{IsDigits}
 use Rattle.micro_file.specs.Hardware.{Own, IsUnroll, some_units, hardware, image, issue_on}
-use Rattle.micro_file.specs.Layout.{Layout, chain, field, given, many}
+use Rattle.micro_file.specs.Layout.{Layout, chain, field, many}
 use Rattle.micro_file.specs.Private.Fields.{Reading, ◌>>=◌, many_at}
 use Rattle.micro_file.specs.Private.FormAt.{FormAt}
 use Rattle.micro_file.specs.Private.Hardware.{inputs_at, hardware_at, image_at, issue_on_at}
@@ -21,7 +20,7 @@ use Rattle.micro_file.proofs.FormReader.{ReadsForm, HaveRegisters}
 use Rattle.micro_file.proofs.FormTold.{TellsForm}
 use Rattle.micro_file.proofs.HardwareReader.{IsHardware, hardware_reader}
 use Rattle.micro_file.proofs.IssueOnReader.{HasFewWords, enough_files}
-use Rattle.micro_file.proofs.Layouts.{Tells, Is, tells_given, tells_next, tells_many, field_allowed}
+use Rattle.micro_file.proofs.Layouts.{Is, tells_given, tells_next, tells_many, field_allowed}
 use Rattle.micro_file.proofs.UnitsTold.{some_units_told}
 
 module _ {base : ℕ} {spell : Form} {own : Own} {form : FormAt} (is : ReadsForm base spell form)

@@ -1,11 +1,11 @@
 -- What a reader reads is the one reading of a layout.
-use Rattle.std.proofs.Common.{◌≡◌, ℕ, zero, suc, ◌+◌, ◌<◌, ◌≤◌, Bool, true, false, List, [], ◌∷◌, ◌++◌, length, Result}
+use Rattle.std.proofs.Common.{◌≡◌, ℕ, zero, suc, ◌+◌, ◌<◌, ◌≤◌, Bool, true, false, List, [], ◌∷◌, ◌++◌, length}
 use Rattle.std.proofs.Common.{Ok, Err, refl, sym, ap, subst, ◌∙◌, inl, inr, arith, ◌⊎◌}
 use Rattle.std.proofs.lemmas.List.{length-append}
 use Rattle.micro_bits.proofs.Bits.{IsDigits}
 use Rattle.micro_file.specs.declared.misread.Misread.{Misread}
 use Rattle.micro_file.specs.declared.misread.Misread.TheVariants.{Short, Field}
-use Rattle.micro_file.specs.Layout.{Reading, Layout, Stands, IsRefused, IsShort, field_or, field, given, placed, chain}
+use Rattle.micro_file.specs.Layout.{Reading, Layout, Stands, field_or, field, given, placed, chain}
 use Rattle.micro_file.specs.Layout.{judged, many, each}
 use Rattle.micro_file.specs.Private.Fields.{◌>>=◌, kept, many_at, each_at}
 use Rattle.micro_file.proofs.Readers.{IsReader, ok_is, well, misread_as}

@@ -1,7 +1,7 @@
 -- The microwords of version 2 are read as they are laid out.
-use Rattle.std.proofs.Common.{◌≡◌, ℕ, zero, suc, ◌-◌, ◌^◌, ◌<◌, ◌≤◌, Bool, true, false, cond, eqb, ltb, List, [], ◌∷◌}
+use Rattle.std.proofs.Common.{◌≡◌, ℕ, zero, suc, ◌-◌, ◌≤◌, Bool, true, false, cond, eqb, ltb, List, [], ◌∷◌}
 use Rattle.std.proofs.Common.{◌++◌}
-use Rattle.std.proofs.Common.{length, Ok, Err, refl, sym, subst, arith, inl, inr, ap}
+use Rattle.std.proofs.Common.{length, Ok, Err, refl, sym, subst, arith, inl, inr}
 use Rattle.std.proofs.lemmas.Bool.{cases_lt}
 use Rattle.std.proofs.lemmas.Bool.Decides.{nat_tests}
 use Rattle.std.proofs.lemmas.List.{get_or_past}
@@ -15,14 +15,13 @@ use Rattle.micro_image.specs.declared.image.Word.{Word}
 use Rattle.micro_image.specs.Bits.{in_bits}
 use Rattle.micro_image.specs.Fields.{nth, no_unit}
 use Rattle.micro_image.specs.Valid.{TakeBefore}
-use Rattle.micro_bits.proofs.Bits.{IsDigits}
 use Rattle.micro_file.specs.Hardware.{issue_on}
-use Rattle.micro_file.specs.Layout.{Layout, chain, field, given, placed, judged, each}
+use Rattle.micro_file.specs.Layout.{chain, given, each}
 use Rattle.micro_file.specs.PackedWords as packed
 use Rattle.micro_file.specs.PackedWords.{number, own_bits, take_at}
 use Rattle.micro_file.specs.Words.{IsAfter, files_of}
 use Rattle.micro_file.specs.Private.Bits.{at_bits, number_at, number_below}
-use Rattle.micro_file.specs.Private.Fields.{Reading, ◌>>=◌, kept, refused, last_of, each_at}
+use Rattle.micro_file.specs.Private.Fields.{Reading, ◌>>=◌, kept, refused, last_of}
 use Rattle.micro_file.specs.Private.Hardware.{issue_on_at}
 use Rattle.micro_file.specs.Private.Order.{is_next, take_before, kept_next}
 use Rattle.micro_file.specs.Private.PackedWords.{put_behind, slot_at, slots_at, drive_at, unit_drives_at, drives_at}
@@ -33,7 +32,7 @@ use Rattle.micro_file.proofs.BitsTold.{tells_bits, number_told, whole_told, tell
 use Rattle.micro_file.proofs.HardwareTold.{issue_on_told}
 use Rattle.micro_file.proofs.IssueOnReader.{HasFewWords}
 use Rattle.micro_file.proofs.Issues.{HasFiles, AllHave}
-use Rattle.micro_file.proofs.Layouts.{Tells, Is, tells_placed, tells_same, tells_given, tells_next, tells_each}
+use Rattle.micro_file.proofs.Layouts.{Is, tells_placed, tells_same, tells_given, tells_next, tells_each}
 use Rattle.micro_file.proofs.Layouts.{tells_judged}
 use Rattle.micro_file.proofs.Readers.{bit_values}
 use Rattle.micro_file.proofs.Transfers.{take_sound, take_whole}

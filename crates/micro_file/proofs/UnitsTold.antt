@@ -1,8 +1,7 @@
 -- Units are read as they are laid out, and the first that is not tied to a ram is blamed.
-use Rattle.std.proofs.Common.{◌≡◌, ℕ, zero, suc, ◌+◌, Bool, true, false, cond, List, [], ◌∷◌, ◌++◌, length, Ok, Err}
+use Rattle.std.proofs.Common.{◌≡◌, ℕ, zero, suc, ◌+◌, Bool, true, false, List, [], ◌∷◌, ◌++◌, length, Ok, Err}
 use Rattle.std.proofs.Common.{Result, refl, sym, ap, subst, ◌∙◌, append_assoc, arith, ℤ}
 use Rattle.std.specs.List.{All, flat_map}
-use Rattle.std.specs.Prelude.{slice_index_or}
 use Rattle.std.proofs.lemmas.List.{length-append, append-nil}
 use Rattle.std.proofs.lemmas.List.Concat.{flat_map-cons}
 use Rattle.std.proofs.lemmas.List.Elements.{All-nil, All-cons}
@@ -15,12 +14,11 @@ use Rattle.micro_bits.proofs.Bits.{IsDigits}
 use Rattle.micro_file.specs.declared.misread.Misread.{Misread}
 use Rattle.micro_file.specs.declared.misread.Misread.TheVariants.{Field}
 use Rattle.micro_file.specs.Hardware.{Any, Own, IsTied, file, cells_of, ram_of, unit, IsUntied, tied, some_units}
-use Rattle.micro_file.specs.Layout.{Reading, chain, field, given, many}
+use Rattle.micro_file.specs.Layout.{Reading, chain, field, many}
 use Rattle.micro_file.specs.Private.Fields.{◌>>=◌, many_at}
 use Rattle.micro_file.specs.Private.FormAt.{FormAt}
 use Rattle.micro_file.specs.Private.Units.{file_at, cells_at, ram_at, unit_at, is_tied, judged, judged_at}
 use Rattle.micro_file.specs.Private.Units.{some_units_at}
-use Rattle.micro_file.specs.Private.Units.{units_at}
 use Rattle.micro_file.specs.Private.Ends.{ends_of}
 use Rattle.micro_file.proofs.FormReader.{ReadsForm}
 use Rattle.micro_file.proofs.FormTold.{TellsForm}

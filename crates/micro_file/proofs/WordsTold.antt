@@ -1,7 +1,7 @@
 -- The microwords of version 1 are read as they are laid out.
-use Rattle.std.proofs.Common.{◌≡◌, ℕ, ◌<◌, ◌≤◌, Bool, true, false, List, [], ◌∷◌, length, Option, Some, None, Ok, Err}
+use Rattle.std.proofs.Common.{◌≡◌, ℕ, ◌<◌, ◌≤◌, Bool, true, false, List, [], length, Option, Some, None, Ok, Err}
 use Rattle.std.proofs.Common.{ℤ}
-use Rattle.std.proofs.Common.{refl, sym, ap, subst, ◌∙◌, arith, inl, inr}
+use Rattle.std.proofs.Common.{refl, sym, ap, subst, ◌∙◌, arith, inr}
 use Rattle.std.specs.Int.{w16}
 use Rattle.std.specs.Prelude.{slice_get}
 use Rattle.std.proofs.lemmas.Bool.Decides.{nat_tests}
@@ -12,12 +12,10 @@ use Rattle.micro_image.specs.declared.image.Issue.{Issue}
 use Rattle.micro_image.specs.declared.image.Take.{Take}
 use Rattle.micro_image.specs.declared.image.UnitDesc.{UnitDesc}
 use Rattle.micro_image.specs.declared.image.Word.{Word}
-use Rattle.micro_image.specs.Bytes.{one_byte, two_bytes, in_bytes}
+use Rattle.micro_image.specs.Bytes.{one_byte, two_bytes}
 use Rattle.micro_image.specs.Fields.{nth, no_unit}
 use Rattle.micro_image.specs.Valid.{IsWithin, EnableBefore, TakeBefore}
-use Rattle.micro_bits.proofs.Bits.{IsDigits}
-use Rattle.micro_file.specs.Hardware.{issue_on}
-use Rattle.micro_file.specs.Layout.{Layout, chain, field, given, placed, judged, many}
+use Rattle.micro_file.specs.Layout.{Layout, chain, field, placed, many}
 use Rattle.micro_file.specs.Words as words
 use Rattle.micro_file.specs.Words.{byte, IsAfter, files_of, take_of, own_bytes}
 use Rattle.micro_file.specs.Private.Bytes.{at_bytes, byte_at, byte_below, byte_upto, number_within}
@@ -30,11 +28,11 @@ use Rattle.micro_file.proofs.BytesTold.{tells_bytes, below_told, two_told, one_l
 use Rattle.micro_file.proofs.HardwareTold.{issue_on_told}
 use Rattle.micro_file.proofs.IssueOnReader.{HasFewWords}
 use Rattle.micro_file.proofs.Issues.{HasFiles, AllHave}
-use Rattle.micro_file.proofs.Layouts.{Tells, Is, Sized, tells_placed, tells_same, tells_given, tells_next, tells_many}
+use Rattle.micro_file.proofs.Layouts.{Is, Sized, tells_placed, tells_same, tells_given, tells_next, tells_many}
 use Rattle.micro_file.proofs.Layouts.{tells_judged}
 use Rattle.micro_file.proofs.Layouts.{tells_field, field_allowed}
 use Rattle.micro_file.proofs.Leaves.{byte_reader, upto_reader}
-use Rattle.micro_file.proofs.Readers.{byte_values, Took, IsReader, IsTestOf, tested, bound, ok_is, was_found, found_is}
+use Rattle.micro_file.proofs.Readers.{byte_values, Took, IsReader, IsTestOf, tested, bound, ok_is, was_found}
 use Rattle.micro_file.proofs.Sizes.{here, sized_byte, sized_kept}
 use Rattle.micro_file.proofs.Transfers.{enable_sound, enable_whole, take_sound, take_whole}
 

@@ -8,7 +8,7 @@ use Rattle.micro_image.specs.Bytes.{one_byte, in_bytes}
 use Rattle.micro_image.specs.Spells.{bits_of}
 use Rattle.micro_file.specs.declared.misread.Misread.{Misread}
 use Rattle.micro_file.specs.declared.misread.Misread.TheVariants as misread
-use Rattle.micro_file.specs.Layout.{Layout, ◌>>=◌, field_or, field, given, placed}
+use Rattle.micro_file.specs.Layout.{Layout, ◌>>=◌, field_or, field, placed}
 use Rattle.micro_file.specs.Hardware.{Any, image}
 use Rattle.micro_file.specs.Words.{own_bytes, word}
 use Rattle.micro_file.specs.PackedWords.{own_bits, packed_word}

@@ -1,6 +1,6 @@
 -- The fields of a file of version 1, in bytes, and its microwords: what is issued, which buses are driven, which
 -- registers are written.
-use Rattle.std.specs.Prelude.{◌≡◌, ℕ, ◌+◌, ◌-◌, ◌<◌, ◌≤◌, ◌≤ℤ◌, List, [], ◌∷◌, length, ℤ, pos, negsuc, Some, slice_get}
+use Rattle.std.specs.Prelude.{◌≡◌, ℕ, ◌-◌, ◌<◌, ◌≤◌, ◌≤ℤ◌, List, [], length, ℤ, pos, negsuc, Some, slice_get}
 use Rattle.std.specs.Prelude.{nat_lt}
 use Rattle.std.specs.Prelude.{if◌then◌else◌}
 use Rattle.std.specs.Int.{w8, cast_signed}
