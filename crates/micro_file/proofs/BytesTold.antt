@@ -39,15 +39,15 @@ use Rattle.micro_file.proofs.Sizes.{here, sized_byte, sized_number, sized_kept, 
 pub one_len : (n : ℕ) → length (one_byte n) ≡ 1
 one_len n = refl
 
-two_len : (n : ℕ) → length (two_bytes n) ≡ 2
+pub two_len : (n : ℕ) → length (two_bytes n) ≡ 2
 unfolding two_bytes
 two_len n = refl
 
-four_len : (n : ℕ) → length (four_bytes n) ≡ 4
+pub four_len : (n : ℕ) → length (four_bytes n) ≡ 4
 unfolding four_bytes
 four_len n = refl
 
-eight_len : (z : ℤ) → length (eight_bytes z) ≡ 8
+pub eight_len : (z : ℤ) → length (eight_bytes z) ≡ 8
 unfolding eight_bytes
 eight_len z = refl
 

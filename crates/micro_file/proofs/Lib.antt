@@ -50,6 +50,10 @@ pub mod WordsTold
 pub mod PackedWordsTold
 pub mod FileTold
 pub mod FirstFault
+pub mod Lasting
+pub mod LastingForm
+pub mod LastingWords
+pub mod Following
 pub mod Groups
 pub mod GroupedIssues
 pub mod GroupedEnables
