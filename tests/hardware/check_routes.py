@@ -8,7 +8,7 @@ usage: tests/hardware/check_routes.py
 It runs the built `silc`, or the one that `SILC` names. Without Yosys, nextpnr and icestorm it is skipped, and ends with
 77. docs/BOARD.md, which tests/check_board.py runs, has a core with multipliers.
 """
-import importlib.util
+import json
 import os
 import re
 import shutil
@@ -48,6 +48,9 @@ PREAMBLE = bytes.fromhex("7eaa997e")
 # How icebox calls a part's package, and its part.
 TABLES = {"up5k": ("5k-sg48", "5k"), "hx8k": ("8k-ct256", "8k")}
 ICEBOX = "share/fpga-icestorm/python", "share/icebox", "bin"
+# The pins of a package and the places of a chip's clocks, by icebox, whose modules are in a folder of their own.
+PRINT_TABLES = """import icebox, json, sys
+print(json.dumps([icebox.pinloc_db[sys.argv[1]], icebox.padin_pio_db[sys.argv[2]]]))"""
 
 
 def ran(*words: str | Path, room: Path) -> "subprocess.CompletedProcess[str]":
@@ -91,13 +94,11 @@ def icebox_pins(board: Board) -> tuple[dict[str, Place], list[Place]] | None:
     folder = next((top / name for name in ICEBOX if (top / name / "icebox.py").is_file()), None)
     if not folder:
         return None
-    found = importlib.util.spec_from_file_location("icebox", folder / "icebox.py")
-    if found is None or found.loader is None:
-        return None
-    icebox = importlib.util.module_from_spec(found)
-    found.loader.exec_module(icebox)
     package, chip = TABLES[board.fpga.name]
-    return {pin: (x, y, z) for pin, x, y, z in icebox.pinloc_db[package]}, icebox.padin_pio_db[chip]
+    said = subprocess.run([sys.executable, "-c", PRINT_TABLES, package, chip], env=os.environ | {
+        "PYTHONPATH": str(folder)}, capture_output=True, text=True, check=True).stdout
+    pins, clocks = json.loads(said)
+    return {pin: (x, y, z) for pin, x, y, z in pins}, [(x, y, z) for x, y, z in clocks]
 
 
 def pin_faults(board: Board) -> Iterator[str]:
