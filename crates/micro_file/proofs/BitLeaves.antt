@@ -24,11 +24,12 @@ use Rattle.micro_bits.proofs.Bits.{IsDigits, bits_back, bits_mod, number_below, 
 use Rattle.micro_image.proofs.Length.{length-bits}
 use Rattle.micro_bits.specs.Numbers.{number_of, some_at, numbered}
 use Rattle.micro_bits.specs.declared.fault.BitFault.TheVariants as fault
-use Rattle.micro_file.specs.Bits.{unless_short, number_at, number_less_1_at, number_upto, number_below as below_at}
-use Rattle.micro_file.specs.Bits.{number_less_1_upto, entry_at, as_raw_word, raw_word_at, operation_at}
-use Rattle.micro_file.specs.Bits.{as_argument}
-use Rattle.micro_file.specs.Fields.{Reading, ◌>>=◌, found, element}
-use Rattle.micro_file.specs.Tables.{kinds, modes}
+use Rattle.micro_file.specs.Private.Bits.{unless_short, number_at, number_less_1_at, number_upto}
+use Rattle.micro_file.specs.Private.Bits.{number_below as below_at}
+use Rattle.micro_file.specs.Private.Bits.{number_less_1_upto, entry_at, as_raw_word, raw_word_at, operation_at}
+use Rattle.micro_file.specs.Private.Bits.{as_argument}
+use Rattle.micro_file.specs.Private.Fields.{Reading, ◌>>=◌, found, element}
+use Rattle.micro_file.specs.Private.Tables.{kinds, modes}
 use Rattle.micro_file.proofs.FormReader.{IsUnroll}
 use Rattle.micro_file.proofs.Readers.{bit_values, digits-take, digits-drop, Took, IsReader, bound, ok_is, was_found}
 use Rattle.micro_file.proofs.Readers.{joined, tested, such_reader, so_spelled}
@@ -197,13 +198,13 @@ raw_word_reader =
 -- ---- entries of a table
 
 -- the allowed elements are those of the table, each at its place, and so many bits hold a place
-record IsTable {A : Type 0} (Allowed : A → Type 0) (w : ℕ) (table : List A) (place : A → ℕ) : Type 0 where
-  there : (x : A) → Allowed x → slice_get table (place x) ≡ Some x
-  fits : (x : A) → Allowed x → place x < 2 ^ w
-  only : (k : ℕ) (x : A) → slice_get table k ≡ Some x → (place x ≡ k) × Allowed x
+pub record IsTable {A : Type 0} (Allowed : A → Type 0) (w : ℕ) (table : List A) (place : A → ℕ) : Type 0 where
+  pub there : (x : A) → Allowed x → slice_get table (place x) ≡ Some x
+  pub fits : (x : A) → Allowed x → place x < 2 ^ w
+  pub only : (k : ℕ) (x : A) → slice_get table k ≡ Some x → (place x ≡ k) × Allowed x
 
 -- an element of a table
-entry_reader : {A : Type 0} (Allowed : A → Type 0) (w : ℕ) (table : List A) (place : A → ℕ)
+pub entry_reader : {A : Type 0} (Allowed : A → Type 0) (w : ℕ) (table : List A) (place : A → ℕ)
     → IsTable Allowed w table place
     → IsReader bit_values Allowed (λ x. bits w (place x)) (entry_at w table)
 entry_reader {A} Allowed w table place is = record {
@@ -287,7 +288,7 @@ unroll_reader = entry_reader IsUnroll 2 factors (λ n. n / 2) (record {
 })
 
 -- the operations of a kind are a table
-operation_table : (k : Kind) → IsTable (λ o. kind_of o ≡ k) (place_width k) (operations_of k) place_of
+pub operation_table : (k : Kind) → IsTable (λ o. kind_of o ≡ k) (place_width k) (operations_of k) place_of
 operation_table k = record {
   there = λ o is. (once_placed o k (place_of o)).1 (is, refl);
   fits = λ o is. subst (λ (j : Kind). place_of o < 2 ^ place_width j) is (places_held o);

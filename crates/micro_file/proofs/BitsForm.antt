@@ -23,11 +23,12 @@ use Rattle.micro_image.specs.Operations.{Argument, nothing, input_word, output_w
 use Rattle.micro_image.specs.Operations.{is_formatted, reads}
 use Rattle.micro_image.specs.Valid.{IsFormatWhere, offsets, IsArgumentOf, AreRegisters}
 use Rattle.micro_bits.proofs.Bits.{IsDigits}
-use Rattle.micro_file.specs.Bits.{number_at, number_upto, number_less_1_upto, number_below, entry_at, raw_word_at}
-use Rattle.micro_file.specs.Bits.{some_words_at, preload_at, some_format_at, no_format, argument_at}
-use Rattle.micro_file.specs.Bits.{register_at, registers_at, at_bits}
-use Rattle.micro_file.specs.Fields.{Reading, kept, many_at}
-use Rattle.micro_file.specs.Tables.{modes}
+use Rattle.micro_file.specs.Private.Bits.{number_at, number_upto, number_less_1_upto, number_below, entry_at}
+use Rattle.micro_file.specs.Private.Bits.{raw_word_at}
+use Rattle.micro_file.specs.Private.Bits.{some_words_at, preload_at, some_format_at, no_format, argument_at}
+use Rattle.micro_file.specs.Private.Bits.{register_at, registers_at, at_bits}
+use Rattle.micro_file.specs.Private.Fields.{Reading, kept, many_at}
+use Rattle.micro_file.specs.Private.Tables.{modes}
 use Rattle.micro_file.proofs.BitLeaves.{number_reader, below_reader, upto_reader, less_1_reader, less_1_upto_reader}
 use Rattle.micro_file.proofs.BitLeaves.{argument_of_reader, raw_word_reader, kind_reader, mode_reader, unroll_reader}
 use Rattle.micro_file.proofs.BitLeaves.{operation_reader}
@@ -243,7 +244,7 @@ some_format_reader : IsReader bit_values IsFormat format_bits some_format_at
 some_format_reader = record { took = some_format_took; again = some_format_again }
 
 -- what takes no bits
-none_reader : {A : Type 0} (Allowed : A → Type 0) (x : A)
+pub none_reader : {A : Type 0} (Allowed : A → Type 0) (x : A)
     → Allowed x
     → ((y : A) → Allowed y → x ≡ y)
     → IsReader bit_values Allowed (λ _. []) (λ left. Ok (x, left))
@@ -286,7 +287,7 @@ module _ (files : List (List ℤ)) (read : ℕ) (have : HaveRegisters files) (le
   count_at port = length (nth files port [])
 
   -- a file has no more registers than eight bits can name
-  few_registers : (port : ℕ) → count_at port ≤ 2 ^ 8
+  pub few_registers : (port : ℕ) → count_at port ≤ 2 ^ 8
   few_registers port = elim (cases_lt port (length files)) [
     | inl lt ↦ (have port lt).1
     | inr past ↦ rw (get_or_past files port [] past) (omega arith)

@@ -9,8 +9,9 @@ use Rattle.operations.specs.declared.units.Kind.{Kind}
 use Rattle.micro_image.specs.Bytes.{one_byte, eight_bytes, in_bytes}
 use Rattle.micro_image.specs.Codes.{kind_number}
 use Rattle.micro_image.specs.Operations.{opcode, kind_of, reads}
-use Rattle.micro_file.specs.Tables.{kinds}
-use Rattle.micro_file.specs.Bytes.{raw_word_at, raw_words_at, is_unroll, unroll_at, same_kind, operation_at, at_bytes}
+use Rattle.micro_file.specs.Private.Tables.{kinds}
+use Rattle.micro_file.specs.Private.Bytes.{raw_word_at, raw_words_at, is_unroll, unroll_at, same_kind, operation_at}
+use Rattle.micro_file.specs.Private.Bytes.{at_bytes}
 use Rattle.micro_file.proofs.Readers.{byte_values, IsReader, tested, such_reader}
 use Rattle.micro_file.proofs.FormReader.{IsUnroll, ReadsForm}
 use Rattle.micro_file.proofs.Several.{all_from, grows_all, many_reader}
@@ -28,7 +29,7 @@ unroll_whole n (inl is) = rw is refl
 unroll_whole n (inr (inl is)) = rw is refl
 unroll_whole n (inr (inr is)) = rw is refl
 
-unroll_reader : IsReader byte_values IsUnroll one_byte unroll_at
+pub unroll_reader : IsReader byte_values IsUnroll one_byte unroll_at
 unroll_reader =
     such_reader (λ n h. h.1) (λ n h. (tt, h))
     (tested byte_reader (record { sound = λ n e. unroll_sound n e; whole = λ n h. unroll_whole n h }))
@@ -61,7 +62,7 @@ kind_same a b e =
 same_as_kind : (a b : Kind) → a ≡ b → same_kind a b ≡ true
 same_as_kind a b e = rw e (number_same (kind_number b))
 
-operation_of_reader : (k : Kind)
+pub operation_of_reader : (k : Kind)
     → IsReader byte_values (λ op. kind_of op ≡ k) (λ op. one_byte (opcode op)) (operation_at k)
 operation_of_reader k =
     such_reader (λ op h. h.1) (λ op h. (tt, h)) (tested operation_reader (record {

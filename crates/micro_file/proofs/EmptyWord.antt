@@ -4,9 +4,9 @@ use Rattle.std.specs.Int.{w16}
 use Rattle.micro_image.specs.declared.image.Image.{Image}
 use Rattle.micro_image.specs.Bytes.{two_bytes}
 use Rattle.micro_image.specs.Fields.{no_word}
-use Rattle.micro_file.specs.Bytes.{number_within}
-use Rattle.micro_file.specs.Fields.{many_at}
-use Rattle.micro_file.specs.Words.{issues_at, enables_at, takes_at, word_at}
+use Rattle.micro_file.specs.Private.Bytes.{number_within}
+use Rattle.micro_file.specs.Private.Fields.{many_at}
+use Rattle.micro_file.specs.Private.Words.{issues_at, enables_at, takes_at, word_at}
 use Rattle.micro_file.specs.Private.Empty.{empty_word}
 use Rattle.micro_file.proofs.Leaves.{upto_reader, two_reader}
 

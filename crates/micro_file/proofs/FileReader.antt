@@ -18,14 +18,15 @@ use Rattle.micro_image.specs.Valid.{IsValid}
 use Rattle.micro_bits.proofs.Bits.{IsDigits, bits_digits, digits_append}
 use Rattle.micro_file.specs.declared.misread.Misread.{Misread}
 use Rattle.micro_file.specs.declared.misread.Misread.TheVariants as misread
-use Rattle.micro_file.specs.Bits.{at_bits}
-use Rattle.micro_file.specs.Bytes.{at_bytes, byte_at, only_byte}
-use Rattle.micro_file.specs.Fields.{Reading, refused}
-use Rattle.micro_file.specs.File.{numbered, head_at, ended, byte_image_at, padding_at, bit_image_at, byte_placed}
-use Rattle.micro_file.specs.File.{image_behind, whole_at}
-use Rattle.micro_file.specs.Hardware.{image_at}
-use Rattle.micro_file.specs.PackedWords.{packed_word_at}
-use Rattle.micro_file.specs.Words.{word_at}
+use Rattle.micro_file.specs.Private.Bits.{at_bits}
+use Rattle.micro_file.specs.Private.Bytes.{at_bytes, byte_at, only_byte}
+use Rattle.micro_file.specs.Private.Fields.{Reading, refused}
+use Rattle.micro_file.specs.Private.File.{numbered, head_at, ended, byte_image_at, padding_at, bit_image_at}
+use Rattle.micro_file.specs.Private.File.{byte_placed}
+use Rattle.micro_file.specs.Private.File.{image_behind, whole_at}
+use Rattle.micro_file.specs.Private.Hardware.{image_at}
+use Rattle.micro_file.specs.Private.PackedWords.{packed_word_at}
+use Rattle.micro_file.specs.Private.Words.{word_at}
 use Rattle.micro_file.proofs.BitsForm.{reads_bits}
 use Rattle.micro_file.proofs.BytesForm.{reads_bytes}
 use Rattle.micro_file.proofs.HardwareReader.{IsHardware, few_words, all_have, all_counted}
@@ -56,7 +57,7 @@ abbrev version_behind : ℕ × List ℕ → ℕ × List ℕ → ℕ × List ℕ 
 version_behind s i l m n = numbered n
 
 -- the number of a version
-abbrev number_of_version : Version → ℕ
+abbrev pub number_of_version : Version → ℕ
 number_of_version One = 1
 number_of_version Two = 2
 
@@ -64,7 +65,7 @@ same_number : (n m : ℕ) → eqb n m ≡ true → n ≡ m
 same_number n m e = grind (arith, nat_tests)
 
 -- what has one of the two numbers is of a version
-was_numbered : (n : ℕ × List ℕ) (v : Version × List ℕ)
+pub was_numbered : (n : ℕ × List ℕ) (v : Version × List ℕ)
     → numbered n ≡ Ok v
     → (n.0 ≡ number_of_version v.0) × (n.1 ≡ v.1)
 was_numbered n v e = by (eqb n.0 1) refl (eqb n.0 2) refl e
@@ -140,7 +141,7 @@ was_ended {A} x rest y e = by (eqb (length rest) 0) refl e
 
 -- ---- what a word needs to know of the hardware
 
-have_files : (image : Image) → IsHardware image → AllHave image
+pub have_files : (image : Image) → IsHardware image → AllHave image
 have_files image ok k d lt = record { registers = all_have image ok k d lt; count = all_counted image ok k d lt }
 
 -- ---- version 1
@@ -269,7 +270,7 @@ was_placed : {A : Type 0} (r : Result A Misread) (x : A) → byte_placed r ≡ O
 was_placed (Ok y) x e = e
 was_placed (Err misread) x e = absurd cc
 
-bytes_are : (bytes : List ℕ) → IsDigits byte_values bytes → AreBytes bytes
+pub bytes_are : (bytes : List ℕ) → IsDigits byte_values bytes → AreBytes bytes
 bytes_are bytes fits k d lt = subst (λ (b : ℕ). b < 2 ^ 8) (get_or_default bytes k 0 d lt) (fits.digit k)
 
 version_took : (bytes : List ℕ) (v : Version × List ℕ) (image : Image)

@@ -8,8 +8,8 @@ use Rattle.std.proofs.lemmas.List.{length-append}
 use Rattle.std.proofs.lemmas.Option.{slice_get-get_or}
 use Rattle.micro_image.specs.Bits.{bits}
 use Rattle.micro_bits.proofs.Bits.{IsDigits}
-use Rattle.micro_file.specs.Bits.{number_at}
-use Rattle.micro_file.specs.Fields.{last_of}
+use Rattle.micro_file.specs.Private.Bits.{number_at}
+use Rattle.micro_file.specs.Private.Fields.{last_of}
 use Rattle.micro_file.proofs.BitLeaves.{number_reader}
 use Rattle.micro_file.proofs.Readers.{bit_values, Takes}
 use Rattle.micro_file.proofs.Several.{Behind}

@@ -9,9 +9,10 @@ use Rattle.micro_image.specs.declared.image.Take.{Take}
 use Rattle.micro_image.specs.declared.image.Word.{Word}
 use Rattle.micro_image.specs.Fields.{nth, no_unit}
 use Rattle.micro_file.specs.declared.word_flags.PortFile.{PortFile}
-use Rattle.micro_file.specs.Fields.{Reading, ◌>>=◌, each_at}
-use Rattle.micro_file.specs.PackedWords.{most_takes, slots_at, unit_drives_at, drives_at, file_takes_at, unit_takes_at}
-use Rattle.micro_file.specs.PackedWords.{word_takes_at, packed_word_at}
+use Rattle.micro_file.specs.Private.Fields.{Reading, ◌>>=◌, each_at}
+use Rattle.micro_file.specs.Private.PackedWords.{most_takes, slots_at, unit_drives_at, drives_at, file_takes_at}
+use Rattle.micro_file.specs.Private.PackedWords.{unit_takes_at}
+use Rattle.micro_file.specs.Private.PackedWords.{word_takes_at, packed_word_at}
 use Rattle.micro_file.specs.Private.WordFlags.{drive_of, file_of, every_drive, every_file, on_at, into_at, over_at}
 use Rattle.micro_file.specs.Private.WordFlags.{listed_drives_at, listed_takes_at, listed_word_at}
 use Rattle.micro_file.proofs.Idle.{no_drive, none_taken}

@@ -9,7 +9,7 @@ use Rattle.micro_image.specs.Fields.{nth}
 use Rattle.micro_image.specs.Form.{Form}
 use Rattle.micro_image.specs.Operations.{kind_of, reads}
 use Rattle.micro_image.specs.Valid.{IsWithin, IsFormatFor, IsArgument, AreRegisters}
-use Rattle.micro_file.specs.FormAt.{FormAt}
+use Rattle.micro_file.specs.Private.FormAt.{FormAt}
 use Rattle.micro_file.proofs.Readers.{IsReader}
 
 abbrev pub IsUnroll : ℕ → Type 0

@@ -9,9 +9,9 @@ use Rattle.micro_image.specs.declared.image.Image.{Image}
 use Rattle.micro_image.specs.Bits.{enable_bit, enable_bits}
 use Rattle.micro_image.specs.Valid.{IsEnable, EnableBefore, LexBelow}
 use Rattle.micro_bits.proofs.Bits.{IsDigits}
-use Rattle.micro_file.specs.Bits.{number_at}
-use Rattle.micro_file.specs.Fields.{Reading}
-use Rattle.micro_file.specs.PackedWords.{drive_at, unit_drives_at, drives_at}
+use Rattle.micro_file.specs.Private.Bits.{number_at}
+use Rattle.micro_file.specs.Private.Fields.{Reading}
+use Rattle.micro_file.specs.Private.PackedWords.{drive_at, unit_drives_at, drives_at}
 use Rattle.micro_file.proofs.Flags.{IsFlag, flag_took, no_flag, a_flag, behind_each, last_behind}
 use Rattle.micro_file.proofs.Groups.{TookGroup, ReadsGroup, such_group, groups_reader, group_reader, all_map}
 use Rattle.micro_file.proofs.Readers.{bit_values, IsReader, such_reader, bound, ok_is}

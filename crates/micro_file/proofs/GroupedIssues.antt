@@ -15,10 +15,10 @@ use Rattle.micro_image.specs.Fields.{nth, no_unit}
 use Rattle.micro_image.specs.Form.{spelled_operation}
 use Rattle.micro_image.specs.Valid.{IsIssueOn, IsIssue}
 use Rattle.micro_bits.proofs.Bits.{IsDigits}
-use Rattle.micro_file.specs.Bits.{at_bits, number_at}
-use Rattle.micro_file.specs.Fields.{Reading}
-use Rattle.micro_file.specs.Hardware.{issue_on_at}
-use Rattle.micro_file.specs.PackedWords.{put_behind, slot_at, slots_at}
+use Rattle.micro_file.specs.Private.Bits.{at_bits, number_at}
+use Rattle.micro_file.specs.Private.Fields.{Reading}
+use Rattle.micro_file.specs.Private.Hardware.{issue_on_at}
+use Rattle.micro_file.specs.Private.PackedWords.{put_behind, slot_at, slots_at}
 use Rattle.micro_file.proofs.BitsForm.{reads_bits}
 use Rattle.micro_file.proofs.Flags.{IsFlag, flag_took, no_flag, a_flag, behind_each, last_behind}
 use Rattle.micro_file.proofs.Groups.{TookGroup, ReadsGroup, groups_reader, group_reader, all_map}

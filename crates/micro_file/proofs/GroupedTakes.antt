@@ -15,10 +15,11 @@ use Rattle.micro_image.specs.Bits.{bits, take_bits, takes_bits, ports_bits}
 use Rattle.micro_image.specs.Fields.{nth, no_unit}
 use Rattle.micro_image.specs.Valid.{IsTake, IsRegister, HasRegister, TakeBefore}
 use Rattle.micro_bits.proofs.Bits.{IsDigits}
-use Rattle.micro_file.specs.Bits.{number_at, number_below}
-use Rattle.micro_file.specs.Fields.{Reading, ◌>>=◌, kept, refused, last_of}
-use Rattle.micro_file.specs.Order.{is_next, take_before}
-use Rattle.micro_file.specs.PackedWords.{most_takes, taken_at, takes_at, file_takes_at, unit_takes_at, word_takes_at}
+use Rattle.micro_file.specs.Private.Bits.{number_at, number_below}
+use Rattle.micro_file.specs.Private.Fields.{Reading, ◌>>=◌, kept, refused, last_of}
+use Rattle.micro_file.specs.Private.Order.{is_next, take_before}
+use Rattle.micro_file.specs.Private.PackedWords.{most_takes, taken_at, takes_at, file_takes_at, unit_takes_at}
+use Rattle.micro_file.specs.Private.PackedWords.{word_takes_at}
 use Rattle.micro_file.proofs.BitLeaves.{below_reader}
 use Rattle.micro_file.proofs.Flags.{IsFlag, flag_took, no_flag, a_flag, last_behind}
 use Rattle.micro_file.proofs.Groups.{TookGroup, ReadsGroup, such_group, groups_reader, group_reader, all_map}

@@ -7,7 +7,7 @@ use Rattle.std.proofs.lemmas.List.{append-nil}
 use Rattle.std.proofs.lemmas.List.Concat.{flat_map-cons}
 use Rattle.std.proofs.lemmas.List.Elements.{All-append, All-cons, All-head, All-nil, All-tail, filter-append}
 use Rattle.micro_bits.proofs.Bits.{IsDigits}
-use Rattle.micro_file.specs.Fields.{Reading, each_at}
+use Rattle.micro_file.specs.Private.Fields.{Reading, each_at}
 use Rattle.micro_file.proofs.Readers.{bit_values, Takes, ◌⨟◌, takes_none, IsReader, bound, ok_is, joined}
 use Rattle.micro_file.proofs.Several.{Grows, Whole, More}
 

@@ -3,7 +3,7 @@ use Rattle.std.proofs.Common.{◌≡◌, ℕ, suc, ◌-◌, ◌+◌, ◌≤◌, 
 use Rattle.std.proofs.Common.{arith}
 use Rattle.micro_file.specs.declared.misread.Unread.{Unread}
 use Rattle.micro_file.specs.declared.misread.Unread.TheVariants as unread
-use Rattle.micro_file.specs.Fields.{Reading, each_at}
+use Rattle.micro_file.specs.Private.Fields.{Reading, each_at}
 use Rattle.micro_file.specs.Private.Reads.{Fails}
 
 module _ {A : Type 0} (one : List A → ℕ → List ℕ → Reading (List A)) (front : List A) (count i : ℕ) (bits : List ℕ)

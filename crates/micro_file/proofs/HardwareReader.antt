@@ -8,10 +8,10 @@ use Rattle.micro_image.specs.declared.image.UnitDesc.{UnitDesc}
 use Rattle.micro_image.specs.declared.image.Word.{Word}
 use Rattle.micro_image.specs.Form.{Form, spelled_unit, spelled_hardware}
 use Rattle.micro_image.specs.Valid.{IsWithin, ports}
-use Rattle.micro_file.specs.Fields.{Reading}
-use Rattle.micro_file.specs.FormAt.{FormAt}
-use Rattle.micro_file.specs.Hardware.{inputs_at, hardware_at}
-use Rattle.micro_file.specs.Units.{units_at}
+use Rattle.micro_file.specs.Private.Fields.{Reading}
+use Rattle.micro_file.specs.Private.FormAt.{FormAt}
+use Rattle.micro_file.specs.Private.Hardware.{inputs_at, hardware_at}
+use Rattle.micro_file.specs.Private.Units.{units_at}
 use Rattle.micro_file.specs.Private.Sizes.{IsNumbered}
 use Rattle.micro_bits.proofs.Bits.{IsDigits}
 use Rattle.micro_file.proofs.FormReader.{IsUnroll, HaveRegisters, ReadsForm}

@@ -8,9 +8,9 @@ use Rattle.micro_image.specs.declared.image.Issue.{Issue}
 use Rattle.micro_image.specs.declared.image.Take.{Take}
 use Rattle.micro_image.specs.Fields.{nth, no_unit, no_word}
 use Rattle.operations.specs.declared.units.PortRef.{PortRef}
-use Rattle.micro_file.specs.Fields.{Reading, each_at}
-use Rattle.micro_file.specs.PackedWords.{most_takes, slot_at, slots_at, drive_at, unit_drives_at, drives_at}
-use Rattle.micro_file.specs.PackedWords.{takes_at, file_takes_at, unit_takes_at, word_takes_at, packed_word_at}
+use Rattle.micro_file.specs.Private.Fields.{Reading, each_at}
+use Rattle.micro_file.specs.Private.PackedWords.{most_takes, slot_at, slots_at, drive_at, unit_drives_at, drives_at}
+use Rattle.micro_file.specs.Private.PackedWords.{takes_at, file_takes_at, unit_takes_at, word_takes_at, packed_word_at}
 use Rattle.micro_bits.proofs.Sizes.{sizes_alike}
 use Rattle.micro_bits.specs.Idle.{sizes, files_of, idle_bits}
 use Rattle.micro_file.specs.Private.Zeros.{StartsWithZeros}

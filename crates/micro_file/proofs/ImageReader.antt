@@ -7,9 +7,9 @@ use Rattle.micro_image.specs.declared.image.Word.{Word}
 use Rattle.micro_image.specs.Form.{Form, spelled_hardware}
 use Rattle.micro_image.specs.Valid.{IsWordOf, IsValid}
 use Rattle.micro_bits.proofs.Bits.{IsDigits}
-use Rattle.micro_file.specs.Fields.{Reading, many_at}
-use Rattle.micro_file.specs.FormAt.{FormAt}
-use Rattle.micro_file.specs.Hardware.{hardware_at, image_at}
+use Rattle.micro_file.specs.Private.Fields.{Reading, many_at}
+use Rattle.micro_file.specs.Private.FormAt.{FormAt}
+use Rattle.micro_file.specs.Private.Hardware.{hardware_at, image_at}
 use Rattle.micro_file.proofs.FormReader.{ReadsForm}
 use Rattle.micro_file.proofs.HardwareReader.{IsHardware, hardware_reader}
 use Rattle.micro_file.proofs.Readers.{◌⨟◌, Took, IsReader, such_reader, ok_is}

@@ -4,15 +4,15 @@ use Rattle.micro_image.specs.declared.image.Image.{Image}
 use Rattle.micro_image.specs.declared.image.Word.{Word}
 use Rattle.micro_file.specs.declared.misread.Misread.{Misread}
 use Rattle.micro_file.specs.declared.misread.Unread.{Unread}
-use Rattle.micro_file.specs.Bits.{at_bits}
-use Rattle.micro_file.specs.Bytes.{at_bytes}
-use Rattle.micro_file.specs.Fields.{Reading, many_at}
-use Rattle.micro_file.specs.File.{ended, byte_image_at, padding_at, bit_image_at}
-use Rattle.micro_file.specs.FormAt.{FormAt}
-use Rattle.micro_file.specs.Hardware.{hardware_at, image_at}
-use Rattle.micro_file.specs.PackedWords.{packed_word_at}
+use Rattle.micro_file.specs.Private.Bits.{at_bits}
+use Rattle.micro_file.specs.Private.Bytes.{at_bytes}
+use Rattle.micro_file.specs.Private.Fields.{Reading, many_at}
+use Rattle.micro_file.specs.Private.File.{ended, byte_image_at, padding_at, bit_image_at}
+use Rattle.micro_file.specs.Private.FormAt.{FormAt}
+use Rattle.micro_file.specs.Private.Hardware.{hardware_at, image_at}
+use Rattle.micro_file.specs.Private.PackedWords.{packed_word_at}
 use Rattle.micro_file.specs.Private.Reads.{Fails}
-use Rattle.micro_file.specs.Words.{word_at}
+use Rattle.micro_file.specs.Private.Words.{word_at}
 use Rattle.micro_file.proofs.Many.{fails_then}
 
 abbrev with_words : Image → List Word × List ℕ → Reading Image

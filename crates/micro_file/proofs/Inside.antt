@@ -5,8 +5,8 @@ use Rattle.fix_word.specs.declared.operation.Op.{Op}
 use Rattle.operations.specs.declared.units.Kind.{Kind}
 use Rattle.micro_file.specs.declared.misread.Misread.{Misread}
 use Rattle.micro_file.specs.declared.misread.Misread.TheVariants.{Magic, Version, Short, Field, Trailing}
-use Rattle.micro_file.specs.Fields.{Reading, ◌>>=◌, kept, found, many_at, each_at}
-use Rattle.micro_file.specs.FormAt.{FormAt}
+use Rattle.micro_file.specs.Private.Fields.{Reading, ◌>>=◌, kept, found, many_at, each_at}
+use Rattle.micro_file.specs.Private.FormAt.{FormAt}
 use Rattle.micro_file.specs.Private.Places.{IsIn}
 
 -- no more is left than there was; what was misread has a place in it

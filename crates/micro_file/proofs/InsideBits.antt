@@ -14,14 +14,14 @@ use Rattle.micro_image.specs.Operations.{is_formatted}
 use Rattle.micro_bits.specs.Numbers.{some_at, numbered}
 use Rattle.micro_bits.specs.declared.fault.BitFault.TheVariants as bit
 use Rattle.micro_file.specs.declared.misread.Misread.TheVariants.{Short}
-use Rattle.micro_file.specs.Tables.{kinds, modes}
-use Rattle.micro_file.specs.Fields.{Reading, ◌>>=◌, kept, found, element, many_at}
-use Rattle.micro_file.specs.Bits.{unless_short, at_bits, number_at, number_less_1_at, number_upto, number_below}
-use Rattle.micro_file.specs.Bits.{number_less_1_upto}
-use Rattle.micro_file.specs.Bits.{entry_at, as_raw_word, raw_word_at, some_words_at, preload_at}
-use Rattle.micro_file.specs.Bits.{operation_at}
-use Rattle.micro_file.specs.Bits.{some_format_at, no_format, format_at, as_argument, argument_at, register_at}
-use Rattle.micro_file.specs.Bits.{registers_at}
+use Rattle.micro_file.specs.Private.Tables.{kinds, modes}
+use Rattle.micro_file.specs.Private.Fields.{Reading, ◌>>=◌, kept, found, element, many_at}
+use Rattle.micro_file.specs.Private.Bits.{unless_short, at_bits, number_at, number_less_1_at, number_upto, number_below}
+use Rattle.micro_file.specs.Private.Bits.{number_less_1_upto}
+use Rattle.micro_file.specs.Private.Bits.{entry_at, as_raw_word, raw_word_at, some_words_at, preload_at}
+use Rattle.micro_file.specs.Private.Bits.{operation_at}
+use Rattle.micro_file.specs.Private.Bits.{some_format_at, no_format, format_at, as_argument, argument_at, register_at}
+use Rattle.micro_file.specs.Private.Bits.{registers_at}
 use Rattle.micro_file.proofs.Readers.{bound, ok_is}
 use Rattle.micro_file.proofs.Inside.{IsInside, inside_more, next, behind, keeps, finds, tested_in, many_in}
 use Rattle.micro_file.proofs.Inside.{InsideForm}

@@ -10,13 +10,16 @@ use Rattle.fix_word.specs.declared.operation.Op.{Op}
 use Rattle.operations.specs.declared.units.Kind.{Kind}
 use Rattle.micro_image.specs.Operations.{kind_of, is_formatted}
 use Rattle.micro_file.specs.declared.misread.Misread.TheVariants.{Short}
-use Rattle.micro_file.specs.Arguments.{is_argument}
-use Rattle.micro_file.specs.Tables.{kinds, operations, modes}
-use Rattle.micro_file.specs.Fields.{Reading, ◌>>=◌, found, is_raw_word}
-use Rattle.micro_file.specs.Bytes.{at_bytes, byte_at, byte_within, byte_below, byte_upto, number_at, number_within}
-use Rattle.micro_file.specs.Bytes.{signed_at, raw_word_at, raw_words_at, entry_at, is_unroll, unroll_at, same_kind}
-use Rattle.micro_file.specs.Bytes.{operation_at, some_format_at, no_format_at, format_at, argument_at, register_count}
-use Rattle.micro_file.specs.Bytes.{register_at, registers_at}
+use Rattle.micro_file.specs.Private.Arguments.{is_argument}
+use Rattle.micro_file.specs.Private.Tables.{kinds, operations, modes}
+use Rattle.micro_file.specs.Private.Fields.{Reading, ◌>>=◌, found, is_raw_word}
+use Rattle.micro_file.specs.Private.Bytes.{at_bytes, byte_at, byte_within, byte_below, byte_upto, number_at}
+use Rattle.micro_file.specs.Private.Bytes.{number_within}
+use Rattle.micro_file.specs.Private.Bytes.{signed_at, raw_word_at, raw_words_at, entry_at, is_unroll, unroll_at}
+use Rattle.micro_file.specs.Private.Bytes.{same_kind}
+use Rattle.micro_file.specs.Private.Bytes.{operation_at, some_format_at, no_format_at, format_at, argument_at}
+use Rattle.micro_file.specs.Private.Bytes.{register_count}
+use Rattle.micro_file.specs.Private.Bytes.{register_at, registers_at}
 use Rattle.micro_file.proofs.Inside.{IsInside, inside_more, next, behind, kept_then, finds, tested_in, many_in, at_ok}
 use Rattle.micro_file.proofs.Inside.{InsideForm}
 

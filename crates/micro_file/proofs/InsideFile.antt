@@ -10,14 +10,15 @@ use Rattle.micro_image.specs.declared.version.Version.TheVariants.{One, Two}
 use Rattle.micro_image.specs.Spells.{bits_of}
 use Rattle.micro_file.specs.declared.misread.Misread.{Misread}
 use Rattle.micro_file.specs.declared.misread.Misread.TheVariants as misread
-use Rattle.micro_file.specs.Fields.{Reading, ◌>>=◌, refused}
-use Rattle.micro_file.specs.Bits.{at_bits}
-use Rattle.micro_file.specs.Bytes.{at_bytes, byte_at, only_byte}
-use Rattle.micro_file.specs.Hardware.{image_at}
-use Rattle.micro_file.specs.Words.{word_at}
-use Rattle.micro_file.specs.PackedWords.{packed_word_at}
-use Rattle.micro_file.specs.File.{numbered, head_at, ended, byte_image_at, padding_at, bit_image_at, byte_placed}
-use Rattle.micro_file.specs.File.{image_behind, whole_at}
+use Rattle.micro_file.specs.Private.Fields.{Reading, ◌>>=◌, refused}
+use Rattle.micro_file.specs.Private.Bits.{at_bits}
+use Rattle.micro_file.specs.Private.Bytes.{at_bytes, byte_at, only_byte}
+use Rattle.micro_file.specs.Private.Hardware.{image_at}
+use Rattle.micro_file.specs.Private.Words.{word_at}
+use Rattle.micro_file.specs.Private.PackedWords.{packed_word_at}
+use Rattle.micro_file.specs.Private.File.{numbered, head_at, ended, byte_image_at, padding_at, bit_image_at}
+use Rattle.micro_file.specs.Private.File.{byte_placed}
+use Rattle.micro_file.specs.Private.File.{image_behind, whole_at}
 use Rattle.micro_file.specs.Private.Places.{IsIn}
 use Rattle.micro_file.proofs.Inside.{IsInside, next, behind}
 use Rattle.micro_file.proofs.InsideBytes.{inside_bytes, byte_in}

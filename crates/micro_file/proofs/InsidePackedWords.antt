@@ -6,13 +6,14 @@ use Rattle.micro_image.specs.declared.image.Issue.{Issue}
 use Rattle.micro_image.specs.declared.image.Take.{Take}
 use Rattle.micro_image.specs.Fields.{nth, no_unit}
 use Rattle.operations.specs.declared.units.PortRef.{PortRef}
-use Rattle.micro_file.specs.Fields.{Reading, ◌>>=◌, refused, last_of}
-use Rattle.micro_file.specs.Bits.{at_bits, number_at, number_below}
-use Rattle.micro_file.specs.Order.{is_next, take_before}
-use Rattle.micro_file.specs.Hardware.{issue_on_at}
-use Rattle.micro_file.specs.PackedWords.{put_behind, slot_at, slots_at, drive_at, unit_drives_at, drives_at, most_takes}
-use Rattle.micro_file.specs.PackedWords.{taken_at, takes_at, file_takes_at, unit_takes_at, word_takes_at}
-use Rattle.micro_file.specs.PackedWords.{packed_word_at}
+use Rattle.micro_file.specs.Private.Fields.{Reading, ◌>>=◌, refused, last_of}
+use Rattle.micro_file.specs.Private.Bits.{at_bits, number_at, number_below}
+use Rattle.micro_file.specs.Private.Order.{is_next, take_before}
+use Rattle.micro_file.specs.Private.Hardware.{issue_on_at}
+use Rattle.micro_file.specs.Private.PackedWords.{put_behind, slot_at, slots_at, drive_at, unit_drives_at, drives_at}
+use Rattle.micro_file.specs.Private.PackedWords.{most_takes}
+use Rattle.micro_file.specs.Private.PackedWords.{taken_at, takes_at, file_takes_at, unit_takes_at, word_takes_at}
+use Rattle.micro_file.specs.Private.PackedWords.{packed_word_at}
 use Rattle.micro_file.proofs.Inside.{IsInside, inside_more, next, behind, keeps, each_in}
 use Rattle.micro_file.proofs.InsideBits.{inside_bits, number_in, below_in, flag_in}
 use Rattle.micro_file.proofs.InsideUnits.{issue_on_in}

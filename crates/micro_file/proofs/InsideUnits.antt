@@ -11,11 +11,12 @@ use Rattle.micro_image.specs.Operations.{reads}
 use Rattle.micro_image.specs.Valid.{ports}
 use Rattle.micro_file.specs.declared.misread.Misread.{Misread}
 use Rattle.micro_file.specs.declared.misread.Misread.TheVariants.{Field}
-use Rattle.micro_file.specs.Fields.{Reading, ◌>>=◌, many_at}
-use Rattle.micro_file.specs.FormAt.{FormAt}
-use Rattle.micro_file.specs.Units.{file_at, cells_at, ram_at, unit_at, is_tied, judged, judged_at, some_units_at}
-use Rattle.micro_file.specs.Units.{units_at}
-use Rattle.micro_file.specs.Hardware.{inputs_at, hardware_at, image_at, issue_on_at}
+use Rattle.micro_file.specs.Private.Fields.{Reading, ◌>>=◌, many_at}
+use Rattle.micro_file.specs.Private.FormAt.{FormAt}
+use Rattle.micro_file.specs.Private.Units.{file_at, cells_at, ram_at, unit_at, is_tied, judged, judged_at}
+use Rattle.micro_file.specs.Private.Units.{some_units_at}
+use Rattle.micro_file.specs.Private.Units.{units_at}
+use Rattle.micro_file.specs.Private.Hardware.{inputs_at, hardware_at, image_at, issue_on_at}
 use Rattle.micro_file.specs.Private.Places.{IsIn}
 use Rattle.micro_file.proofs.Readers.{bound}
 use Rattle.micro_file.proofs.Inside.{IsInside, in_more, next, behind, many_in, counted_in, at_ok, StaysInside}

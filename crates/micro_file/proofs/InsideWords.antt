@@ -6,11 +6,11 @@ use Rattle.micro_image.specs.declared.image.Enable.{Enable}
 use Rattle.micro_image.specs.declared.image.Image.{Image}
 use Rattle.micro_image.specs.declared.image.Issue.{Issue}
 use Rattle.micro_image.specs.declared.image.Take.{Take}
-use Rattle.micro_file.specs.Fields.{last_of}
-use Rattle.micro_file.specs.Bytes.{at_bytes, byte_at, byte_below, byte_upto, number_within}
-use Rattle.micro_file.specs.Order.{is_above, is_next, enable_before, take_before}
-use Rattle.micro_file.specs.Hardware.{issue_on_at}
-use Rattle.micro_file.specs.Words.{issue_at, issues_at, enable_at, enables_at, take_at, takes_at, word_at}
+use Rattle.micro_file.specs.Private.Fields.{last_of}
+use Rattle.micro_file.specs.Private.Bytes.{at_bytes, byte_at, byte_below, byte_upto, number_within}
+use Rattle.micro_file.specs.Private.Order.{is_above, is_next, enable_before, take_before}
+use Rattle.micro_file.specs.Private.Hardware.{issue_on_at}
+use Rattle.micro_file.specs.Private.Words.{issue_at, issues_at, enable_at, enables_at, take_at, takes_at, word_at}
 use Rattle.micro_file.proofs.Inside.{IsInside, inside_more, next, keeps, kept_then, finds, counted_in}
 use Rattle.micro_file.proofs.InsideBytes.{inside_bytes, byte_in, below_in, upto_in, number_within_in}
 use Rattle.micro_file.proofs.InsideUnits.{issue_on_in}

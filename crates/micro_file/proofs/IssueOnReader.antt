@@ -11,9 +11,9 @@ use Rattle.micro_image.specs.declared.image.UnitDesc.{UnitDesc}
 use Rattle.micro_image.specs.Form.{Form, spelled_operation}
 use Rattle.micro_image.specs.Operations.{kind_of, reads}
 use Rattle.micro_image.specs.Valid.{IsIssueOn}
-use Rattle.micro_file.specs.Fields.{Reading}
-use Rattle.micro_file.specs.FormAt.{FormAt}
-use Rattle.micro_file.specs.Hardware.{issue_on_at}
+use Rattle.micro_file.specs.Private.Fields.{Reading}
+use Rattle.micro_file.specs.Private.FormAt.{FormAt}
+use Rattle.micro_file.specs.Private.Hardware.{issue_on_at}
 use Rattle.micro_bits.proofs.Bits.{IsDigits}
 use Rattle.micro_file.proofs.FormReader.{HaveRegisters, ReadsForm}
 use Rattle.micro_file.proofs.Readers.{◌⨟◌, Took, IsReader, ok_is}
@@ -30,7 +30,7 @@ pub record IsOn (image : Image) (number : ℕ) (unit : UnitDesc) (issue : Issue)
   pub on : IsIssueOn (length image.inputs) image.outs issue unit
 
 -- a unit has a file for each port that an operation of its kind reads
-enough_files : (op : Op) (unit : UnitDesc)
+pub enough_files : (op : Op) (unit : UnitDesc)
     → length unit.files ≡ ports unit.kind
     → kind_of op ≡ unit.kind
     → reads op ≤ length unit.files

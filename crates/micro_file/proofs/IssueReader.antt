@@ -10,11 +10,11 @@ use Rattle.micro_image.specs.Form.{spelled_operation}
 use Rattle.micro_image.specs.Valid.{IsIssueOn, IsIssue}
 use Rattle.micro_image.proofs.Counts.{issue_count}
 use Rattle.micro_file.specs.declared.misread.Misread.{Misread}
-use Rattle.micro_file.specs.Fields.{Reading, kept, found, last_of}
-use Rattle.micro_file.specs.Bytes.{at_bytes, byte_at}
-use Rattle.micro_file.specs.Hardware.{issue_on_at}
-use Rattle.micro_file.specs.Words.{issue_at, issues_at}
-use Rattle.micro_file.specs.Order.{is_above}
+use Rattle.micro_file.specs.Private.Fields.{Reading, kept, found, last_of}
+use Rattle.micro_file.specs.Private.Bytes.{at_bytes, byte_at}
+use Rattle.micro_file.specs.Private.Hardware.{issue_on_at}
+use Rattle.micro_file.specs.Private.Words.{issue_at, issues_at}
+use Rattle.micro_file.specs.Private.Order.{is_above}
 use Rattle.micro_bits.proofs.Bits.{IsDigits}
 use Rattle.micro_file.proofs.Readers.{byte_values, Takes, ◌⨟◌, Took, IsReader, such_reader, was_kept, was_found}
 use Rattle.micro_file.proofs.Readers.{found_is}

@@ -11,7 +11,7 @@ use Rattle.micro_image.specs.declared.image.Image.{Image}
 use Rattle.micro_image.specs.declared.image.Issue.{Issue}
 use Rattle.micro_image.specs.declared.image.UnitDesc.{UnitDesc}
 use Rattle.micro_image.specs.Valid.{ports, IsIssueOn, IsIssue}
-use Rattle.micro_file.specs.Order.{is_above}
+use Rattle.micro_file.specs.Private.Order.{is_above}
 use Rattle.micro_file.proofs.FormReader.{HaveRegisters}
 use Rattle.micro_file.proofs.Several.{Behind}
 

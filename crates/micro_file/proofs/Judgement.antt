@@ -4,9 +4,9 @@ use Rattle.std.proofs.Common.{drop, Ok, Err, refl, sym, ap, subst, ◌∙◌, ap
 use Rattle.std.proofs.lemmas.List.{append-nil, drop_more, at_drop_all}
 use Rattle.micro_image.specs.declared.image.UnitDesc.{UnitDesc}
 use Rattle.micro_file.specs.declared.misread.Misread.TheVariants.{Field}
-use Rattle.micro_file.specs.Fields.{◌>>=◌, many_at}
-use Rattle.micro_file.specs.FormAt.{FormAt}
-use Rattle.micro_file.specs.Units.{unit_at, is_tied, judged, judged_at, some_units_at}
+use Rattle.micro_file.specs.Private.Fields.{◌>>=◌, many_at}
+use Rattle.micro_file.specs.Private.FormAt.{FormAt}
+use Rattle.micro_file.specs.Private.Units.{unit_at, is_tied, judged, judged_at, some_units_at}
 use Rattle.micro_file.specs.Private.Ends.{ends_of, all_judged}
 use Rattle.micro_file.proofs.Readers.{bound, ok_is}
 

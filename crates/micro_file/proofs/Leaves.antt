@@ -28,12 +28,13 @@ use Rattle.micro_image.specs.Operations.{opcode}
 use Rattle.micro_image.specs.Bytes.{one_byte, two_bytes, four_bytes, eight_bytes}
 use Rattle.micro_image.specs.Codes.{kind_number, mode_number}
 use Rattle.micro_image.specs.Valid.{IsWithin}
-use Rattle.micro_file.specs.Tables.{kinds, operations, modes}
+use Rattle.micro_file.specs.Private.Tables.{kinds, operations, modes}
 use Rattle.micro_file.specs.declared.misread.Misread.{Misread}
 use Rattle.micro_file.specs.declared.misread.Misread.TheVariants.{Short}
-use Rattle.micro_file.specs.Fields.{◌>>=◌, found, is_raw_word}
-use Rattle.micro_file.specs.Bytes.{only_byte, byte_at, byte_within, byte_below, byte_upto, number_at, number_within}
-use Rattle.micro_file.specs.Bytes.{signed_at, raw_word_at, entry_at}
+use Rattle.micro_file.specs.Private.Fields.{◌>>=◌, found, is_raw_word}
+use Rattle.micro_file.specs.Private.Bytes.{only_byte, byte_at, byte_within, byte_below, byte_upto, number_at}
+use Rattle.micro_file.specs.Private.Bytes.{number_within}
+use Rattle.micro_file.specs.Private.Bytes.{signed_at, raw_word_at, entry_at}
 use Rattle.micro_bits.proofs.Bits.{IsDigits}
 use Rattle.micro_file.proofs.Readers.{byte_values, digits-take, digits-drop, Took, IsReader, IsTestOf, tested}
 use Rattle.micro_file.proofs.Readers.{such_reader, well, bound, ok_is, was_found, joined}

@@ -39,6 +39,16 @@ pub mod InsidePackedWords
 pub mod InsideFile
 pub mod Padding
 pub mod Unique
+pub mod Layouts
+pub mod Sizes
+pub mod FormTold
+pub mod BytesTold
+pub mod BitsTold
+pub mod UnitsTold
+pub mod HardwareTold
+pub mod WordsTold
+pub mod PackedWordsTold
+pub mod FileTold
 pub mod FirstFault
 pub mod Groups
 pub mod GroupedIssues

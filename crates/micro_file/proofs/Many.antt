@@ -4,7 +4,7 @@ use Rattle.std.proofs.Common.{arith}
 use Rattle.micro_file.specs.declared.misread.Misread.{Misread}
 use Rattle.micro_file.specs.declared.misread.Unread.{Unread}
 use Rattle.micro_file.specs.declared.misread.Unread.TheVariants as unread
-use Rattle.micro_file.specs.Fields.{Reading, ◌>>=◌, many_at}
+use Rattle.micro_file.specs.Private.Fields.{Reading, ◌>>=◌, many_at}
 use Rattle.micro_file.specs.Private.Reads.{Fails}
 
 -- what is read first fails, so all does

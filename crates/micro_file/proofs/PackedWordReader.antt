@@ -3,7 +3,7 @@ use Rattle.std.proofs.Common.{◌≤◌, length}
 use Rattle.micro_image.specs.declared.image.Image.{Image}
 use Rattle.micro_image.specs.Bits.{word_bits}
 use Rattle.micro_image.specs.Valid.{IsWordOf}
-use Rattle.micro_file.specs.PackedWords.{slots_at, drives_at, word_takes_at, packed_word_at}
+use Rattle.micro_file.specs.Private.PackedWords.{slots_at, drives_at, word_takes_at, packed_word_at}
 use Rattle.micro_file.proofs.GroupedEnables.{drives_reader}
 use Rattle.micro_file.proofs.GroupedIssues.{slots_reader}
 use Rattle.micro_file.proofs.GroupedTakes.{word_takes_reader}

@@ -7,8 +7,8 @@ use Rattle.std.proofs.Math.Seq.{take-append_seam, drop-append_seam}
 use Rattle.std.proofs.lemmas.Bool.{and_parts, eqb-true}
 use Rattle.std.proofs.lemmas.List.{length-replicate, length-take}
 use Rattle.micro_file.specs.declared.misread.Misread.TheVariants.{Field}
-use Rattle.micro_file.specs.Fields.{refused}
-use Rattle.micro_file.specs.File.{padding_at}
+use Rattle.micro_file.specs.Private.Fields.{refused}
+use Rattle.micro_file.specs.Private.File.{padding_at}
 
 -- the bit is 0
 abbrev pub is_zero : ℕ → Bool

@@ -4,7 +4,7 @@ use Rattle.std.proofs.Common.{replicate, Ok, refl, sym, ap, ◌∙◌, arith}
 use Rattle.std.proofs.lemmas.List.{drop_more, drop_all, drop-drop, length-drop}
 use Rattle.micro_file.specs.declared.misread.Unread.{Unread}
 use Rattle.micro_file.specs.declared.misread.Unread.TheVariants as unread
-use Rattle.micro_file.specs.Fields.{Reading, ◌>>=◌, each_at}
+use Rattle.micro_file.specs.Private.Fields.{Reading, ◌>>=◌, each_at}
 use Rattle.micro_file.specs.Private.Reads.{Fails}
 use Rattle.micro_file.specs.Private.WordFlags.{over_at}
 use Rattle.micro_file.proofs.Groupwise as groupwise

@@ -8,9 +8,9 @@ use Rattle.operations.specs.declared.units.PortRef.{PortRef}
 use Rattle.micro_file.specs.declared.misread.Unread.{Unread}
 use Rattle.micro_file.specs.declared.misread.Unread.TheVariants as unread
 use Rattle.micro_file.specs.declared.misread.Misread.TheVariants.{Field}
-use Rattle.micro_file.specs.Bits.{number_at}
-use Rattle.micro_file.specs.Fields.{Reading, ◌>>=◌}
-use Rattle.micro_file.specs.PackedWords.{most_takes, taken_at, takes_at}
+use Rattle.micro_file.specs.Private.Bits.{number_at}
+use Rattle.micro_file.specs.Private.Fields.{Reading, ◌>>=◌}
+use Rattle.micro_file.specs.Private.PackedWords.{most_takes, taken_at, takes_at}
 use Rattle.micro_file.specs.Private.Reads.{Fails}
 
 -- a 0 ends them, whatever the room

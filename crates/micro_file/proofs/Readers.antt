@@ -5,7 +5,7 @@ use Rattle.std.proofs.lemmas.Bool.{cases_lt}
 use Rattle.std.proofs.lemmas.List.{length-take, get_or-drop, get_or-take, get_or_past}
 use Rattle.micro_bits.proofs.Bits.{IsDigits}
 use Rattle.micro_file.specs.declared.misread.Misread.{Misread}
-use Rattle.micro_file.specs.Fields.{Reading, ◌>>=◌, kept, found}
+use Rattle.micro_file.specs.Private.Fields.{Reading, ◌>>=◌, kept, found}
 
 -- how many values a byte has
 abbrev pub byte_values : ℕ

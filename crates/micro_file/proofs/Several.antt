@@ -7,7 +7,7 @@ use Rattle.std.proofs.lemmas.List.{append-nil, length-take-le, get_or-take}
 use Rattle.std.proofs.lemmas.List.Concat.{flat_map-cons}
 use Rattle.std.proofs.lemmas.Option.{slice_get-get_or}
 use Rattle.micro_bits.proofs.Bits.{IsDigits}
-use Rattle.micro_file.specs.Fields.{Reading, ◌>>=◌, many_at, last_of}
+use Rattle.micro_file.specs.Private.Fields.{Reading, ◌>>=◌, many_at, last_of}
 use Rattle.micro_file.proofs.Readers.{Takes, ◌⨟◌, takes_none, IsReader, bound, ok_is, joined}
 
 -- each value is allowed behind those before it, the first ones being in front

@@ -1,7 +1,7 @@
 -- Several steps, one after another: each was done where all were, and all are done where each is.
 use Rattle.std.proofs.Common.{◌≡◌, Result, Ok, refl}
 use Rattle.micro_file.specs.declared.misread.Misread.{Misread}
-use Rattle.micro_file.specs.Fields.{◌>>=◌}
+use Rattle.micro_file.specs.Private.Fields.{◌>>=◌}
 use Rattle.micro_file.proofs.Readers.{bound}
 
 pub bound2 : {A B Y : Type 0} (f1 : Result A Misread) (f2 : A → Result B Misread) (h : A → B → Result Y Misread) (y : Y)

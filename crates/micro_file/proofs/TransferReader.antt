@@ -10,10 +10,10 @@ use Rattle.micro_image.specs.declared.image.UnitDesc.{UnitDesc}
 use Rattle.micro_image.specs.Bytes.{two_bytes, enable_bytes, take_bytes}
 use Rattle.micro_image.specs.Valid.{IsEnable, IsTake, EnableBefore, TakeBefore}
 use Rattle.micro_file.specs.declared.misread.Misread.{Misread}
-use Rattle.micro_file.specs.Fields.{Reading, ◌>>=◌, kept, found, last_of, many_at}
-use Rattle.micro_file.specs.Bytes.{byte_at, byte_below, number_within}
-use Rattle.micro_file.specs.Words.{enable_at, enables_at, take_at, takes_at}
-use Rattle.micro_file.specs.Order.{enable_before, take_before, is_next}
+use Rattle.micro_file.specs.Private.Fields.{Reading, ◌>>=◌, kept, found, last_of, many_at}
+use Rattle.micro_file.specs.Private.Bytes.{byte_at, byte_below, number_within}
+use Rattle.micro_file.specs.Private.Words.{enable_at, enables_at, take_at, takes_at}
+use Rattle.micro_file.specs.Private.Order.{enable_before, take_before, is_next}
 use Rattle.micro_bits.proofs.Bits.{IsDigits}
 use Rattle.micro_file.proofs.Readers.{byte_values, ◌⨟◌, Took, IsReader, such_reader, was_kept, was_found, found_is}
 use Rattle.micro_file.proofs.Several.{counted, Rising, risen_all, risen_beside, grows_risen}

@@ -8,7 +8,7 @@ use Rattle.micro_image.specs.declared.image.Enable.{Enable}
 use Rattle.micro_image.specs.declared.image.Take.{Take}
 use Rattle.micro_image.specs.declared.image.UnitDesc.{UnitDesc}
 use Rattle.micro_image.specs.Valid.{IsWithin, IsEnable, IsTake, IsRegister, EnableBefore, TakeBefore}
-use Rattle.micro_file.specs.Order.{enable_before, take_before, is_next}
+use Rattle.micro_file.specs.Private.Order.{enable_before, take_before, is_next}
 use Rattle.micro_file.proofs.Several.{Behind}
 
 module _ {A : Type 0} (before : A → A → Bool) (R : A → A → Type 0) where

@@ -15,10 +15,11 @@ use Rattle.micro_image.specs.Form.{Form, spelled_file, spelled_memory, spelled_u
 use Rattle.micro_image.specs.Valid.{IsWithin, IsFile, IsUnit, ports}
 use Rattle.micro_file.specs.declared.misread.Misread.{Misread}
 use Rattle.micro_file.specs.declared.misread.Misread.TheVariants.{Field}
-use Rattle.micro_file.specs.Fields.{Reading, ◌>>=◌, many_at}
-use Rattle.micro_file.specs.FormAt.{FormAt}
-use Rattle.micro_file.specs.Units.{file_at, cells_at, ram_at, unit_at, is_ram, is_some_ram, is_tied_by, is_tied, judged}
-use Rattle.micro_file.specs.Units.{judged_at, some_units_at, units_at}
+use Rattle.micro_file.specs.Private.Fields.{Reading, ◌>>=◌, many_at}
+use Rattle.micro_file.specs.Private.FormAt.{FormAt}
+use Rattle.micro_file.specs.Private.Units.{file_at, cells_at, ram_at, unit_at, is_ram, is_some_ram, is_tied_by, is_tied}
+use Rattle.micro_file.specs.Private.Units.{judged}
+use Rattle.micro_file.specs.Private.Units.{judged_at, some_units_at, units_at}
 use Rattle.micro_file.specs.Private.Ends.{ends_of, all_judged}
 use Rattle.micro_bits.proofs.Bits.{IsDigits}
 use Rattle.micro_file.proofs.FormReader.{ReadsForm}
@@ -29,7 +30,7 @@ use Rattle.micro_file.proofs.Steps.{bound2, joined2, bound6, joined6}
 
 -- ---- what a ram alone has
 
-abbrev AreCells : Kind → List ℤ → Type 0
+abbrev pub AreCells : Kind → List ℤ → Type 0
 AreCells kind.Ram cells = IsWithin 1 65536 (length cells) × All IsMachineWord cells
 AreCells _ cells = cells ≡ []
 
@@ -52,7 +53,7 @@ are_cells kind.Ram cells h = (h.cell_count refl, h.raw_words)
 are_cells _ cells h = h.no_cells (λ is. absurd (cc))
 
 -- the number of an acu's ram, and 0 at another unit
-abbrev IsRamNumber : (Ram : ℕ → Type 0) → Kind → ℕ → Type 0
+abbrev pub IsRamNumber : (Ram : ℕ → Type 0) → Kind → ℕ → Type 0
 IsRamNumber Ram kind.Acu ram = Ram ram
 IsRamNumber Ram _ ram = ram ≡ 0
 
@@ -61,7 +62,7 @@ no_ram Ram kind.Acu ram h ne = absurd (ne refl)
 no_ram Ram _ ram h ne = h
 
 -- all that is asked of a unit but that an acu's ram, whose number may be such, is there
-record IsUnitAlone (Ram : ℕ → Type 0) (unit : UnitDesc) : Type 0 where
+pub record IsUnitAlone (Ram : ℕ → Type 0) (unit : UnitDesc) : Type 0 where
   latency : IsWithin 1 8 unit.latency
   gap : IsWithin 1 unit.latency unit.gap
   file_count : length unit.files ≡ ports unit.kind
@@ -99,7 +100,7 @@ some_ram : (o : Option UnitDesc) → Decides (is_some_ram o) (IsSomeAnd o (λ ot
 some_ram None = (λ e. absurd (cc), λ h. absurd h)
 some_ram (Some unit) = (ram_sound unit.kind, λ h. ap is_ram h)
 
-tied_by : (k : Kind) (ram : ℕ) (units : List UnitDesc) → Decides (is_tied_by k ram units) (IsTiedBy k ram units)
+pub tied_by : (k : Kind) (ram : ℕ) (units : List UnitDesc) → Decides (is_tied_by k ram units) (IsTiedBy k ram units)
 tied_by kind.Acu ram units = let d = some_ram (slice_get units ram) in (λ e _. d.0 e, λ h. d.1 (h refl))
 tied_by _ ram units = (λ e is. absurd (cc), λ h. refl)
 
@@ -272,7 +273,7 @@ module _ {base : ℕ} {spell : Form} {form : FormAt} (is : ReadsForm base spell 
       ((cells_reader unit.kind).again unit.cells _ ok.cells)
       ((ram_reader unit.kind).again unit.ram _ ok.ram)
 
-  unit_reader : IsReader base (IsUnitAlone is.Ram) (spelled_unit spell) (unit_at form)
+  pub unit_reader : IsReader base (IsUnitAlone is.Ram) (spelled_unit spell) (unit_at form)
   unit_reader = record { took = unit_took; again = unit_again }
 
   was_judged : (units : List UnitDesc) (unit : UnitDesc) (behind : ℕ) (ok : Unit {0})
@@ -284,7 +285,7 @@ module _ {base : ℕ} {spell : Form} {form : FormAt} (is : ReadsForm base spell 
       passed true e = refl
       passed false e = absurd cc
 
-  all_tied : (units xs : List UnitDesc) (ends : List ℕ) (ok : Unit {0})
+  pub all_tied : (units xs : List UnitDesc) (ends : List ℕ) (ok : Unit {0})
       → length ends ≡ length xs
       → all_judged form units xs ends ≡ Ok ok
       → All (IsTied units) xs

@@ -4,9 +4,9 @@ use Rattle.operations.specs.declared.units.Kind.{Kind}
 use Rattle.micro_image.specs.declared.image.UnitDesc.{UnitDesc}
 use Rattle.micro_image.specs.Valid.{ports}
 use Rattle.micro_file.specs.declared.misread.Unread.{Unread}
-use Rattle.micro_file.specs.Fields.{Reading, ◌>>=◌, many_at}
-use Rattle.micro_file.specs.FormAt.{FormAt}
-use Rattle.micro_file.specs.Units.{file_at, cells_at, ram_at, unit_at}
+use Rattle.micro_file.specs.Private.Fields.{Reading, ◌>>=◌, many_at}
+use Rattle.micro_file.specs.Private.FormAt.{FormAt}
+use Rattle.micro_file.specs.Private.Units.{file_at, cells_at, ram_at, unit_at}
 use Rattle.micro_file.specs.Private.Reads.{Fails}
 use Rattle.micro_file.proofs.Many.{fails_then}
 

@@ -7,7 +7,7 @@ use Rattle.micro_image.specs.declared.image.Take.{Take}
 use Rattle.micro_image.specs.declared.image.Word.{Word}
 use Rattle.micro_image.specs.Valid.{IsWordOf}
 use Rattle.micro_bits.proofs.Bits.{IsDigits}
-use Rattle.micro_file.specs.Fields.{Reading, ◌>>=◌}
+use Rattle.micro_file.specs.Private.Fields.{Reading, ◌>>=◌}
 use Rattle.micro_file.proofs.Inside.{StaysInside, behind}
 use Rattle.micro_file.proofs.Issues.{AreIssues}
 use Rattle.micro_file.proofs.Readers.{◌⨟◌, Took, IsReader, ok_is}

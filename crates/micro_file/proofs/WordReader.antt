@@ -5,7 +5,7 @@ use Rattle.micro_image.specs.declared.image.Image.{Image}
 use Rattle.micro_image.specs.declared.image.Word.{Word}
 use Rattle.micro_image.specs.Bytes.{one_byte, two_bytes, issue_bytes, enable_bytes, take_bytes, word_bytes}
 use Rattle.micro_image.specs.Valid.{IsWordOf}
-use Rattle.micro_file.specs.Words.{enables_at, takes_at, issues_at, word_at}
+use Rattle.micro_file.specs.Private.Words.{enables_at, takes_at, issues_at, word_at}
 use Rattle.micro_file.proofs.Readers.{byte_values, IsReader, so_spelled}
 use Rattle.micro_file.proofs.TransferReader.{enables_reader, takes_reader}
 use Rattle.micro_file.proofs.Issues.{AllHave}

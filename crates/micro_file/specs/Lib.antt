@@ -1,12 +1,5 @@
-pub mod Tables
-pub mod Fields
-pub mod FormAt
-pub mod Arguments
-pub mod Bytes
-pub mod Bits
-pub mod Units
+pub mod Layout
 pub mod Hardware
-pub mod Order
 pub mod Words
 pub mod PackedWords
 pub mod File

@@ -1,3 +1,15 @@
+pub mod Tables
+pub mod Fields
+pub mod FormAt
+pub mod Arguments
+pub mod Bytes
+pub mod Bits
+pub mod Units
+pub mod Hardware
+pub mod Order
+pub mod Words
+pub mod PackedWords
+pub mod File
 pub mod Reads
 pub mod Ends
 pub mod Places

@@ -1,7 +1,7 @@
 //! Which arguments operations take.
 ghost use Rattle.std.specs.Prelude.{◌≡◌};
-ghost use Rattle.micro_file.specs.Arguments.{is_argument};
-ghost use Rattle.micro_file.specs.Fields.{is_raw_word, is_below};
+ghost use Rattle.micro_file.specs.Private.Arguments.{is_argument};
+ghost use Rattle.micro_file.specs.Private.Fields.{is_raw_word, is_below};
 
 use fix_word::{MOST_BITS, Op};
 

@@ -2,12 +2,12 @@
 ghost use Rattle.std.specs.Prelude.{◌≡◌, ◌<◌, ◌≤◌, ◌^◌, [], ◌∷◌, length, replicate, IfOk, pos};
 ghost use Rattle.micro_image.specs.Fields.{nth};
 ghost use Rattle.micro_image.specs.Operations.{operation};
-ghost use Rattle.micro_file.specs.Bits.{number_at, number_less_1_at, number_upto, number_below, number_less_1_upto};
-ghost use Rattle.micro_file.specs.Bits.{entry_at, as_raw_word, raw_word_at, preload_at, operation_at, some_format_at};
-ghost use Rattle.micro_file.specs.Bits.{format_at, argument_at, register_at, registers_at};
-ghost use Rattle.micro_file.specs.Fields.{many_at};
+ghost use Rattle.micro_file.specs.Private.Bits.{number_at, number_less_1_at, number_upto, number_below, number_less_1_upto};
+ghost use Rattle.micro_file.specs.Private.Bits.{entry_at, as_raw_word, raw_word_at, preload_at, operation_at, some_format_at};
+ghost use Rattle.micro_file.specs.Private.Bits.{format_at, argument_at, register_at, registers_at};
+ghost use Rattle.micro_file.specs.Private.Fields.{many_at};
 ghost use Rattle.micro_file.specs.Private.Reads.{Reads};
-ghost use Rattle.micro_file.specs.Tables.{kinds, modes};
+ghost use Rattle.micro_file.specs.Private.Tables.{kinds, modes};
 
 use crate::fields::Fields;
 use crate::misread::{Misread, Unread, refused};
@@ -39,7 +39,7 @@ const RANGE: i64 = 1 << RAW_WORD;
 
 /// A number of so many bits.
 #[inline]
-#[tactic(auto, unfolding(crate::specs::Bits::number_at))]
+#[tactic(auto, unfolding(crate::specs::Private::Bits::number_at))]
 pub(crate) fn number(reader: &mut BitReader<'_>, width: u32) -> Result<u64, Unread>
     requires { width ≤ 57 }
     ensures reads { Reads (number_at width) reader.old result reader.new }
@@ -125,7 +125,7 @@ fn raw_word_of(n: u64) -> i64
 }
 
 #[inline]
-#[tactic(auto, unfolding(crate::specs::Bits::raw_word_at))]
+#[tactic(auto, unfolding(crate::specs::Private::Bits::raw_word_at))]
 fn read_raw_word(reader: &mut BitReader<'_>) -> Result<i64, Unread>
     ensures { Reads raw_word_at reader.old result reader.new }
 {
@@ -154,7 +154,7 @@ fn zeros(alloc: Global, count: usize) -> Result<List<i64>, AllocError>
 }
 
 /// Initial words: a flag, and each of them where it is 1. They are not all 0 then.
-#[tactic(auto, unfolding(crate::specs::Bits::preload_at))]
+#[tactic(auto, unfolding(crate::specs::Private::Bits::preload_at))]
 fn read_preload(
     alloc: Global,
     count: usize,
@@ -197,7 +197,7 @@ fn read_mode(reader: &mut BitReader<'_>) -> Result<Mode, Unread>
     }
 }
 
-#[tactic(auto, unfolding(crate::specs::Bits::some_format_at))]
+#[tactic(auto, unfolding(crate::specs::Private::Bits::some_format_at))]
 fn read_some_format(reader: &mut BitReader<'_>) -> Result<Format, Unread>
     ensures { Reads some_format_at reader.old result reader.new }
 {
@@ -227,7 +227,7 @@ fn read_format(op: Op, reader: &mut BitReader<'_>) -> Result<Format, Unread>
 }
 
 #[inline]
-#[tactic(auto, unfolding(crate::specs::Bits::argument_at))]
+#[tactic(auto, unfolding(crate::specs::Private::Bits::argument_at))]
 fn read_argument(
     op: Op,
     inputs: usize,
@@ -256,7 +256,7 @@ fn registers_at(files: &List<List<i64>>, port: usize) -> usize
 }
 
 /// The registers of the ports that are read, and 0 for each of the others.
-#[tactic(auto, unfolding(crate::specs::Bits::registers_at))]
+#[tactic(auto, unfolding(crate::specs::Private::Bits::registers_at))]
 fn read_registers(
     alloc: Global,
     files: &List<List<i64>>,
@@ -314,7 +314,7 @@ fn read_unroll(reader: &mut BitReader<'_>) -> Result<u8, Unread>
 
 impl<'a> Fields for BitReader<'a> {
     ghost use Rattle.std.specs.Prelude.{ℕ, List};
-    ghost use Rattle.micro_file.specs.Bits.{at_bits};
+    ghost use Rattle.micro_file.specs.Private.Bits.{at_bits};
 
     ghost form = { at_bits };
 

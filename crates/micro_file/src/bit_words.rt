@@ -1,9 +1,9 @@
 //! The microwords of a file of version 2.
 ghost use Rattle.std.specs.Prelude.{◌≡◌, ◌≢◌, ◌-◌, ◌≤◌, ◌^◌, ◌++◌, ℕ, List, [], length, take, replicate, IsTrue, IsFalse};
 ghost use Rattle.micro_image.specs.Fields.{nth, no_unit};
-ghost use Rattle.micro_file.specs.Fields.{many_at, each_at};
-ghost use Rattle.micro_file.specs.PackedWords.{most_takes, slot_at, slots_at, drive_at, taken_at, takes_at};
-ghost use Rattle.micro_file.specs.PackedWords.{packed_word_at};
+ghost use Rattle.micro_file.specs.Private.Fields.{many_at, each_at};
+ghost use Rattle.micro_file.specs.Private.PackedWords.{most_takes, slot_at, slots_at, drive_at, taken_at, takes_at};
+ghost use Rattle.micro_file.specs.Private.PackedWords.{packed_word_at};
 ghost use Rattle.micro_file.specs.Private.WordFlags.{listed_drives_at, listed_takes_at, listed_word_at};
 ghost use Rattle.micro_file.specs.Private.Reads.{Reads, Extends};
 ghost use Rattle.micro_file.specs.Private.Sizes.{IsNumbered};
@@ -70,7 +70,7 @@ fn passes_zeros(reader: &mut BitReader<'_>, count: usize, known: &mut usize) -> 
 }
 
 /// A flag, and the unit's issue where it is 1.
-#[tactic(auto, unfolding(crate::specs::PackedWords::slot_at))]
+#[tactic(auto, unfolding(crate::specs::Private::PackedWords::slot_at))]
 fn read_slot(
     alloc: Global,
     image: &Image,
@@ -93,7 +93,7 @@ fn read_slot(
 // The three lists are read by functions of their own: inlined into one, they leave each other too few registers, and a
 // long chain takes 4 per cent longer.
 #[inline(never)]
-#[tactic(auto, unfolding(crate::specs::PackedWords::slots_at))]
+#[tactic(auto, unfolding(crate::specs::Private::PackedWords::slots_at))]
 fn read_slots(
     alloc: Global,
     image: &Image,
@@ -116,7 +116,7 @@ fn read_slots(
 }
 
 /// A flag, which is 1 where the bus is driven so.
-#[tactic(auto, unfolding(crate::specs::PackedWords::drive_at))]
+#[tactic(auto, unfolding(crate::specs::Private::PackedWords::drive_at))]
 fn read_drive(
     drive: Enable,
     enables: &mut Enables,
@@ -154,7 +154,7 @@ fn read_drives(
 
 /// The bus and the register of a take at the port, whose file has so many registers, behind a flag where so much was
 /// left.
-#[tactic(auto, unfolding(crate::specs::PackedWords::taken_at))]
+#[tactic(auto, unfolding(crate::specs::Private::PackedWords::taken_at))]
 fn read_taken(
     image: &Image,
     port: PortRef,

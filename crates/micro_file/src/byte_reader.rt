@@ -1,7 +1,7 @@
 //! A reader of a microcode file of version 1, and the fields that it reads.
 ghost use Rattle.std.specs.Prelude.{◌≡◌, [], length};
-ghost use Rattle.micro_file.specs.Bytes.{same_kind, operation_at, unroll_at, some_format_at, no_format_at, format_at, argument_at, register_count, register_at};
-ghost use Rattle.micro_file.specs.Fields.{many_at};
+ghost use Rattle.micro_file.specs.Private.Bytes.{same_kind, operation_at, unroll_at, some_format_at, no_format_at, format_at, argument_at, register_count, register_at};
+ghost use Rattle.micro_file.specs.Private.Fields.{many_at};
 ghost use Rattle.micro_file.specs.Private.Reads.{Reads};
 
 use crate::arguments::{fits_operation, is_word};
@@ -60,8 +60,8 @@ impl<'a> ByteReader<'a> {
     ghost use Rattle.std.specs.Int.{w16, w32};
     ghost use Rattle.micro_file.specs.Private.Empty.{empty_word};
     ghost use Rattle.micro_file.specs.Private.Reads.{Reads};
-    ghost use Rattle.micro_file.specs.Tables.{kinds, operations, modes};
-    ghost use Rattle.micro_file.specs.Bytes.{byte_at, only_byte, byte_within, byte_below, byte_upto, number_within, signed_at, raw_word_at, raw_words_at, entry_at};
+    ghost use Rattle.micro_file.specs.Private.Tables.{kinds, operations, modes};
+    ghost use Rattle.micro_file.specs.Private.Bytes.{byte_at, only_byte, byte_within, byte_below, byte_upto, number_within, signed_at, raw_word_at, raw_words_at, entry_at};
 
     pub(crate) fn new(bytes: &'a [u8]) -> ByteReader<'a>
         ensures { result ≡ bytes.now }
@@ -226,7 +226,7 @@ impl<'a> ByteReader<'a> {
     }
 
     #[inline]
-    #[tactic(auto, unfolding(crate::specs::Bytes::raw_word_at))]
+    #[tactic(auto, unfolding(crate::specs::Private::Bytes::raw_word_at))]
     fn raw_word(&mut self) -> Result<i64, Unread>
         ensures { Reads raw_word_at self.old result self.new }
     {
@@ -317,7 +317,7 @@ fn is_one_kind(a: Kind, b: Kind) -> bool
     a as u8 == b as u8
 }
 
-#[tactic(auto, unfolding(crate::specs::Bytes::some_format_at))]
+#[tactic(auto, unfolding(crate::specs::Private::Bytes::some_format_at))]
 fn read_some_format(reader: &mut ByteReader<'_>) -> Result<Format, Unread>
     ensures { Reads some_format_at reader.old result reader.new }
 {
@@ -331,7 +331,7 @@ fn read_some_format(reader: &mut ByteReader<'_>) -> Result<Format, Unread>
     Ok(Format { shift, mode, width })
 }
 
-#[tactic(auto, unfolding(crate::specs::Bytes::no_format_at))]
+#[tactic(auto, unfolding(crate::specs::Private::Bytes::no_format_at))]
 fn read_no_format(reader: &mut ByteReader<'_>) -> Result<Format, Unread>
     ensures { Reads no_format_at reader.old result reader.new }
 {
@@ -355,7 +355,7 @@ fn read_format(op: Op, reader: &mut ByteReader<'_>) -> Result<Format, Unread>
     }
 }
 
-#[tactic(auto, unfolding(crate::specs::Bytes::argument_at))]
+#[tactic(auto, unfolding(crate::specs::Private::Bytes::argument_at))]
 fn read_argument(
     op: Op,
     inputs: usize,
@@ -417,7 +417,7 @@ fn read_registers(
 
 impl<'a> Fields for ByteReader<'a> {
     ghost use Rattle.std.specs.Prelude.{ℕ, List};
-    ghost use Rattle.micro_file.specs.Bytes.{at_bytes};
+    ghost use Rattle.micro_file.specs.Private.Bytes.{at_bytes};
 
     ghost form = { at_bytes };
 

@@ -2,9 +2,9 @@
 //! buses.
 ghost use Rattle.std.specs.Prelude.{◌≡◌, ℕ, [], List};
 ghost use Rattle.micro_image.specs.declared.image.Image.{Image};
-ghost use Rattle.micro_file.specs.Fields.{Reading, many_at};
+ghost use Rattle.micro_file.specs.Private.Fields.{Reading, many_at};
 ghost use Rattle.micro_file.specs.Private.Reads.{Reads};
-ghost use Rattle.micro_file.specs.Words.{enable_at, enables_at, take_at, takes_at};
+ghost use Rattle.micro_file.specs.Private.Words.{enable_at, enables_at, take_at, takes_at};
 
 use crate::byte_reader::ByteReader;
 use crate::misread::{Unread, refused};
@@ -28,7 +28,7 @@ trait Transfer: Default + Drop {
 impl Transfer for Enable {
     ghost one = { enable_at };
 
-    #[tactic(auto, unfolding(crate::specs::Words::enable_at))]
+    #[tactic(auto, unfolding(crate::specs::Private::Words::enable_at))]
     fn read(
         image: &Image,
         front: &[Enable],
@@ -49,7 +49,7 @@ impl Transfer for Enable {
 impl Transfer for Take {
     ghost one = { take_at };
 
-    #[tactic(auto, unfolding(crate::specs::Words::take_at))]
+    #[tactic(auto, unfolding(crate::specs::Private::Words::take_at))]
     fn read(image: &Image, front: &[Take], reader: &mut ByteReader<'_>) -> Result<Take, Unread> {
         let left = reader.left();
         let number = reader.byte()?;
@@ -89,7 +89,7 @@ fn read_several<T: Transfer, const N: usize>(
     Ok(transfers)
 }
 
-#[tactic(auto, unfolding(crate::specs::Words::enables_at))]
+#[tactic(auto, unfolding(crate::specs::Private::Words::enables_at))]
 pub(crate) fn read_enables(
     alloc: Global,
     image: &Image,
@@ -101,7 +101,7 @@ pub(crate) fn read_enables(
     read_several(alloc, image, usize::from(count), reader)
 }
 
-#[tactic(auto, unfolding(crate::specs::Words::takes_at))]
+#[tactic(auto, unfolding(crate::specs::Private::Words::takes_at))]
 pub(crate) fn read_takes(
     alloc: Global,
     image: &Image,

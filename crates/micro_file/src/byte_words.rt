@@ -1,9 +1,9 @@
 //! The microwords of a file of version 1.
 ghost use Rattle.std.specs.Prelude.{◌≡◌, []};
 ghost use Rattle.micro_image.specs.Fields.{no_word};
-ghost use Rattle.micro_file.specs.Fields.{many_at};
+ghost use Rattle.micro_file.specs.Private.Fields.{many_at};
 ghost use Rattle.micro_file.specs.Private.Reads.{Reads};
-ghost use Rattle.micro_file.specs.Words.{issue_at, issues_at, word_at};
+ghost use Rattle.micro_file.specs.Private.Words.{issue_at, issues_at, word_at};
 
 use crate::byte_reader::ByteReader;
 use crate::byte_transfers::{read_enables, read_takes};
@@ -15,7 +15,7 @@ use micro_image::{Enables, Image, Issue, Takes, Word};
 use std::alloc::Global;
 
 /// An issue after others.
-#[tactic(auto, unfolding(crate::specs::Words::issue_at))]
+#[tactic(auto, unfolding(crate::specs::Private::Words::issue_at))]
 fn read_issue(
     alloc: Global,
     image: &Image,
@@ -48,7 +48,7 @@ fn read_several(
     Ok(issues)
 }
 
-#[tactic(auto, unfolding(crate::specs::Words::issues_at))]
+#[tactic(auto, unfolding(crate::specs::Private::Words::issues_at))]
 fn read_issues(
     alloc: Global,
     image: &Image,
@@ -61,7 +61,7 @@ fn read_issues(
 }
 
 #[inline]
-#[tactic(auto, unfolding(crate::specs::Words::word_at))]
+#[tactic(auto, unfolding(crate::specs::Private::Words::word_at))]
 fn read_lists(alloc: Global, image: &Image, reader: &mut ByteReader<'_>) -> Result<Word, Unread>
     ensures { Reads (word_at image.now) reader.old result reader.new }
 {

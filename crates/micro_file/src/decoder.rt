@@ -6,7 +6,7 @@ ghost use Rattle.micro_file.specs.declared.fault.FormFault.TheVariants.{Memory};
 ghost use Rattle.micro_file.specs.Faults.{placed, IsFormFault};
 ghost use Rattle.micro_file.specs.Private.Places.{IsIn};
 ghost use Rattle.micro_file.specs.Private.Reads.{Gives, Reads, Passes};
-ghost use Rattle.micro_file.specs.File.{head_at, ended, byte_image_at, padding_at, bit_image_at, bytes_of, byte_misread, byte_placed, whole_at};
+ghost use Rattle.micro_file.specs.Private.File.{head_at, ended, byte_image_at, padding_at, bit_image_at, bytes_of, byte_misread, byte_placed, whole_at};
 
 use crate::byte_reader::ByteReader;
 use crate::fault::FormFault;
@@ -21,7 +21,7 @@ use std::alloc::Global;
 const BYTE: usize = 8;
 
 /// The magic bytes and the version.
-#[tactic(auto, unfolding(crate::specs::File::head_at))]
+#[tactic(auto, unfolding(crate::specs::Private::File::head_at))]
 fn read_version(reader: &mut ByteReader<'_>) -> Result<Version, Unread>
     ensures { Reads head_at reader.old result reader.new }
 {
@@ -48,7 +48,7 @@ fn end(image: Image, left: usize) -> Result<Image, Unread>
 }
 
 /// An image in bytes, and nothing behind it.
-#[tactic(auto, unfolding(crate::specs::File::byte_image_at))]
+#[tactic(auto, unfolding(crate::specs::Private::File::byte_image_at))]
 fn read_bytes(alloc: Global, reader: &mut ByteReader<'_>) -> Result<Image, Unread>
     ensures { Gives result (byte_image_at reader.old) }
 {
@@ -71,7 +71,7 @@ fn pass_padding(reader: &mut BitReader<'_>) -> Result<(), Unread>
 }
 
 /// An image in the packed bits of these bytes, and nothing behind them but zeros to the end of the byte.
-#[tactic(auto, unfolding(crate::specs::File::bit_image_at))]
+#[tactic(auto, unfolding(crate::specs::Private::File::bit_image_at))]
 fn read_bits(alloc: Global, bytes: &[u8]) -> Result<Image, Unread>
     requires { length bytes.now < 2 ^ 32 }
     ensures { Gives result (bit_image_at (bits_of bytes.now)) }
@@ -118,7 +118,7 @@ fn read_packed(alloc: Global, bytes: &[u8]) -> Result<Image, Unread>
     }
 }
 
-#[tactic(auto, unfolding(crate::specs::File::whole_at))]
+#[tactic(auto, unfolding(crate::specs::Private::File::whole_at))]
 fn read_whole(alloc: Global, bytes: &[u8]) -> Result<Image, Unread>
     requires { length bytes.now < 2 ^ 32 }
     ensures { Gives result (whole_at bytes.now) }

@@ -1,6 +1,6 @@
 //! What reads the fields of a file, in bytes or in bits.
 ghost use Rattle.std.specs.Prelude.{◌≡◌, ◌+◌, ◌≤◌, ℕ, List, length};
-ghost use Rattle.micro_file.specs.FormAt.{FormAt};
+ghost use Rattle.micro_file.specs.Private.FormAt.{FormAt};
 ghost use Rattle.micro_file.specs.Private.Reads.{Reads};
 
 use crate::misread::Unread;

@@ -1,7 +1,7 @@
 //! All fields of a file but those of its words, and what an issue does.
 ghost use Rattle.std.specs.Prelude.{◌≡◌, ◌*◌, [], length};
-ghost use Rattle.micro_file.specs.Fields.{many_at};
-ghost use Rattle.micro_file.specs.Hardware.{inputs_at, hardware_at, issue_on_at};
+ghost use Rattle.micro_file.specs.Private.Fields.{many_at};
+ghost use Rattle.micro_file.specs.Private.Hardware.{inputs_at, hardware_at, issue_on_at};
 ghost use Rattle.micro_file.specs.Private.Reads.{Reads};
 
 use crate::fields::Fields;
@@ -22,7 +22,7 @@ fn read_widths<R: Fields>(alloc: Global, count: usize, reader: &mut R) -> Result
     Ok(widths)
 }
 
-#[tactic(auto, unfolding(crate::specs::Hardware::inputs_at))]
+#[tactic(auto, unfolding(crate::specs::Private::Hardware::inputs_at))]
 fn read_inputs<R: Fields>(alloc: Global, reader: &mut R) -> Result<List<u8>, Unread>
     ensures { Reads (inputs_at R.form) (R.rest reader.old) result (R.rest reader.new) }
 {
@@ -31,7 +31,7 @@ fn read_inputs<R: Fields>(alloc: Global, reader: &mut R) -> Result<List<u8>, Unr
 }
 
 /// All but the words.
-#[tactic(auto, unfolding(crate::specs::Hardware::hardware_at))]
+#[tactic(auto, unfolding(crate::specs::Private::Hardware::hardware_at))]
 pub(crate) fn read_hardware<R: Fields>(alloc: Global, reader: &mut R) -> Result<Image, Unread>
     ensures { Reads (hardware_at R.form) (R.rest reader.old) result (R.rest reader.new) }
 {
@@ -59,7 +59,7 @@ pub(crate) fn word_count(image: &Image) -> usize
 }
 
 /// An issue on a unit: all but the unit's number.
-#[tactic(auto, unfolding(crate::specs::Hardware::issue_on_at))]
+#[tactic(auto, unfolding(crate::specs::Private::Hardware::issue_on_at))]
 pub(crate) fn read_issue_on<R: Fields>(
     alloc: Global,
     image: &Image,

@@ -1,7 +1,7 @@
 //! In which order the issues, enables and takes of a word stand.
 ghost use Rattle.std.specs.Prelude.{◌≡◌};
-ghost use Rattle.micro_file.specs.Fields.{last_of};
-ghost use Rattle.micro_file.specs.Order.{is_above, is_next, enable_before, take_before};
+ghost use Rattle.micro_file.specs.Private.Fields.{last_of};
+ghost use Rattle.micro_file.specs.Private.Order.{is_above, is_next, enable_before, take_before};
 
 use lists::List;
 use micro_image::{Enable, Issue, Take};

@@ -1,9 +1,9 @@
 //! The units of a file.
 ghost use Rattle.std.specs.Prelude.{◌≡◌, [], ◌++◌, length, OnOk};
-ghost use Rattle.micro_file.specs.Fields.{many_at};
+ghost use Rattle.micro_file.specs.Private.Fields.{many_at};
 ghost use Rattle.micro_file.specs.Private.Reads.{Gives, Reads};
 ghost use Rattle.micro_file.specs.Private.Ends.{ends_of, HaveRoom, all_judged};
-ghost use Rattle.micro_file.specs.Units.{file_at, cells_at, ram_at, unit_at, is_tied, some_units_at, units_at};
+ghost use Rattle.micro_file.specs.Private.Units.{file_at, cells_at, ram_at, unit_at, is_tied, some_units_at, units_at};
 
 use crate::fields::Fields;
 use crate::misread::{Unread, refused};
@@ -11,7 +11,7 @@ use lists::List;
 use micro_image::{Kind, UnitDesc};
 use std::alloc::Global;
 
-#[tactic(auto, unfolding(crate::specs::Units::file_at))]
+#[tactic(auto, unfolding(crate::specs::Private::Units::file_at))]
 fn read_file<R: Fields>(alloc: Global, reader: &mut R) -> Result<List<i64>, Unread>
     ensures { Reads (file_at R.form) (R.rest reader.old) result (R.rest reader.new) }
 {
@@ -35,7 +35,7 @@ fn read_files<R: Fields>(
 }
 
 /// The cells of a ram, and none of another unit.
-#[tactic(auto, unfolding(crate::specs::Units::cells_at))]
+#[tactic(auto, unfolding(crate::specs::Private::Units::cells_at))]
 fn read_cells<R: Fields>(alloc: Global, kind: Kind, reader: &mut R) -> Result<List<i64>, Unread>
     ensures { Reads (cells_at R.form kind) (R.rest reader.old) result (R.rest reader.new) }
 {
@@ -49,7 +49,7 @@ fn read_cells<R: Fields>(alloc: Global, kind: Kind, reader: &mut R) -> Result<Li
 }
 
 /// The number of an acu's ram, and 0 at another unit.
-#[tactic(auto, unfolding(crate::specs::Units::ram_at))]
+#[tactic(auto, unfolding(crate::specs::Private::Units::ram_at))]
 fn read_ram<R: Fields>(kind: Kind, reader: &mut R) -> Result<u8, Unread>
     ensures { Reads (ram_at R.form kind) (R.rest reader.old) result (R.rest reader.new) }
 {
@@ -59,7 +59,7 @@ fn read_ram<R: Fields>(kind: Kind, reader: &mut R) -> Result<u8, Unread>
     }
 }
 
-#[tactic(auto, unfolding(crate::specs::Units::unit_at))]
+#[tactic(auto, unfolding(crate::specs::Private::Units::unit_at))]
 fn read_unit<R: Fields>(alloc: Global, reader: &mut R) -> Result<UnitDesc, Unread>
     ensures { Reads (unit_at R.form) (R.rest reader.old) result (R.rest reader.new) }
 {
@@ -141,7 +141,7 @@ fn read_counted<R: Fields>(
     Ok(units)
 }
 
-#[tactic(auto, unfolding(crate::specs::Units::units_at))]
+#[tactic(auto, unfolding(crate::specs::Private::Units::units_at))]
 pub(crate) fn read_units<R: Fields>(alloc: Global, reader: &mut R) -> Result<List<UnitDesc>, Unread>
     ensures { Reads (units_at R.form) (R.rest reader.old) result (R.rest reader.new) }
 {

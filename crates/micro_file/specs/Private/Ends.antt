@@ -3,9 +3,9 @@ use Rattle.std.specs.Prelude.{ℕ, zero, suc, ◌+◌, ◌≤◌, List, [], ◌�
 use Rattle.std.below.core.specs.declared.int.usize.TheConstants as usize
 use Rattle.micro_image.specs.declared.image.UnitDesc.{UnitDesc}
 use Rattle.micro_file.specs.declared.misread.Misread.{Misread}
-use Rattle.micro_file.specs.Fields.{Reading, ◌>>=◌}
-use Rattle.micro_file.specs.FormAt.{FormAt}
-use Rattle.micro_file.specs.Units.{unit_at, judged}
+use Rattle.micro_file.specs.Private.Fields.{Reading, ◌>>=◌}
+use Rattle.micro_file.specs.Private.FormAt.{FormAt}
+use Rattle.micro_file.specs.Private.Units.{unit_at, judged}
 
 -- the end of the unit that was read, and those behind it
 abbrev pub end_and : (List ℕ → List ℕ) → Reading UnitDesc → List ℕ

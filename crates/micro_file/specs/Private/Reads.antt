@@ -3,7 +3,7 @@ use Rattle.std.specs.Prelude.{◌≡◌, ℕ, List, Result, Ok, Err}
 use Rattle.micro_file.specs.declared.misread.Misread.{Misread}
 use Rattle.micro_file.specs.declared.misread.Unread.{Unread}
 use Rattle.micro_file.specs.declared.misread.Unread.TheVariants as unread
-use Rattle.micro_file.specs.Fields.{Reading}
+use Rattle.micro_file.specs.Private.Fields.{Reading}
 
 -- this is why nothing was read, or memory ran out
 abbrev pub Fails : {Y : Type 0} → Unread → Result Y Misread → Type 0

@@ -8,8 +8,8 @@ use Rattle.micro_image.specs.declared.image.UnitDesc.{UnitDesc}
 use Rattle.micro_image.specs.declared.image.Word.{Word}
 use Rattle.micro_image.specs.Fields.{nth, no_unit}
 use Rattle.micro_file.specs.declared.word_flags.PortFile.{PortFile}
-use Rattle.micro_file.specs.Fields.{Reading, ◌>>=◌}
-use Rattle.micro_file.specs.PackedWords.{most_takes, slots_at, drive_at, takes_at}
+use Rattle.micro_file.specs.Private.Fields.{Reading, ◌>>=◌}
+use Rattle.micro_file.specs.Private.PackedWords.{most_takes, slots_at, drive_at, takes_at}
 
 -- the unit drives the bus
 abbrev pub drive_of : (unit bus : ℕ) → Enable

@@ -1,6 +1,6 @@
 use Rattle.std.proofs.Common.{◌≡◌, ◌-◌, []}
-use Rattle.micro_file.specs.Bits.{raw_word_at}
-use Rattle.micro_file.specs.Fields.{many_at}
+use Rattle.micro_file.specs.Private.Bits.{raw_word_at}
+use Rattle.micro_file.specs.Private.Fields.{many_at}
 use Rattle.micro_file.proofs.bit_fields.read_raw_words.Given as goal
 
 abbrev pub invariant-loop : goal.invariant-loop

@@ -1,6 +1,6 @@
 use Rattle.std.proofs.Common.{◌≡◌, ℕ, ◌-◌, List, [], ◌++◌, length, replicate, Ok, refl, arith}
-use Rattle.micro_file.specs.Bits.{register_at, registers_at}
-use Rattle.micro_file.specs.Fields.{many_at}
+use Rattle.micro_file.specs.Private.Bits.{register_at, registers_at}
+use Rattle.micro_file.specs.Private.Fields.{many_at}
 use Rattle.micro_file.proofs.Readers.{joined}
 use Rattle.micro_file.proofs.bit_fields.read_registers.Goals as goal
 

@@ -1,8 +1,8 @@
 use Rattle.std.proofs.Common.{◌≡◌, ◌∙◌, [], ap, length}
 use Rattle.std.proofs.lemmas.Result.{err_from_is_err_and}
 use Rattle.micro_image.specs.Fields.{nth}
-use Rattle.micro_file.specs.Bits.{register_at}
-use Rattle.micro_file.specs.Fields.{many_at}
+use Rattle.micro_file.specs.Private.Bits.{register_at}
+use Rattle.micro_file.specs.Private.Fields.{many_at}
 use Rattle.micro_file.proofs.Many.{goes_on, ends, is_done}
 use Rattle.micro_file.proofs.bit_fields.read_some_registers.Goals as goal
 

@@ -1,6 +1,6 @@
 use Rattle.std.proofs.Common.{◌≡◌, ◌-◌, []}
-use Rattle.micro_file.specs.Bits.{register_at}
-use Rattle.micro_file.specs.Fields.{many_at}
+use Rattle.micro_file.specs.Private.Bits.{register_at}
+use Rattle.micro_file.specs.Private.Fields.{many_at}
 use Rattle.micro_file.proofs.bit_fields.read_some_registers.Given as goal
 
 abbrev pub invariant-loop : goal.invariant-loop

@@ -1,6 +1,6 @@
 use Rattle.std.proofs.Common.{◌-◌, length, arith}
 use Rattle.std.proofs.lemmas.Result.{err_from_is_err_and}
-use Rattle.micro_file.specs.PackedWords.{most_takes, takes_at}
+use Rattle.micro_file.specs.Private.PackedWords.{most_takes, takes_at}
 use Rattle.micro_file.proofs.PortTakes.{goes_on, ends, is_done, is_full, no_flag}
 use Rattle.micro_file.proofs.bit_words.read_port_takes.Goals as goal
 

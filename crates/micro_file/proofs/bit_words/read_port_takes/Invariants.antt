@@ -1,5 +1,5 @@
 use Rattle.std.proofs.Common.{◌≡◌, ◌-◌, length}
-use Rattle.micro_file.specs.PackedWords.{most_takes, takes_at}
+use Rattle.micro_file.specs.Private.PackedWords.{most_takes, takes_at}
 use Rattle.micro_file.proofs.bit_words.read_port_takes.Given as goal
 
 abbrev pub invariant-loop-takes : goal.invariant-loop-takes

@@ -1,7 +1,7 @@
 use Rattle.std.proofs.Common.{[], length, arith, sym, ◌∙◌}
 use Rattle.std.proofs.lemmas.Result.{err_from_is_err_and}
-use Rattle.micro_file.specs.Fields.{each_at}
-use Rattle.micro_file.specs.PackedWords.{slot_at, slots_at}
+use Rattle.micro_file.specs.Private.Fields.{each_at}
+use Rattle.micro_file.specs.Private.PackedWords.{slot_at, slots_at}
 use Rattle.micro_file.proofs.Idle.{no_slot}
 use Rattle.micro_file.proofs.Passing.{goes_on, ends, is_done}
 use Rattle.micro_file.proofs.bit_words.read_slots.Goals as goal

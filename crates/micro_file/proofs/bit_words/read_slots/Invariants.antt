@@ -1,6 +1,6 @@
 use Rattle.std.proofs.Common.{◌≡◌, ◌-◌, ◌≤◌, [], length}
-use Rattle.micro_file.specs.Fields.{each_at}
-use Rattle.micro_file.specs.PackedWords.{slot_at}
+use Rattle.micro_file.specs.Private.Fields.{each_at}
+use Rattle.micro_file.specs.Private.PackedWords.{slot_at}
 use Rattle.micro_file.proofs.bit_words.read_slots.Given as goal
 
 abbrev pub invariant-loop-k : goal.invariant-loop-k

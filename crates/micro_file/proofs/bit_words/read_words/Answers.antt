@@ -1,7 +1,7 @@
 use Rattle.std.proofs.Common.{◌≡◌, ℕ, List, [], refl, sym}
 use Rattle.std.proofs.lemmas.Result.{err_from_is_err_and}
-use Rattle.micro_file.specs.Fields.{many_at}
-use Rattle.micro_file.specs.PackedWords.{packed_word_at}
+use Rattle.micro_file.specs.Private.Fields.{many_at}
+use Rattle.micro_file.specs.Private.PackedWords.{packed_word_at}
 use Rattle.micro_file.specs.Private.Zeros.{StartsWithZeros}
 use Rattle.micro_file.proofs.Flat.{flat_word}
 use Rattle.micro_file.proofs.Idle.{idle_word_at}

@@ -1,6 +1,6 @@
 use Rattle.std.proofs.Common.{◌≡◌, ◌-◌, []}
-use Rattle.micro_file.specs.Fields.{many_at}
-use Rattle.micro_file.specs.PackedWords.{packed_word_at}
+use Rattle.micro_file.specs.Private.Fields.{many_at}
+use Rattle.micro_file.specs.Private.PackedWords.{packed_word_at}
 use Rattle.micro_file.specs.Private.Zeros.{StartsWithZeros}
 use Rattle.micro_file.proofs.bit_words.read_words.Given as goal
 

@@ -1,6 +1,6 @@
 use Rattle.std.proofs.Common.{◌≡◌, ◌-◌, []}
-use Rattle.micro_file.specs.Fields.{many_at}
-use Rattle.micro_file.specs.Bytes.{register_at}
+use Rattle.micro_file.specs.Private.Fields.{many_at}
+use Rattle.micro_file.specs.Private.Bytes.{register_at}
 use Rattle.micro_file.proofs.byte_reader.read_registers.Given as goal
 
 abbrev pub invariant-loop : goal.invariant-loop

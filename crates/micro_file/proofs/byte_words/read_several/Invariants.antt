@@ -1,6 +1,6 @@
 use Rattle.std.proofs.Common.{◌≡◌, ◌-◌, []}
-use Rattle.micro_file.specs.Fields.{many_at}
-use Rattle.micro_file.specs.Words.{issue_at}
+use Rattle.micro_file.specs.Private.Fields.{many_at}
+use Rattle.micro_file.specs.Private.Words.{issue_at}
 use Rattle.micro_file.proofs.byte_words.read_several.Given as goal
 
 abbrev pub invariant-loop : goal.invariant-loop

@@ -1,7 +1,7 @@
 use Rattle.std.proofs.Common.{[], refl, sym}
 use Rattle.std.proofs.lemmas.Result.{err_from_is_err_and}
-use Rattle.micro_file.specs.Fields.{many_at}
-use Rattle.micro_file.specs.Words.{word_at}
+use Rattle.micro_file.specs.Private.Fields.{many_at}
+use Rattle.micro_file.specs.Private.Words.{word_at}
 use Rattle.micro_file.proofs.EmptyWord.{empty_word_at}
 use Rattle.micro_file.proofs.Many.{goes_on, ends, is_done}
 use Rattle.micro_file.proofs.byte_words.read_words.Goals as goal

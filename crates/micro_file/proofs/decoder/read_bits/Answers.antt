@@ -2,9 +2,9 @@ use Rattle.std.proofs.Common.{rules, ◌≡◌, Ok}
 use Rattle.std.proofs.lemmas.Result.{err_from_is_err_and}
 use Rattle.micro_image.specs.declared.image.Image.{Image}
 use Rattle.micro_bits.proofs.Bits.{IsDigits}
-use Rattle.micro_file.specs.Bits.{at_bits}
-use Rattle.micro_file.specs.Hardware.{hardware_at}
-use Rattle.micro_file.specs.PackedWords.{packed_word_at}
+use Rattle.micro_file.specs.Private.Bits.{at_bits}
+use Rattle.micro_file.specs.Private.Hardware.{hardware_at}
+use Rattle.micro_file.specs.Private.PackedWords.{packed_word_at}
 use Rattle.micro_file.proofs.BitsForm.{reads_bits}
 use Rattle.micro_file.proofs.FileReader.{bits_of_digits}
 use Rattle.micro_file.proofs.HardwareReader.{hardware_reader, is_numbered}

@@ -1,9 +1,9 @@
 use Rattle.std.proofs.Common.{rules, ◌≡◌, Ok}
 use Rattle.std.proofs.lemmas.Result.{err_from_is_err_and}
 use Rattle.micro_image.specs.declared.image.Image.{Image}
-use Rattle.micro_file.specs.Bytes.{at_bytes}
-use Rattle.micro_file.specs.Hardware.{hardware_at}
-use Rattle.micro_file.specs.Words.{word_at}
+use Rattle.micro_file.specs.Private.Bytes.{at_bytes}
+use Rattle.micro_file.specs.Private.Hardware.{hardware_at}
+use Rattle.micro_file.specs.Private.Words.{word_at}
 use Rattle.micro_file.proofs.ImageSteps.{hardware_fails, words_fail, image_read, bytes_fail, bytes_end}
 use Rattle.micro_file.proofs.decoder.read_bytes.Goals as goal
 

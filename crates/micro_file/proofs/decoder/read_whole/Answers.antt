@@ -1,7 +1,7 @@
 use Rattle.std.proofs.Common.{rules, ◌≡◌, ◌≤◌, Ok, length, ap, subst, arith}
 use Rattle.micro_image.specs.declared.version.Version.{Version}
-use Rattle.micro_file.specs.Fields.{Reading}
-use Rattle.micro_file.specs.File.{head_at}
+use Rattle.micro_file.specs.Private.Fields.{Reading}
+use Rattle.micro_file.specs.Private.File.{head_at}
 use Rattle.micro_file.proofs.Inside.{IsInside}
 use Rattle.micro_file.proofs.InsideFile.{head_in}
 use Rattle.micro_file.proofs.decoder.read_whole.Goals as goal

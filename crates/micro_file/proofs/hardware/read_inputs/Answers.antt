@@ -1,8 +1,8 @@
 use Rattle.std.proofs.Common.{◌≡◌, ℕ, List, [], Result, Ok, Err, refl, ◌∙◌}
 use Rattle.micro_file.specs.declared.misread.Unread.{Unread}
 use Rattle.micro_file.specs.declared.misread.Unread.TheVariants as unread
-use Rattle.micro_file.specs.Fields.{Reading, many_at}
-use Rattle.micro_file.specs.Hardware.{inputs_at}
+use Rattle.micro_file.specs.Private.Fields.{Reading, many_at}
+use Rattle.micro_file.specs.Private.Hardware.{inputs_at}
 use Rattle.micro_file.specs.Private.Reads.{Reads}
 use Rattle.micro_file.proofs.hardware.read_inputs.Goals as goal
 

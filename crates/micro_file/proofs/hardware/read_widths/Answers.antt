@@ -1,6 +1,6 @@
 use Rattle.std.proofs.Common.{[]}
 use Rattle.std.proofs.lemmas.Result.{err_from_is_err_and}
-use Rattle.micro_file.specs.Fields.{many_at}
+use Rattle.micro_file.specs.Private.Fields.{many_at}
 use Rattle.micro_file.proofs.Many.{goes_on, ends, is_done}
 use Rattle.micro_file.proofs.hardware.read_widths.Goals as goal
 

@@ -1,5 +1,5 @@
 use Rattle.std.proofs.Common.{◌≡◌, ◌-◌, []}
-use Rattle.micro_file.specs.Fields.{many_at}
+use Rattle.micro_file.specs.Private.Fields.{many_at}
 use Rattle.micro_file.proofs.hardware.read_widths.Given as goal
 
 abbrev pub invariant-loop : goal.invariant-loop

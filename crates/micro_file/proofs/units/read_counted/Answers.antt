@@ -2,9 +2,9 @@ use Rattle.std.proofs.Common.{ℕ, List, [], ◌++◌, Ok, refl, ap, ◌∙◌}
 use Rattle.std.proofs.lemmas.Result.{err_from_is_err_and}
 use Rattle.micro_image.specs.declared.image.UnitDesc.{UnitDesc}
 use Rattle.micro_file.specs.declared.misread.Unread.{Unread}
-use Rattle.micro_file.specs.Fields.{◌>>=◌, Reading, many_at}
-use Rattle.micro_file.specs.FormAt.{FormAt}
-use Rattle.micro_file.specs.Units.{unit_at, judged_at, some_units_at}
+use Rattle.micro_file.specs.Private.Fields.{◌>>=◌, Reading, many_at}
+use Rattle.micro_file.specs.Private.FormAt.{FormAt}
+use Rattle.micro_file.specs.Private.Units.{unit_at, judged_at, some_units_at}
 use Rattle.micro_file.specs.Private.Ends.{ends_of, all_judged}
 use Rattle.micro_file.specs.Private.Reads.{Fails}
 use Rattle.micro_file.proofs.Judgement.{as_many, once_judged}

@@ -1,6 +1,6 @@
 use Rattle.std.proofs.Common.{◌≡◌, ◌-◌, []}
-use Rattle.micro_file.specs.Fields.{many_at}
-use Rattle.micro_file.specs.Units.{file_at}
+use Rattle.micro_file.specs.Private.Fields.{many_at}
+use Rattle.micro_file.specs.Private.Units.{file_at}
 use Rattle.micro_file.proofs.units.read_files.Given as goal
 
 abbrev pub invariant-loop : goal.invariant-loop

@@ -2,8 +2,8 @@ use Rattle.std.proofs.Common.{◌+◌, ◌≤◌, [], sym, ◌∙◌}
 use Rattle.std.below.core.specs.declared.int.usize.TheConstants as usize
 use Rattle.std.proofs.lemmas.List.Elements.{All-push}
 use Rattle.std.proofs.lemmas.Result.{err_from_is_err_and}
-use Rattle.micro_file.specs.Fields.{many_at}
-use Rattle.micro_file.specs.Units.{unit_at}
+use Rattle.micro_file.specs.Private.Fields.{many_at}
+use Rattle.micro_file.specs.Private.Units.{unit_at}
 use Rattle.micro_file.proofs.Judgement.{ends_go_on, ends_done}
 use Rattle.micro_file.proofs.Many.{goes_on, ends, is_done}
 use Rattle.micro_file.proofs.units.read_several.Goals as goal

@@ -1,6 +1,6 @@
 use Rattle.std.proofs.Common.{◌≡◌, ◌-◌, ◌++◌, []}
-use Rattle.micro_file.specs.Fields.{many_at}
-use Rattle.micro_file.specs.Units.{unit_at}
+use Rattle.micro_file.specs.Private.Fields.{many_at}
+use Rattle.micro_file.specs.Private.Units.{unit_at}
 use Rattle.micro_file.specs.Private.Ends.{ends_of, HaveRoom}
 use Rattle.micro_file.proofs.units.read_several.Given as goal
 

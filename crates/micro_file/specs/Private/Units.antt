@@ -7,8 +7,8 @@ use Rattle.micro_image.specs.declared.image.UnitDesc.{UnitDesc}
 use Rattle.micro_image.specs.Valid.{ports}
 use Rattle.micro_file.specs.declared.misread.Misread.{Misread}
 use Rattle.micro_file.specs.declared.misread.Misread.TheVariants.{Field}
-use Rattle.micro_file.specs.Fields.{Reading, ◌>>=◌, many_at}
-use Rattle.micro_file.specs.FormAt.{FormAt}
+use Rattle.micro_file.specs.Private.Fields.{Reading, ◌>>=◌, many_at}
+use Rattle.micro_file.specs.Private.FormAt.{FormAt}
 
 -- the kind is that of rams
 abbrev pub is_ram : Kind → Bool

@@ -12,11 +12,11 @@ use Rattle.micro_image.specs.Operations.{Argument, nothing, input_word, output_w
 use Rattle.micro_image.specs.Operations.{is_formatted}
 use Rattle.micro_bits.specs.Numbers as numbers
 use Rattle.micro_bits.specs.declared.fault.BitFault.{BitFault}
-use Rattle.micro_file.specs.Tables.{kinds, modes}
+use Rattle.micro_file.specs.Private.Tables.{kinds, modes}
 use Rattle.micro_file.specs.declared.misread.Misread.{Misread}
 use Rattle.micro_file.specs.declared.misread.Misread.TheVariants.{Short}
-use Rattle.micro_file.specs.Fields.{Reading, ◌>>=◌, kept, element, many_at}
-use Rattle.micro_file.specs.FormAt.{FormAt}
+use Rattle.micro_file.specs.Private.Fields.{Reading, ◌>>=◌, kept, element, many_at}
+use Rattle.micro_file.specs.Private.FormAt.{FormAt}
 
 -- what was read, if there were enough bits
 abbrev pub unless_short : {A : Type 0} → Result A BitFault → Result A Misread

@@ -3,7 +3,7 @@ use Rattle.std.specs.Prelude.{ℕ, Bool, ℤ}
 use Rattle.fix_word.specs.declared.operation.Op.{Op}
 use Rattle.fix_word.specs.declared.operation.Op.TheVariants as op
 use Rattle.micro_image.specs.Valid.{offsets}
-use Rattle.micro_file.specs.Fields.{is_raw_word, is_below}
+use Rattle.micro_file.specs.Private.Fields.{is_raw_word, is_below}
 
 -- the operation takes the argument, where there are so many input and output words
 abbrev pub is_argument : Op → ℕ → ℕ → ℤ → Bool

@@ -3,7 +3,7 @@ use Rattle.std.specs.Prelude.{ℕ, List, ℤ}
 use Rattle.fix_word.specs.declared.operation.Op.{Op}
 use Rattle.fix_word.specs.declared.types.Format.{Format}
 use Rattle.operations.specs.declared.units.Kind.{Kind}
-use Rattle.micro_file.specs.Fields.{Reading}
+use Rattle.micro_file.specs.Private.Fields.{Reading}
 
 pub record FormAt : Type 0 where
   pub period : List ℕ → Reading ℕ

@@ -3,7 +3,7 @@ use Rattle.std.specs.Prelude.{ℕ, List, Option, Some, None, Bool, true, ◌==�
 use Rattle.micro_image.specs.declared.image.Enable.{Enable}
 use Rattle.micro_image.specs.declared.image.Issue.{Issue}
 use Rattle.micro_image.specs.declared.image.Take.{Take}
-use Rattle.micro_file.specs.Fields.{Reading, kept, last_of}
+use Rattle.micro_file.specs.Private.Fields.{Reading, kept, last_of}
 
 -- the unit's number is above that of the issue before
 abbrev pub is_above : Option Issue → ℕ → Bool

@@ -9,12 +9,12 @@ use Rattle.operations.specs.declared.units.Kind.{Kind}
 use Rattle.micro_image.specs.Codes.{kind_number}
 use Rattle.micro_image.specs.Fields.{nth}
 use Rattle.micro_image.specs.Operations.{kind_of, is_formatted}
-use Rattle.micro_file.specs.Arguments.{is_argument}
-use Rattle.micro_file.specs.Tables.{kinds, operations, modes}
+use Rattle.micro_file.specs.Private.Arguments.{is_argument}
+use Rattle.micro_file.specs.Private.Tables.{kinds, operations, modes}
 use Rattle.micro_file.specs.declared.misread.Misread.{Misread}
 use Rattle.micro_file.specs.declared.misread.Misread.TheVariants.{Short}
-use Rattle.micro_file.specs.Fields.{Reading, ◌>>=◌, kept, element, is_raw_word, many_at}
-use Rattle.micro_file.specs.FormAt.{FormAt}
+use Rattle.micro_file.specs.Private.Fields.{Reading, ◌>>=◌, kept, element, is_raw_word, many_at}
+use Rattle.micro_file.specs.Private.FormAt.{FormAt}
 
 -- one byte
 abbrev pub byte_at : List ℕ → Reading ℕ
