@@ -89,7 +89,8 @@ not_loaded mic old new bytes error read within content = ⊎_elim (λ m. inl m)
       record {
         read = read;
         why = λ files known.
-            subst (λ (file : Content). IsImageFault file (image_fault.File bad.0)) (content files known) (within, bad.2);
+            subst (λ (file : Content). IsImageFault file (image_fault.File bad.0)) (content files known)
+            (within, bad.2);
       },
     )))
 
