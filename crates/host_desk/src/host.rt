@@ -10,18 +10,13 @@ use std::io::{Read, Write};
 /// The name of a file that could be opened. The host opens no path of 4,096 bytes or more, so each such name has room.
 type FileName = ArrayString<4096>;
 
-/// What is read, and its name.
-#[derive(Drop)]
-struct Input {
-    name: FileName,
-    source: Source,
-}
-
 /// The environment of the process. What a file holds is not specified, and each `Err` of the host is a fault.
 #[derive(Drop)]
 pub struct HostDesk {
     rt: HostRuntime,
-    input: Option<Input>,
+    input: Option<Source>,
+    /// The name of the input that was opened last. It stays where it is, since a move copies all of its room.
+    name: FileName,
     /// Bytes read since the input was opened.
     place: u64,
     output: Option<Sink>,
@@ -37,6 +32,7 @@ impl HostDesk {
         HostDesk {
             rt,
             input: None,
+            name: FileName::new(),
             place: 0,
             output: None,
             faults: 0,
@@ -52,14 +48,6 @@ fn raised(faults: u64) -> u64
     faults.saturating_add(1)
 }
 
-/// Opens an input, which takes no memory for its name. A name that is too long for the host is a fault of it.
-fn opened(rt: &HostRuntime, name: &str) -> Result<Input, Failed> {
-    Ok(Input {
-        name: FileName::from(name).map_err(|_| Failed)?,
-        source: Source::open(rt, name).map_err(|_| Failed)?,
-    })
-}
-
 impl Desk for HostDesk {
     ghost use Rattle.host_desk.specs.HostDesk.{host_view, never_specifies_files};
 
@@ -67,23 +55,24 @@ impl Desk for HostDesk {
 
     ghost output_specified = { λ desk. never_specifies_files desk.place desk.faults };
 
+    /// A name that is too long for the host is a fault of it.
     fn open_input(&mut self, name: &str) -> Result<(), Failed> {
-        match opened(&self.rt, name) {
-            Ok(input) => {
-                self.input = Some(input);
-                self.place = 0;
-                Ok(())
-            }
-            Err(failed) => {
-                self.faults = raised(self.faults);
-                Err(failed)
-            }
+        if name.len() <= self.name.capacity()
+            && let Ok(source) = Source::open(&self.rt, name)
+        {
+            self.name.clear();
+            self.name.push_str(name);
+            self.input = Some(source);
+            self.place = 0;
+            return Ok(());
         }
+        self.faults = raised(self.faults);
+        Err(Failed)
     }
 
     fn read(&mut self, buf: &mut [u8]) -> Result<usize, Failed> {
         if let Some(input) = &mut self.input
-            && let Ok(count) = input.source.read(buf)
+            && let Ok(count) = input.read(buf)
         {
             self.place += count as u64;
             return Ok(count);
@@ -97,11 +86,7 @@ impl Desk for HostDesk {
         match Sink::create(&self.rt, name) {
             Ok(sink) => {
                 self.output = Some(sink);
-                if self
-                    .input
-                    .as_ref()
-                    .is_some_and(|input| input.name.as_str() == name)
-                {
+                if self.name.as_str() == name {
                     self.input = None;
                 }
                 Ok(())
