@@ -10,13 +10,13 @@ use Rattle.overlap_plan.specs.IsStagePlan.{plan_of}
 use Rattle.overlap_plan.specs.declared.plan.StagePlan.{StagePlan}
 use Rattle.overlap_sim.specs.GuardedOf.{overlap_of}
 
--- A feasible plan of the graph over its stages, by whatever rules. Each delay is in memory, and a line has a cell for each
--- sample in flight beyond its longest delay.
+-- A feasible plan of the graph over its stages, by whatever rules. Each delay is in memory, and a line has a cell for
+-- each sample in flight beyond its longest delay.
 abbrev pub IsFeasibleStagePlan : Graph → Datapath → StagePlan → Type 0
 IsFeasibleStagePlan g d p = IsFeasiblePlanOver (overlap_of p.stages) 0 p.stages g d (plan_of p)
 
--- it is a feasible plan of some sound graph over 1 to 4 stages, with its lifetimes in order and with a slot for each node
--- and registers for each lifetime
+-- it is a feasible plan of some sound graph over 1 to 4 stages, with its lifetimes in order, a slot for each node and
+-- registers for each lifetime
 pub record IsGuardable (d : Datapath) (p : StagePlan) : Type 0 where
   pub graph : Graph
   pub sound : IsGraph graph

@@ -30,8 +30,8 @@ module _ (stages : ℕ) (Loads : (v x ago : ℕ) → Type 0) (d : Datapath) (a :
     pub output : op_is op.Output → (stages - 1) * d.period < cycle_of s v + latency_of d a v
     pub stores : (x ago : ℕ) → Loads v x ago → cycle_of s v + latency_of d a v ≤ cycle_of s x + ago * d.period
 
--- Each node is on a right unit, which is free again a period later, in its stages, and in the least cycle that is allowed
--- and in which it fits beside those before it. The other parts of the plan follow their rules.
+-- Each node is on a right unit, which is free again a period later, in its stages, and in the least cycle that is
+-- allowed and in which it fits beside those before it. The other parts of the plan follow their rules.
 pub record IsPlacedStagePlan (Allows : Schedule → (height : ℕ → ℕ) → (v t : ℕ) → Type 0) (g : Graph) (d : Datapath)
     (stages : ℕ) (p : StagePlan) : Type 0 where
   pub lowered : IsLoweredOver 0 stages g d p.assigned.lowered
