@@ -10,8 +10,7 @@ use Rattle.datapath.specs.declared.types.Datapath.{Datapath}
 use Rattle.signal_graph.specs.declared.graph.Edge.{Edge}
 use Rattle.plan_core.specs.Operands.{delay_at, Reads}
 use Rattle.plan_core.specs.Assigned.{unit_in}
-use Rattle.plan_core.specs.Heights.{latency_of}
-use Rattle.plan_core.specs.ListSchedule.{cycle_of, ends}
+use Rattle.plan_core.specs.ListSchedule.{ends}
 use Rattle.plan_core.specs.Arcs.{read_cycle}
 use Rattle.plan_core.specs.Stages.{written_around, read_around}
 use Rattle.plan_core.specs.declared.schedule.Assigned.{Assigned}
@@ -109,7 +108,7 @@ module _ (d : Datapath) (a : Assigned) (s : Schedule) where
 -- A schedule over several stages.
 module _ (d : Datapath) (a : Assigned) (s : Schedule) (is : IsDatapath d) (held : IsHeld d a) where
   pub over_stages : IsOverStages d a s → IsPlacement d a s
-  over_stages over = stage_placement d a s over.stages over.delays is held over.few over.schedule
+  over_stages over = stage_placement d a s is held over
 
   module _ (now : AreReadNow a) (over : IsOverStages d a s) where
     none : (c q v : ℕ) → Reads a.lowered.nodes c q v → delay_at a.lowered.nodes c q ≡ 0
@@ -117,21 +116,18 @@ module _ (d : Datapath) (a : Assigned) (s : Schedule) (is : IsDatapath d) (held 
 
     pub read_later : AreReadLater d a s
     read_later c q v reads =
-        let ready = (over.schedule.placed c (reader_there a.lowered.nodes c q v reads)).can.operands q v
+        let ready = over.operands c (reader_there a.lowered.nodes c q v reads) q v
         (record { reads = reads; now = none c q v reads }) in
         let at = none c q v reads in
         let some = live_of d is (unit_in a.units v) in
         omega (arith, ready, some)
 
-    ended : (v : ℕ) → v < length a.lowered.nodes → cycle_of s v + latency_of d a v ≤ over.stages * d.period
-    ended v there = (over.schedule.placed v there).can.fits.period
-
     pub in_period : (x : Read) → IsReadOver (written_around d a s) (read_around d a s) a x → x.w < 4096
     in_period =
-        in_period_around d a s (over_stages over) over.stages over.few (omega (arith, is.period.0)) ended none
+        in_period_around d a s (over_stages over) over.stages over.few (omega (arith, is.period.0)) over.ends none
 
     pub in_samples : (x : Read)
         → IsReadOver (written_around d a s) (read_around d a s) a x
         → x.r ≤ x.w + 4 * d.period
     in_samples =
-        in_samples_around d a s (over_stages over) over.stages over.few (omega (arith, is.period.0)) ended none
+        in_samples_around d a s (over_stages over) over.stages over.few (omega (arith, is.period.0)) over.ends none

@@ -18,11 +18,10 @@ use Rattle.plan_core.specs.Operands.{node_of, edge_of, no_edge, Reads}
 use Rattle.plan_core.specs.Assigned.{unit_in}
 use Rattle.plan_core.specs.Heights.{latency_of}
 use Rattle.plan_core.specs.ListSchedule.{cycle_of}
-use Rattle.plan_core.specs.Stages.{IsStageSchedule}
 use Rattle.plan_core.specs.declared.schedule.Assigned.{Assigned}
 use Rattle.plan_core.specs.declared.schedule.Schedule.{Schedule}
 use Rattle.plan_core.proofs.Readers.{operands_few, reader_there, edge_has}
-use Rattle.cyclic_life.specs.Held.{IsHeld, IsInPeriod}
+use Rattle.cyclic_life.specs.Held.{IsHeld, IsInPeriod, IsOverStages}
 use Rattle.cyclic_life.specs.Private.Placed.{last_end, IsPlacement, read_of, IsRead, AreReadsBefore, AreReads}
 use Rattle.cyclic_life.specs.declared.read.Read.{Read}
 
@@ -88,17 +87,16 @@ placement d a s is held schedule =
     placement_of d a s is held schedule.count (λ v there. omega (arith, schedule.ends v there, is.period.1))
 
 -- and those of a schedule over several stages in these
-pub stage_placement : (d : Datapath) (a : Assigned) (s : Schedule) (stages : ℕ) (delays : List (List ℕ))
+pub stage_placement : (d : Datapath) (a : Assigned) (s : Schedule)
     → IsDatapath d
     → IsHeld d a
-    → stages ≤ 4
-    → IsStageSchedule stages delays d a s
+    → IsOverStages d a s
     → IsPlacement d a s
-stage_placement d a s stages delays is held few schedule =
-    placement_of d a s is held schedule.count
+stage_placement d a s is held over =
+    placement_of d a s is held over.count
     (λ v there.
-    let most : stages * d.period ≤ 4 * 4096 = mul-le-mul few is.period.1 in
-    omega (arith, (schedule.placed v there).can.fits.period, most))
+    let most : over.stages * d.period ≤ 4 * 4096 = mul-le-mul over.few is.period.1 in
+    omega (arith, over.ends v there, most))
 
 module _ (d : Datapath) (a : Assigned) (s : Schedule) where
   -- the edge that the code reads leads to a node that is there, at most three samples ago

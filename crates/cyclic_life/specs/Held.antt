@@ -1,13 +1,12 @@
 -- What is asked of a graph whose words are held in registers.
-use Rattle.std.specs.Prelude.{◌≡◌, ℕ, ◌+◌, ◌^◌, ◌<◌, ◌≤◌, List, length, All}
+use Rattle.std.specs.Prelude.{◌≡◌, ℕ, ◌+◌, ◌*◌, ◌^◌, ◌<◌, ◌≤◌, List, length, All}
 use Rattle.operations.specs.Operations.{operands}
 use Rattle.datapath.specs.declared.types.Datapath.{Datapath}
 use Rattle.signal_graph.specs.declared.graph.Edge.{Edge}
 use Rattle.signal_graph.specs.declared.graph.Node.{Node}
 use Rattle.plan_core.specs.Assigned.{unit_in}
 use Rattle.plan_core.specs.Heights.{latency_of}
-use Rattle.plan_core.specs.ListSchedule.{cycle_of}
-use Rattle.plan_core.specs.Stages.{IsStageSchedule}
+use Rattle.plan_core.specs.ListSchedule.{cycle_of, AreOperandsThere}
 use Rattle.plan_core.specs.declared.schedule.Assigned.{Assigned}
 use Rattle.plan_core.specs.declared.schedule.Schedule.{Schedule}
 
@@ -31,9 +30,10 @@ pub record IsInPeriod (d : Datapath) (a : Assigned) (s : Schedule) : Type 0 wher
 abbrev pub AreReadNow : Assigned → Type 0
 AreReadNow a = All (λ (node : Node). All (λ (edge : Edge). edge.delay ≡ 0) node.edges) a.lowered.nodes
 
--- the schedule is one over four stages at most
+-- each node has its slot, and ends in four stages at most; its operands of the same sample are there when it is issued
 pub record IsOverStages (d : Datapath) (a : Assigned) (s : Schedule) : Type 0 where
   pub stages : ℕ
   pub few : stages ≤ 4
-  pub delays : List (List ℕ)
-  pub schedule : IsStageSchedule stages delays d a s
+  pub count : length s.slots ≡ length a.lowered.nodes
+  pub ends : (v : ℕ) → v < length a.lowered.nodes → cycle_of s v + latency_of d a v ≤ stages * d.period
+  pub operands : (v : ℕ) → v < length a.lowered.nodes → AreOperandsThere d a s v (cycle_of s v)

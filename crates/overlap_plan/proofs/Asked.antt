@@ -1,5 +1,6 @@
 -- What the passes of a plan over stages ask of the lowered list of a sound graph.
-use Rattle.std.proofs.Common.{◌≡◌, arith, ℕ, ◌<◌, ◌≤◌, List}
+use Rattle.std.proofs.Common.{◌≡◌, arith, ℕ, ◌*◌, ◌<◌, ◌≤◌, List, length}
+use Rattle.std.proofs.Math.Nat.{mod-lt}
 use Rattle.datapath.specs.Allowed.{IsDatapath}
 use Rattle.datapath.specs.declared.types.Datapath.{Datapath}
 use Rattle.signal_graph.specs.GraphRules.{IsGraph}
@@ -8,21 +9,24 @@ use Rattle.signal_graph.specs.declared.graph.Edge.{Edge}
 use Rattle.signal_graph.specs.declared.graph.Graph.{Graph}
 use Rattle.plan_core.specs.Operands.{delay_at, Reads}
 use Rattle.plan_core.specs.Lowered.{IsLoweredOver}
+use Rattle.plan_core.specs.Assigned.{unit_in}
+use Rattle.plan_core.specs.ListSchedule.{ends, IsListScheduleOver}
 use Rattle.plan_core.specs.Stages.{IsLoadOf, IsStageSchedule, IsStageScheduleOver, IsWithoutStage, IsWithoutStageOver}
-use Rattle.plan_core.specs.Stages.{AreStageArcs}
+use Rattle.plan_core.specs.Stages.{IsGapAround, IsSameAround, AreStageArcs, written_around, read_around}
 use Rattle.plan_core.specs.declared.registers.Arc.{Arc}
 use Rattle.plan_core.specs.declared.schedule.Assigned.{Assigned}
 use Rattle.plan_core.specs.declared.schedule.Schedule.{Schedule}
-use Rattle.plan_core.proofs.Readers.{edge_has}
+use Rattle.plan_core.proofs.OneHeight.{live_of}
+use Rattle.plan_core.proofs.Readers.{reader_there, edge_has}
 use Rattle.plan_soundness.specs.Units.{AreOnRightUnits}
 use Rattle.delay_memory.proofs.LoweredNodes as of_list
 use Rattle.schedule_priority.specs.Problem.{IsProblem}
-use Rattle.cyclic_life.specs.Held.{AreReadNow}
+use Rattle.cyclic_life.specs.Held.{AreReadNow, IsOverStages}
 use Rattle.reg_alloc.specs.Allottable.{AreAllottable}
-use Rattle.reg_alloc.proofs.FromArcs.{allottable_around}
+use Rattle.reg_alloc.proofs.FromArcs.{allottable_over}
 use Rattle.planner.proofs.Asked.{schedulable}
-use Rattle.overlap_plan.specs.Private.Lines.{LoadsBehind}
-use Rattle.overlap_plan.specs.Private.Staged.{IsStageProblem}
+use Rattle.overlap_plan.specs.Lines.{LoadsBehind}
+use Rattle.overlap_plan.specs.Staged.{IsStageProblem}
 use Rattle.overlap_plan.specs.Private.Placing.{Loads}
 use Rattle.overlap_plan.proofs.LinesBehind.{loads_behind, load_of_cells, cells_behind, higher_behind}
 use Rattle.overlap_plan.proofs.SameLoads.{schedule_to, without_to}
@@ -45,11 +49,11 @@ module _ (g : Graph) (d : Datapath) (stages : ℕ) (allowed : IsDatapath d) (sou
   module _ (some : 1 ≤ stages) (a : Assigned) (low : IsLoweredOver 0 stages g d a.lowered)
       (bound : AreOnRightUnits d a) where
     -- the loads that the code finds behind a store are those of its word
-    of_behind : (v x ago : ℕ) → Loads a v x ago → IsLoadOf low.delays v x ago
+    pub of_behind : (v x ago : ℕ) → Loads a v x ago → IsLoadOf low.delays v x ago
     of_behind v x ago loads =
         load_of_cells g d allowed sound (omega (arith, some)) a low bound v x loads.behind ago loads.cells
 
-    to_behind : (v x ago : ℕ) → IsLoadOf low.delays v x ago → Loads a v x ago
+    pub to_behind : (v x ago : ℕ) → IsLoadOf low.delays v x ago → Loads a v x ago
     to_behind v x ago loads = loads_behind g d allowed sound (omega (arith, some)) a low bound v x ago loads
 
     pub schedule_of : (s : Schedule)
@@ -73,12 +77,34 @@ module _ (g : Graph) (d : Datapath) (stages : ℕ) (allowed : IsDatapath d) (sou
         (of_list.edges_short g d a.lowered sound low) c q v reads in
         omega (arith, short)
 
-    pub allottable_of : AreOnRightUnits d a
-        → (s : Schedule)
-        → IsStageSchedule stages low.delays d a s
-        → (arcs : List Arc)
-        → AreStageArcs d a s arcs
-        → AreAllottable d arcs
-    allottable_of bound s scheduled arcs are =
-        allottable_around d a s allowed (of_list.edge_count g d a.lowered sound low)
-        (of_list.edges_there g d a.lowered sound low) bound.right stages low.delays scheduled now arcs are
+    -- a schedule over four stages at most, whatever else is asked of a cycle
+    module _ {Allows : Schedule → (height : ℕ → ℕ) → (v t : ℕ) → Type 0} (s : Schedule)
+        (scheduled : IsListScheduleOver (IsGapAround d.period) (IsSameAround d.period) (stages * d.period) Allows d a s)
+      where
+        pub over_stages : stages ≤ 4 → IsOverStages d a s
+        over_stages few = record {
+          stages = stages;
+          few = few;
+          count = scheduled.count;
+          ends = λ v there. (scheduled.placed v there).can.fits.period;
+          operands = λ v there. (scheduled.placed v there).can.operands;
+        }
+
+        later : (c q v : ℕ)
+            → Reads a.lowered.nodes c q v
+            → v < length a.lowered.nodes
+            → written_around d a s v < read_around d a s v c q
+        later c q v reads there =
+            let ready = (scheduled.placed c (reader_there a.lowered.nodes c q v reads)).can.operands q v
+            (record { reads = reads; now = now c q v reads }) in
+            let some = live_of d allowed (unit_in a.units v) in
+            omega (arith, some, ready)
+
+        pub allottable_of : AreOnRightUnits d a
+            → (arcs : List Arc)
+            → AreStageArcs d a s arcs
+            → AreAllottable d arcs
+        allottable_of bound arcs are =
+            allottable_over (written_around d a s) (read_around d a s) d a allowed
+            (of_list.edge_count g d a.lowered sound low) (of_list.edges_there g d a.lowered sound low) bound.right
+            (λ v there. mod-lt (ends d a s v) (omega (arith, allowed.period.0))) later arcs are

@@ -6,8 +6,8 @@ use Rattle.datapath.specs.declared.types.Datapath.{Datapath}
 use Rattle.plan_core.specs.declared.schedule.Assigned.{Assigned}
 use Rattle.plan_core.specs.declared.schedule.Slot.{Slot}
 use Rattle.list_schedule.specs.Placing.{slot_at}
-use Rattle.overlap_plan.specs.Private.Lines.{op_at, IsOfLine, IsBehind, AreCells, LoadsBehind}
-use Rattle.overlap_plan.specs.Private.Staged.{IsEndUpTo, EndsBeforeLoads}
+use Rattle.overlap_plan.specs.Lines.{op_at, IsOfLine, IsBehind, AreCells, LoadsBehind}
+use Rattle.overlap_plan.specs.Staged.{IsEndUpTo, EndsBeforeLoads}
 
 module _ (d : Datapath) (a : Assigned) (slots : List Slot) (v latest : ℕ) where
   -- what is asked of an end by the loads before node x

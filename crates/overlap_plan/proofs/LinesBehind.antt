@@ -38,7 +38,7 @@ use Rattle.plan_soundness.proofs.Origins.{first_of, number_of, own_number, own_o
 use Rattle.delay_memory.specs.Private.Delays.{delays_at}
 use Rattle.delay_memory.proofs.OneLine.{Found, found, stands_once}
 use Rattle.delay_memory.proofs.Stored.{stored_once}
-use Rattle.overlap_plan.specs.Private.Lines.{op_at, IsOfLine, IsBehind, AreCells, LoadsBehind, address_of}
+use Rattle.overlap_plan.specs.Lines.{op_at, IsOfLine, IsBehind, AreCells, LoadsBehind, address_of}
 
 -- a plan with nothing but its nodes and their units
 abbrev pub bare : Assigned → Plan

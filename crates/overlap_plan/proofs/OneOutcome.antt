@@ -54,7 +54,7 @@ use Rattle.plan_soundness.proofs.Units.{on_right_units}
 use Rattle.overlap_plan.proofs.Asked.{problem_of, allottable_of}
 use Rattle.overlap_plan.proofs.StagedPlacing.{stage_alike}
 
-plan_from : (p q : StagePlan)
+pub plan_from : (p q : StagePlan)
     → p.assigned ≡ q.assigned
     → p.schedule ≡ q.schedule
     → p.arcs ≡ q.arcs
@@ -189,9 +189,8 @@ module _ (g : Graph) (d : Datapath) (stages : ℕ) (allowed : IsDatapath d) (sou
       same_arcs y.assigned y.is_lowered y.is_assigned y.schedule y.arcs y.is_schedule y.are_arcs x.assigned x.is_lowered
       x.schedule x.arcs x.is_assigned x.is_schedule x.are_arcs in
       one_file_fault d y.arcs
-      (allottable_of g d stages allowed sound y.assigned y.is_lowered (on_right_units y.is_assigned) y.schedule
-      y.is_schedule y.arcs
-      y.are_arcs)
+      (allottable_of g d stages allowed sound y.assigned y.is_lowered y.schedule y.is_schedule
+      (on_right_units y.is_assigned) y.arcs y.are_arcs)
       f h (subst (λ (xs : List Arc). IsFileFault d xs f) arcs x.none) y.none
 
   pub one_fault : (f h : StageFault) → IsStageFault g d stages f → IsStageFault g d stages h → f ≡ h
@@ -228,7 +227,7 @@ module _ (g : Graph) (d : Datapath) (stages : ℕ) (allowed : IsDatapath d) (sou
       let unroll =
       one_unroll q.arcs p.unroll q.unroll (subst (λ (xs : List Arc). IsUnroll xs p.unroll) arcs x.unroll) y.unroll in
       let order =
-      (allottable_of g d stages allowed sound q.assigned y.lowered (on_right_units y.assigned) q.schedule y.schedule
+      (allottable_of g d stages allowed sound q.assigned y.lowered q.schedule y.schedule (on_right_units y.assigned)
       q.arcs y.arcs).order
       in
       let fit =
@@ -255,8 +254,8 @@ module _ (g : Graph) (d : Datapath) (stages : ℕ) (allowed : IsDatapath d) (sou
       same_arcs p.assigned is.lowered is.assigned p.schedule p.arcs is.schedule is.arcs h.assigned h.is_lowered
       h.schedule h.arcs h.is_assigned h.is_schedule h.are_arcs in
       allotted_or_not d p.arcs
-      (allottable_of g d stages allowed sound p.assigned is.lowered (on_right_units is.assigned) p.schedule is.schedule
-      p.arcs is.arcs)
+      (allottable_of g d stages allowed sound p.assigned is.lowered p.schedule is.schedule
+      (on_right_units is.assigned) p.arcs is.arcs)
       p.registers.regs (allotted p is) f (subst (λ (xs : List Arc). IsFileFault d xs f) arcs h.none)
   plan_or_not p is Memory h = h
 

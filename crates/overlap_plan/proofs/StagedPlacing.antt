@@ -22,9 +22,9 @@ use Rattle.list_schedule.specs.Placing.{of_slots, last_cycle, IsReadyAt, IsFirst
 use Rattle.list_schedule.specs.declared.fault.PeriodFault.{PeriodFault}
 use Rattle.list_schedule.specs.declared.fault.PeriodFault.TheVariants.{Period, Memory}
 use Rattle.list_schedule.proofs.Placings as over
-use Rattle.overlap_plan.specs.Private.Lines.{LoadsBehind}
-use Rattle.overlap_plan.specs.Private.Staged.{IsStageProblem, IsSoundStaged, path_of, nodes_on, IsLate, EndsInStages}
-use Rattle.overlap_plan.specs.Private.Staged.{EndsBeforeLoads, MayInStage}
+use Rattle.overlap_plan.specs.Lines.{LoadsBehind}
+use Rattle.overlap_plan.specs.Staged.{IsStageProblem, IsSoundStaged, path_of, nodes_on, IsLate, EndsInStages}
+use Rattle.overlap_plan.specs.Staged.{EndsBeforeLoads, MayInStage}
 use Rattle.overlap_plan.specs.Private.Placing.{Loads, IsFirstOpen, Places, HasNoCycle, ArePlaced, IsFault}
 use Rattle.overlap_plan.specs.declared.placing.Placing.{Placing}
 use Rattle.overlap_plan.specs.declared.staged.Staged.{Staged}

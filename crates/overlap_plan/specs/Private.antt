@@ -1,4 +1,2 @@
-pub mod Lines
-pub mod Staged
 pub mod Placing
 pub mod Errors

@@ -16,3 +16,4 @@ pub use guard_fault::GuardFault;
 pub use passes::stage_plan;
 pub use plan::StagePlan;
 pub use plan_text::stage_text;
+pub use staged::Staged;

@@ -5,7 +5,7 @@ ghost use Rattle.plan_core.specs.ListSchedule.{AreDestinations};
 ghost use Rattle.plan_core.specs.Stages.{IsStageScheduleOver};
 ghost use Rattle.schedule_priority.specs.Order.{IsOrderOf};
 ghost use Rattle.list_schedule.specs.Placing.{of_slots};
-ghost use Rattle.overlap_plan.specs.Private.Staged.{path_of, nodes_on, IsSoundStaged};
+ghost use Rattle.overlap_plan.specs.Staged.{path_of, nodes_on, IsSoundStaged};
 ghost use Rattle.overlap_plan.specs.Private.Placing.{Loads, HasTable, IsFirstOpen, Places, HasNoCycle, ArePlaced, IsFault};
 ghost use Rattle.list_schedule.specs.declared.fault.PeriodFault.TheVariants.{Period, Memory};
 

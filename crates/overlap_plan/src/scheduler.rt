@@ -2,7 +2,7 @@
 
 ghost use Rattle.std.specs.Prelude.{IfOk, IfErr};
 ghost use Rattle.plan_core.specs.Stages.{IsStageScheduleOver};
-ghost use Rattle.overlap_plan.specs.Private.Staged.{IsSoundStaged, path_of, nodes_on};
+ghost use Rattle.overlap_plan.specs.Staged.{IsSoundStaged, path_of, nodes_on};
 ghost use Rattle.overlap_plan.specs.Private.Placing.{Loads, IsFault};
 
 use crate::placing::slots_of;

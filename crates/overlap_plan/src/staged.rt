@@ -5,8 +5,8 @@ ghost use Rattle.fix_word.specs.declared.operation.Op.TheVariants as op;
 ghost use Rattle.plan_core.specs.Heights.{latency_of};
 ghost use Rattle.schedule_priority.specs.Parts.{nodes_of};
 ghost use Rattle.list_schedule.specs.Placing.{slot_at, last_cycle};
-ghost use Rattle.overlap_plan.specs.Private.Lines.{op_at, IsOfLine, IsBehind, AreCells, address_of as address_in};
-ghost use Rattle.overlap_plan.specs.Private.Staged.{path_of, nodes_on, IsSoundStaged, IsLate, EndsInStages, EndsBeforeLoads};
+ghost use Rattle.overlap_plan.specs.Lines.{op_at, IsOfLine, IsBehind, AreCells, address_of as address_in};
+ghost use Rattle.overlap_plan.specs.Staged.{path_of, nodes_on, IsSoundStaged, IsLate, EndsInStages, EndsBeforeLoads};
 
 use fix_word::Op;
 use lists::List;
@@ -15,8 +15,10 @@ use schedule_priority::Problem;
 
 /// A graph whose nodes are bound to the units of a datapath, and over how many stages a sample is issued.
 #[derive(Clone, Copy)]
-pub(crate) struct Staged<'a> {
+pub struct Staged<'a> {
+    /// The nodes on their units, and the datapath.
     pub problem: Problem<'a>,
+    /// Over how many stages, 1 to 4.
     pub stages: u8,
 }
 
@@ -38,7 +40,7 @@ impl Staged<'_> {
     }
 
     /// The cycle at which the stages of a sample end.
-    fn length(&self) -> u16
+    pub fn length(&self) -> u16
         requires { IsSoundStaged self.now }
         ensures length { result ≡ self.now.stages * (path_of self.now).period }
         ensures most { result ≤ last_cycle }
@@ -47,7 +49,7 @@ impl Staged<'_> {
     }
 
     /// How many cycles node v takes on its unit.
-    pub(crate) fn latency(&self, v: usize) -> u16
+    pub fn latency(&self, v: usize) -> u16
         requires staged { IsSoundStaged self.now }
         requires node { v < length (nodes_on self.now).lowered.nodes }
         ensures latency { result ≡ latency_of (path_of self.now) (nodes_on self.now) v }
@@ -58,7 +60,7 @@ impl Staged<'_> {
     }
 
     /// The first cycle at which node v can be issued by its stage: an output ends in the last one.
-    pub(crate) fn earliest(&self, v: usize) -> u16
+    pub fn earliest(&self, v: usize) -> u16
         requires staged { IsSoundStaged self.now }
         requires node { v < length (nodes_on self.now).lowered.nodes }
         ensures late { (t : ℕ) → (result ≤ t) ↔ IsLate self.now.stages (path_of self.now) (nodes_on self.now) v t }
@@ -138,7 +140,7 @@ impl Staged<'_> {
 
     /// The cycle before which node v ends, by its stage and by the loads of what it stores, where these are the slots of
     /// the nodes that are placed.
-    pub(crate) fn end(&self, v: usize, slots: &List<Slot>) -> u16
+    pub fn end(&self, v: usize, slots: &List<Slot>) -> u16
         requires staged { IsSoundStaged self.now }
         requires node { v < length (nodes_on self.now).lowered.nodes }
         requires count { length slots.now ≡ length (nodes_on self.now).lowered.nodes }

@@ -7,6 +7,7 @@ pub mod GuardedRuns
 mod WorkedGuards
 pub mod Rounds
 pub mod AnyRules
+pub mod Placed
 pub mod StageFeasible
 pub mod StageFacts
 pub mod StagedSteps

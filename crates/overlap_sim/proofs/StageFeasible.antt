@@ -1,4 +1,5 @@
--- A plan of several stages by the rules is feasible.
+-- A plan of several stages whose nodes are placed one beside another is feasible, whatever else is asked of their
+-- cycles.
 use Rattle.std.proofs.Common.{◌≡◌, ℕ, ◌+◌, ◌-◌, ◌*◌, ◌%◌, ◌<◌, ◌≤◌, sym, ap, ◌∙◌, arith, ⊎_elim, inl}
 use Rattle.std.proofs.Common.{length, Option, Some, Contains, subst, pos}
 use Rattle.std.proofs.lemmas.Bool.{cases_order}
@@ -7,14 +8,14 @@ use Rattle.operations.specs.declared.units.PortRef.{PortRef}
 use Rattle.datapath.specs.declared.types.Datapath.{Datapath}
 use Rattle.signal_graph.specs.GraphRules.{IsGraph}
 use Rattle.signal_graph.specs.declared.graph.Graph.{Graph}
-use Rattle.fix_word.specs.declared.operation.Op.{Op}
 use Rattle.fix_word.specs.declared.operation.Op.TheVariants as op
 use Rattle.plan_core.specs.Hardware.{latency_on, gap_on}
 use Rattle.plan_core.specs.Operands.{Reads}
-use Rattle.plan_core.specs.Heights.{IsPlacedBefore}
+use Rattle.plan_core.specs.ListSchedule.{IsPlacedOver}
 use Rattle.plan_core.specs.Lowered.{own, load, store, IsNumber}
-use Rattle.plan_core.specs.Stages.{IsLoadOf, IsPlacedInStage, IsGapAround, written_around, read_around}
+use Rattle.plan_core.specs.Stages.{IsLoadOf, IsGapAround, IsSameAround, written_around, read_around}
 use Rattle.plan_core.specs.Arcs.{IsArcOver, IsCount}
+use Rattle.plan_core.specs.declared.schedule.Schedule.{Schedule}
 use Rattle.plan_core.specs.declared.schedule.Transfer.{Transfer}
 use Rattle.plan_core.specs.declared.plan.Plan.{Plan}
 use Rattle.plan_core.proofs.Readers.{reader_there}
@@ -25,24 +26,20 @@ use Rattle.plan_soundness.specs.Machine.{IsMachine}
 use Rattle.plan_soundness.specs.Memory.{LoadsFrom, store_of}
 use Rattle.plan_soundness.specs.Samples.{past}
 use Rattle.plan_soundness.specs.Overlap.{shift_of}
-use Rattle.plan_soundness.specs.Run.{RunsSolutionLate}
 use Rattle.plan_soundness.specs.Lifetimes.{IsLifetime}
 use Rattle.plan_soundness.specs.Units.{AreOnRightUnits}
 use Rattle.plan_soundness.specs.Feasible.{IsFeasibleOver, IsFeasiblePlanOver, IsFeasibleArc}
 use Rattle.plan_soundness.proofs.FromLowered.{sound_lowered, sound_lines, edges_held, load_of, loads_from, line_for}
-use Rattle.plan_soundness.proofs.FromLowered.{store_op, number_below}
+use Rattle.plan_soundness.proofs.FromLowered.{number_below}
 use Rattle.plan_soundness.proofs.FromRules.{gaps_of}
 use Rattle.plan_soundness.proofs.Origins.{own_once, store_number}
-use Rattle.plan_soundness.proofs.Units.{on_right_units}
 use Rattle.plan_soundness.proofs.Samples.{split, one_more}
 use Rattle.plan_soundness.proofs.SoundLowered.{IsSoundLowered, AreSoundLines}
-use Rattle.overlap_plan.specs.IsStagePlan.{IsStagePlan, plan_of}
+use Rattle.overlap_plan.specs.IsStagePlan.{plan_of}
+use Rattle.overlap_sim.specs.Placed.{IsPlacedStagePlan}
 use Rattle.overlap_plan.specs.declared.plan.StagePlan.{StagePlan}
-use Rattle.overlap_sim.specs.declared.guarded.Guarded.{Guarded}
-use Rattle.overlap_sim.specs.Guarded.{of_guarded}
-use Rattle.overlap_sim.specs.GuardedOf.{overlap_of, IsGuardedOf}
+use Rattle.overlap_sim.specs.GuardedOf.{overlap_of}
 use Rattle.overlap_sim.proofs.AnyRules as rules
-use Rattle.overlap_sim.proofs.GuardedRuns.{guarded_runs}
 use Rattle.overlap_sim.proofs.Rounds.{apart_on, apart_back}
 
 -- 1, 2 and 4 divide each other in order
@@ -58,14 +55,12 @@ some_count n h = omega (arith, h)
 same_own : (u v : ℕ) → Some (own u) ≡ Some (own v) → u ≡ v
 same_own u v e = cc
 
-load_no_store : (o : Op) → o ≡ op.Load → o ≡ op.Store → ⊥
-load_no_store o e f = absurd (cc)
-
 offsets_same : (a b : ℕ) → pos a ≡ pos b → a ≡ b
 offsets_same a b e = cc
 
-module _ (g : Graph) (d : Datapath) (stages : ℕ) (sp : StagePlan) (sound : IsGraph g) (machine : IsMachine d)
-    (some : 0 < stages) (plan : IsStagePlan g d stages sp) where
+module _ {Allows : Schedule → (height : ℕ → ℕ) → (v t : ℕ) → Type 0} (g : Graph) (d : Datapath) (stages : ℕ)
+    (sp : StagePlan) (sound : IsGraph g) (machine : IsMachine d) (some : 0 < stages)
+    (plan : IsPlacedStagePlan Allows g d stages sp) where
   abbrev p : Plan
   p = plan_of sp
 
@@ -73,7 +68,7 @@ module _ (g : Graph) (d : Datapath) (stages : ℕ) (sp : StagePlan) (sound : IsG
   gaps = gaps_of d machine.units
 
   on_units : AreOnRightUnits d p.assigned
-  on_units = on_right_units plan.assigned
+  on_units = plan.assigned
 
   lowered : IsSoundLowered d p
   lowered = sound_lowered g d p sound plan.lowered on_units
@@ -84,9 +79,6 @@ module _ (g : Graph) (d : Datapath) (stages : ℕ) (sp : StagePlan) (sound : IsG
   period : 0 < d.period
   period = omega (arith, machine.period.0)
 
-  abbrev height : ℕ → ℕ
-  height = plan.schedule.height
-
   -- Within a sample.
 
   ends_later : (v : ℕ) → cycle_at p v + latency_on d (unit_at p v) ≡ ends_at d p v + 1
@@ -94,7 +86,8 @@ module _ (g : Graph) (d : Datapath) (stages : ℕ) (sp : StagePlan) (sound : IsG
 
   placed : (v : ℕ)
       → v < length (nodes_of p)
-      → IsPlacedInStage stages (IsLoadOf plan.lowered.delays) d p.assigned p.schedule height v
+      → IsPlacedOver (IsGapAround d.period) (IsSameAround d.period) (stages * d.period) Allows d p.assigned p.schedule
+      plan.schedule.height v
   placed v in-v = plan.schedule.placed v in-v
 
   fits : (v : ℕ) → v < length (nodes_of p) → ends_at d p v < stages * d.period
@@ -125,7 +118,7 @@ module _ (g : Graph) (d : Datapath) (stages : ℕ) (sp : StagePlan) (sound : IsG
       -- its unit is free again a period later
       once : u ≡ v → s ≡ n
       once same =
-          let again : gap_on d (unit_at p u) ≤ d.period = (placed u in-u).can.allows.again in
+          let again : gap_on d (unit_at p u) ≤ d.period = plan.again u in-u in
           let cycle : cycle_at p u ≡ cycle_at p v = ap (cycle_at p) same in
           ⊎_elim
           (λ e. e)
@@ -281,21 +274,9 @@ module _ (g : Graph) (d : Datapath) (stages : ℕ) (sp : StagePlan) (sound : IsG
       } in
       let in-x : x < length (nodes_of p) =
       number_below g d p sound plan.lowered on_units (store for.v) x number in
-      let stored : (node_at p x).op ≡ op.Store = store_op g d p sound plan.lowered on_units for.v x number in
-      ⊎_elim
-      (λ (one : x ≡ v). absurd (load_no_store _ is (ap (λ v. (node_at p v).op) (sym one) ∙ stored)))
-      (λ other.
-      ⊎_elim
-      (λ (before : IsPlacedBefore height x v).
       let in-time : cycle_at p x + latency_on d (unit_at p x) ≤ cycle_at p v + ago * d.period =
-      (placed v in-v).can.allows.loads x ago loads (record { node = in-x; before = before }) in
-      omega (arith, in-time, ends_later x))
-      (λ (before : IsPlacedBefore height v x).
-      let in-time : cycle_at p x + latency_on d (unit_at p x) ≤ cycle_at p v + ago * d.period =
-      (placed x in-x).can.allows.stores v ago loads (record { node = in-v; before = before }) in
-      omega (arith, in-time, ends_later x))
-      other)
-      (rules.placed_order height x v)
+      (plan.in_stages x in-x).stores v ago loads in
+      omega (arith, in-time, ends_later x)
     where
       some_same : {A : Type 0} {o : Option A} {x y : A} → Some x ≡ o → o ≡ Some y → Some x ≡ Some y
       some_same e f = e ∙ f
@@ -315,8 +296,8 @@ module _ (g : Graph) (d : Datapath) (stages : ℕ) (sp : StagePlan) (sound : IsG
     units = rules.units d p lowered on_units plan.schedule plan.arcs;
     buses = rules.buses d p lowered on_units plan.schedule plan.arcs;
     fits = fits;
-    inputs = λ v in-v is. (placed v in-v).can.allows.input is;
-    outputs_last = λ v in-v is. let last = (placed v in-v).can.allows.output is in omega (arith, last, ends_later v);
+    inputs = λ v in-v is. (plan.in_stages v in-v).input is;
+    outputs_last = λ v in-v is. let last = (plan.in_stages v in-v).output is in omega (arith, last, ends_later v);
     unit_free = unit_free;
     bus_free = bus_free;
     transfer_once = rules.transfer_once d p lowered on_units plan.schedule plan.arcs;
@@ -332,7 +313,7 @@ module _ (g : Graph) (d : Datapath) (stages : ℕ) (sp : StagePlan) (sound : IsG
     load_in = load_in;
   }
 
-  -- the rules of overlapped samples give a feasible plan
+  -- it is feasible
   pub stage_feasible : IsFeasiblePlanOver (overlap_of stages) 0 stages g d (plan_of sp)
   stage_feasible = record {
     lowered = plan.lowered;
@@ -343,14 +324,3 @@ module _ (g : Graph) (d : Datapath) (stages : ℕ) (sp : StagePlan) (sound : IsG
     inputs = plan.inputs;
     outs = plan.outs;
   }
-
--- and its guarded image runs the solution of the graph, all but one of the stages late
-pub stage_runs : (g : Graph) (d : Datapath) (stages : ℕ) (sp : StagePlan) (guarded : Guarded)
-    → IsGraph g
-    → IsMachine d
-    → 0 < stages
-    → IsStagePlan g d stages sp
-    → IsGuardedOf stages d (plan_of sp) guarded
-    → RunsSolutionLate (stages - 1) g (of_guarded guarded)
-stage_runs g d stages sp guarded sound machine some plan is =
-    guarded_runs stages g d (plan_of sp) guarded sound (stage_feasible g d stages sp sound machine some plan) is

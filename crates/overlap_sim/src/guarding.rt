@@ -9,6 +9,7 @@ ghost use Rattle.plan_soundness.specs.Run.{RunsSolutionLate};
 ghost use Rattle.overlap_plan.specs.IsStagePlan.{IsStagePlan, plan_of};
 ghost use Rattle.overlap_sim.specs.Guarded.{of_guarded, unguarded};
 ghost use Rattle.overlap_sim.specs.GuardedOf.{IsGuardedOf};
+ghost use Rattle.overlap_sim.specs.Guardable.{IsFeasibleStagePlan, IsGuardable};
 ghost use Rattle.overlap_plan.specs.StagePlanned.{IsStagePlanned};
 ghost use Rattle.overlap_sim.specs.Private.Staged.{IsStageReady};
 
@@ -33,6 +34,28 @@ fn guarded_of(alloc: Global, plan: &StagePlan, datapath: &Datapath) -> Result<Gu
         buses: datapath.buses.len() as u8,
         words: words(alloc, plan, datapath)?,
     })
+}
+
+/// The guarded image of a feasible plan of several stages, whose units and cycles may have been chosen by any rule.
+///
+/// # Errors
+///
+/// `Memory` where no memory is left.
+pub fn guard_feasible(
+    alloc: Global,
+    plan: &StagePlan,
+    datapath: &Datapath,
+) -> Result<Guarded, GuardFault>
+    requires datapath { IsDatapath datapath.now }
+    requires plan { IsGuardable datapath.now plan.now }
+    ensures image { IfOk result (IsGuardedOf plan.now.stages datapath.now (plan_of plan.now)) }
+    // Without the stages it is an image that a machine takes.
+    ensures valid { IfOk result (λ guarded. IsValid (unguarded guarded)) }
+    // It runs the solution of each graph of which this is a feasible plan, all but one of the stages late.
+    ensures runs { (g : Graph) → IsGraph g → IsFeasibleStagePlan g datapath.now plan.now
+        → IfOk result (λ guarded. RunsSolutionLate (plan.now.stages - 1) g (of_guarded guarded)) }
+{
+    guarded_of(alloc, plan, datapath)
 }
 
 /// The guarded image of a plan of several stages: a guarded word for each cycle until the microprogram repeats, and the

@@ -15,6 +15,6 @@ mod takes;
 mod words;
 
 pub use guarded::{Guarded, GuardedWord, Staged};
-pub use guarding::guard;
+pub use guarding::{guard, guard_feasible};
 pub use machine::{GuardedMachine, Unguarded, unguard};
 pub use stream::run_guarded;

@@ -11,3 +11,4 @@ mod units;
 pub use fault::PlaceFault;
 pub use passes::plan_at;
 pub use place::Place;
+pub use units::is_right_unit;

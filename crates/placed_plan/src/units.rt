@@ -37,7 +37,7 @@ fn is_right(datapath: &Datapath, node: &Node, unit: u8) -> bool
 }
 
 /// Whether the unit is there and does the operation of the node.
-fn is_there_right(datapath: &Datapath, node: &Node, unit: u8) -> bool
+pub fn is_right_unit(datapath: &Datapath, node: &Node, unit: u8) -> bool
     ensures { IsTrue result ↔ IsRightUnit datapath.now node.now unit }
 {
     usize::from(unit) < datapath.units.len() && is_right(datapath, node, unit)
@@ -60,7 +60,7 @@ fn check_unit(
     if node.width > datapath.word {
         return Err(PlaceFault::TooWide(v as u32));
     }
-    if !is_there_right(datapath, node, places[v].unit) {
+    if !is_right_unit(datapath, node, places[v].unit) {
         return Err(PlaceFault::WrongUnit(v as u32));
     }
     Ok(())

@@ -9,8 +9,8 @@ use Rattle.bus_alloc.specs.Table.{Reservations}
 use Rattle.list_schedule.specs.Placing.{HasTableOf, IsFirstOpenOver, PlacesOver, HasNoCycleOver, ArePlacedOver}
 use Rattle.list_schedule.specs.declared.fault.PeriodFault.{PeriodFault}
 use Rattle.list_schedule.specs.declared.fault.PeriodFault.TheVariants.{Period, Memory}
-use Rattle.overlap_plan.specs.Private.Lines.{LoadsBehind}
-use Rattle.overlap_plan.specs.Private.Staged.{MayInStage, path_of, nodes_on}
+use Rattle.overlap_plan.specs.Lines.{LoadsBehind}
+use Rattle.overlap_plan.specs.Staged.{MayInStage, path_of, nodes_on}
 use Rattle.overlap_plan.specs.declared.placing.Placing.{Placing}
 use Rattle.overlap_plan.specs.declared.staged.Staged.{Staged}
 

@@ -3,7 +3,7 @@ use Rattle.plan_core.specs.Arcs.{IsUnroll}
 use Rattle.plan_core.specs.declared.registers.Arc.{Arc}
 use Rattle.plan_soundness.proofs.Units.{on_right_units}
 use Rattle.planner.proofs.Asked.{wired, held}
-use Rattle.overlap_plan.proofs.Asked.{stage_problem_of, read_now, schedule_of, allottable_of}
+use Rattle.overlap_plan.proofs.Asked.{stage_problem_of, read_now, over_stages, allottable_of}
 use Rattle.overlap_plan.proofs.Exits.{bound, at_lines, at_units, at_cycles, at_registers, at_end}
 use Rattle.overlap_plan.proofs.passes.stage_plan.Goals as goal
 
@@ -30,24 +30,16 @@ stage_arcs-requires-clause-now c =
 
 pub stage_arcs-requires-clause-schedule : goal.stage_arcs-requires-clause-schedule
 stage_arcs-requires-clause-schedule c =
-    record {
-      stages = c.args.stages;
-      few = c.requires.stages.1;
-      delays = c.in_ok-lowered.ensures.lowered.delays;
-      schedule = schedule_of c.args.graph.now c.args.datapath.now c.args.stages c.requires.datapath c.requires.sound
-          c.requires.stages.0 (bound c.in_ok-lowered.lowered c.in_ok-units.units) c.in_ok-lowered.ensures.lowered
-          (on_right_units c.in_ok-units.ensures.units) c.in_ok-schedule.schedule c.in_ok-schedule.ensures.schedule;
-    }
+    over_stages c.args.graph.now c.args.datapath.now c.args.stages c.requires.datapath c.requires.sound
+    (bound c.in_ok-lowered.lowered c.in_ok-units.units) c.in_ok-lowered.ensures.lowered c.in_ok-schedule.schedule
+    c.in_ok-schedule.ensures.schedule c.requires.stages.1
 
 pub allot-requires-clause-allottable : goal.allot-requires-clause-allottable
 allot-requires-clause-allottable c =
     allottable_of c.args.graph.now c.args.datapath.now c.args.stages c.requires.datapath c.requires.sound
-    (bound c.in_ok-lowered.lowered c.in_ok-units.units) c.in_ok-lowered.ensures.lowered
-    (on_right_units c.in_ok-units.ensures.units) c.in_ok-schedule.schedule
-    (schedule_of c.args.graph.now c.args.datapath.now c.args.stages c.requires.datapath c.requires.sound
-    c.requires.stages.0 (bound c.in_ok-lowered.lowered c.in_ok-units.units) c.in_ok-lowered.ensures.lowered
-    (on_right_units c.in_ok-units.ensures.units) c.in_ok-schedule.schedule c.in_ok-schedule.ensures.schedule)
-    c.in_ok-arcs.arcs c.in_ok-arcs.ensures
+    (bound c.in_ok-lowered.lowered c.in_ok-units.units) c.in_ok-lowered.ensures.lowered c.in_ok-schedule.schedule
+    c.in_ok-schedule.ensures.schedule (on_right_units c.in_ok-units.ensures.units) c.in_ok-arcs.arcs
+    c.in_ok-arcs.ensures
 
 pub returns-in_err-lowered-clause-fault : goal.returns-in_err-lowered-clause-fault
 returns-in_err-lowered-clause-fault c =

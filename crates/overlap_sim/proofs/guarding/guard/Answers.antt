@@ -6,18 +6,21 @@ use Rattle.overlap_plan.specs.IsStagePlan.{plan_of}
 use Rattle.overlap_sim.specs.declared.guarded.Guarded.{Guarded}
 use Rattle.overlap_sim.specs.Guarded.{of_guarded, unguarded}
 use Rattle.overlap_sim.specs.GuardedOf.{IsGuardedOf}
-use Rattle.overlap_sim.proofs.GuardSteps.{stage_ready, planned_valid, planned_runs}
+use Rattle.overlap_sim.proofs.GuardSteps.{planned_guardable, stage_ready, guardable_valid, planned_runs}
 use Rattle.overlap_sim.proofs.guarding.guard.Goals as goal
 
 pub guarded_of-requires : goal.guarded_of-requires
-guarded_of-requires c = stage_ready c.args.datapath.now c.args.plan.now c.requires.datapath c.requires.plan
+guarded_of-requires c =
+    stage_ready c.args.datapath.now c.args.plan.now c.requires.datapath
+    (planned_guardable c.args.datapath.now c.args.plan.now c.requires.datapath c.requires.plan)
 
 pub returns-clause-valid : goal.returns-clause-valid
 returns-clause-valid c =
     if_ok (IsGuardedOf c.args.plan.now.stages c.args.datapath.now (plan_of c.args.plan.now))
     (λ (guarded : Guarded). IsValid (unguarded guarded)) c.guarded_of.result c.guarded_of.ensures
     (λ guarded of.
-    planned_valid c.args.datapath.now c.args.plan.now guarded c.requires.datapath c.requires.plan of)
+    guardable_valid c.args.datapath.now c.args.plan.now guarded c.requires.datapath
+    (planned_guardable c.args.datapath.now c.args.plan.now c.requires.datapath c.requires.plan) of)
 
 pub returns-clause-runs : goal.returns-clause-runs
 returns-clause-runs c g sound plan =
@@ -25,4 +28,4 @@ returns-clause-runs c g sound plan =
     (λ (guarded : Guarded). RunsSolutionLate (c.args.plan.now.stages - 1) g (of_guarded guarded)) c.guarded_of.result
     c.guarded_of.ensures
     (λ guarded of.
-    planned_runs g c.args.datapath.now c.args.plan.now guarded c.requires.datapath c.requires.plan sound plan of)
+    planned_runs g c.args.datapath.now c.args.plan.now guarded c.requires.datapath c.requires.plan.some sound plan of)

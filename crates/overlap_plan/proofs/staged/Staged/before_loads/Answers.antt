@@ -1,7 +1,7 @@
 use Rattle.std.proofs.Common.{◌≡◌, rules, sym, subst, arith, ℕ, ◌<◌, ◌+◌, IsTrue}
 use Rattle.signal_graph.specs.declared.graph.Node.{Node}
-use Rattle.overlap_plan.specs.Private.Lines.{IsOfLine, IsBehind, op_at}
-use Rattle.overlap_plan.specs.Private.Staged.{IsEndUpTo}
+use Rattle.overlap_plan.specs.Lines.{IsOfLine, IsBehind, op_at}
+use Rattle.overlap_plan.specs.Staged.{IsEndUpTo}
 use Rattle.fix_word.specs.declared.operation.Op.TheVariants as op
 use Rattle.overlap_plan.proofs.BeforeLoads.{ends_at_other, ends_at_all, goes_on_after_address, goes_on_after_load}
 use Rattle.overlap_plan.proofs.staged.Staged.before_loads.Goals as goal

@@ -1,5 +1,5 @@
 use Rattle.std.proofs.Common.{ℕ, ◌≤◌, ◌<◌, ◌↔◌}
-use Rattle.overlap_plan.specs.Private.Staged.{IsEndUpTo}
+use Rattle.overlap_plan.specs.Staged.{IsEndUpTo}
 use Rattle.overlap_plan.proofs.staged.Staged.before_loads.Given as goal
 
 abbrev pub invariant-loop-x : goal.invariant-loop-x

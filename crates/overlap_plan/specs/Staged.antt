@@ -9,7 +9,7 @@ use Rattle.plan_core.specs.declared.schedule.Assigned.{Assigned}
 use Rattle.plan_core.specs.declared.schedule.Slot.{Slot}
 use Rattle.schedule_priority.specs.Problem.{IsProblem}
 use Rattle.list_schedule.specs.Placing.{slot_at}
-use Rattle.overlap_plan.specs.Private.Lines.{op_at, IsOfLine, IsBehind, AreCells, LoadsBehind}
+use Rattle.overlap_plan.specs.Lines.{op_at, IsOfLine, IsBehind, AreCells, LoadsBehind}
 use Rattle.overlap_plan.specs.declared.staged.Staged.{Staged}
 
 -- It can be scheduled, over 1 to 4 stages. A load behind a store is of its line, and is higher than it.
