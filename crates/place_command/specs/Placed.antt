@@ -22,9 +22,9 @@ use Rattle.plan_commands.specs.Plans.{IsPlannedOverBy}
 use Rattle.place_command.specs.declared.ending.PlaceEnding.{PlaceEnding}
 use Rattle.place_command.specs.declared.ending.PlaceEnding.TheVariants.{Told, Refused}
 
--- The program of the source has a plan over the datapath of the file, in which each node stands where a line of the
--- text says. The microcode spells the image of that plan in version 2 and nothing else, and that image runs the
--- program's one solution in the datapath's period.
+-- The program of the source has a plan over the datapath of the file, in which each node stands where its line of the
+-- text says, and the text has no other lines that begin with `node`. The microcode spells the image of that plan in
+-- version 2 and nothing else, and that image runs the program's one solution in the datapath's period.
 pub record IsPlaced (source datapath text microcode : List ℕ) : Type 0 where
   pub program : Program
   pub path : Datapath

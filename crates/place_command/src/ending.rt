@@ -8,10 +8,10 @@ use placed_plan::PlaceFault;
 use statuses::{Ending, Status};
 use thiserror::Error;
 
-/// The exit code where PLAN gives no plan.
+/// The exit code where PLAN gives no places, or nodes cannot stand at them.
 const REFUSED: u8 = 16;
 
-/// Why PLAN gives no plan.
+/// Why there is no plan with the places of PLAN.
 #[derive(Clone, Copy, Debug, PartialEq, Eq, Error)]
 pub enum Refusal {
     /// It has more than 1 MiB.
@@ -23,7 +23,7 @@ pub enum Refusal {
     /// The node of this line, from 1, cannot stand at its place.
     #[error("plan line {line}: {fault}")]
     Line { line: u32, fault: PlaceFault },
-    /// There is no plan, and no line is to blame.
+    /// The places have no plan, and no line gives the one that is meant.
     #[error("{0}")]
     Plan(PlaceFault),
 }
@@ -33,7 +33,7 @@ pub enum Refusal {
 pub enum PlaceEnding {
     /// As a command of `silc` ends that has the same files.
     Told(Ending),
-    /// SRC is a source and DP a datapath, and PLAN gives no plan of the one over the other.
+    /// SRC is a source and DP a datapath, and there is no plan of the one over the other with the places of PLAN.
     Refused(Refusal),
 }
 
@@ -65,10 +65,11 @@ fn node_of(fault: &PlaceFault) -> Option<u32> {
         PlaceFault::Surplus(node)
         | PlaceFault::TooWide(node)
         | PlaceFault::WrongUnit(node)
-        | PlaceFault::Late(node)
         | PlaceFault::Past(node)
         | PlaceFault::Busy(node)
-        | PlaceFault::Blocked(node)
+        | PlaceFault::Late { node, .. }
+        | PlaceFault::FileWritten { node, .. }
+        | PlaceFault::NoBus { node, .. }
         | PlaceFault::FileFull { node, .. } => Some(*node),
     }
 }

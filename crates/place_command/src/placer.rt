@@ -9,7 +9,7 @@ ghost use Rattle.signal_graph.specs.GraphSolves.{IsGraphLoopless};
 ghost use Rattle.microcode_asm.specs.Planned.{IsAssemblable};
 ghost use Rattle.placed_plan.specs.Places.{IsPlanAt};
 ghost use Rattle.silc_files.specs.Endings.{IsAmong, UsesOnly};
-ghost use Rattle.silc_files.specs.Reading.{OnlyReads};
+ghost use Rattle.silc_files.specs.Reading.{IsShort, OnlyReads};
 ghost use Rattle.plan_commands.specs.Compile.{HasTheSolution};
 ghost use Rattle.plan_commands.specs.Compiling.{IsMadeOf};
 ghost use Rattle.place_command.specs.Placed.{ArePlaced, HasThePlan, IsDone, IsError, IsUnmade};
@@ -41,6 +41,8 @@ pub(crate) struct Placed {
 
 /// The places that the input gives.
 fn given_in(alloc: Global, text: &Input, path: &Datapath) -> Result<Given, PlaceEnding>
+    requires path { IsDatapath path.now }
+    requires short { IsShort text.now }
     ensures gives { IfOk result (λ given. AreGivenIn text.now path.now given.places) }
     ensures err { IfErr result IsError }
 {
@@ -63,6 +65,7 @@ fn placed_over(
     requires sound { IsGraph graph }
     requires loopless { IsGraphLoopless graph }
     requires path { IsDatapath path }
+    requires short { IsShort text.now }
     ensures path { IfOk result (λ placed. placed.path ≡ path) }
     ensures plan { IfOk result (λ placed. IsPlanAt placed.places graph path placed.plan) }
     ensures gives { IfOk result (λ placed. AreGivenIn text.now placed.path placed.places) }
@@ -81,6 +84,7 @@ fn placed_over(
 
 /// The plan of the inputs with the places that the text gives.
 fn placed_of(alloc: Global, inputs: &Inputs, text: &Input) -> Result<Placed, PlaceEnding>
+    requires { IsShort text.now }
     ensures ok { IfOk result (IsInputPlacing inputs.now text.now) }
     ensures err { IfErr result IsError }
 {

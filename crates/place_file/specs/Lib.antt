@@ -1,1 +1,4 @@
+pub mod Lines
 pub mod Given
+pub mod Faults
+pub mod Private

@@ -1,110 +1,98 @@
 //! What a line says.
 
+ghost use Rattle.std.specs.Prelude.{◌≡◌, ◌^◌, ◌↔◌, ℕ, IsTrue, IfOk, IfErr, MatchOption};
+ghost use Rattle.datapath.specs.Allowed.{IsDatapath};
+ghost use Rattle.place_file.specs.Lines.{said_by};
+ghost use Rattle.place_file.specs.Given.{IsNumber, IsUnitNamed};
+ghost use Rattle.place_file.specs.Faults.{HasNode, IsBadLine};
+ghost use Rattle.place_file.specs.Private.Words.{said_of, IsSaidPlace, IsReadAs, IsUnread};
+
 use crate::fault::{GivenFault, LineCause};
-use crate::line::split_word;
+use crate::line::{Words, words_of};
+use crate::number::number;
 use datapath::Datapath;
 use placed_plan::Place;
 
-/// The place of a node, and the line that says it.
+/// The place of a node, and the line that says it, from 1.
 #[derive(Debug, Clone, Copy)]
 pub(crate) struct Entry {
     pub node: u32,
     pub place: Place,
-    /// From 1.
     pub line: u32,
-    /// Where the line begins in the text.
-    pub at: usize,
-}
-
-const RADIX: u32 = 10;
-
-/// The number that the word is in decimal.
-fn number(word: &[u8]) -> Option<u32> {
-    let (first, rest) = word.split_first()?;
-    if *first == b'0' && !rest.is_empty() {
-        return None;
-    }
-    let mut value: u32 = 0;
-    for byte in word {
-        let digit = byte.wrapping_sub(b'0');
-        if u32::from(digit) >= RADIX {
-            return None;
-        }
-        value = value.checked_mul(RADIX)?.checked_add(u32::from(digit))?;
-    }
-    Some(value)
 }
 
 /// The number of the unit of that name.
-fn unit_named(datapath: &Datapath, name: &[u8]) -> Option<u8> {
-    for (number, unit) in datapath.units.iter().enumerate() {
-        if unit.name.as_slice() == name {
-            return u8::try_from(number).ok();
+fn unit_named(datapath: &Datapath, name: &[u8]) -> Option<u8>
+    requires { IsDatapath datapath.now }
+    ensures { MatchOption result ((u : ℕ) → IsUnitNamed datapath.now name.now u → ⊥)
+        (IsUnitNamed datapath.now name.now) }
+{
+    for number in 0..datapath.units.len() {
+        if datapath.units[number].name.as_slice() == name {
+            return Some(number as u8);
         }
     }
     None
 }
 
+/// The number of a cycle.
+fn cycle_number(word: &[u8]) -> Option<u16>
+    ensures { MatchOption result ((n : ℕ) → IsNumber (2 ^ 16) word.now n → ⊥) (IsNumber (2 ^ 16) word.now) }
+{
+    u16::try_from(number(word)?).ok()
+}
+
 /// Whether these are the same bytes.
-fn is_word(word: &[u8], expected: &[u8]) -> bool {
+fn is_word(word: &[u8], expected: &[u8]) -> bool
+    ensures { IsTrue result ↔ (word.now ≡ expected.now) }
+{
     word == expected
 }
 
-/// A number behind a label, and the rest of the line.
-fn labelled<'a>(line: &'a [u8], label: &[u8]) -> Result<(u32, &'a [u8]), LineCause> {
-    let (word, rest) = split_word(line);
-    if !is_word(word, label) {
+/// The place that the words behind a node's number say.
+fn place_of(words: &Words, datapath: &Datapath) -> Result<Place, LineCause>
+    requires datapath { IsDatapath datapath.now }
+    requires node { HasNode (said_of words.now) }
+    ensures place { IfOk result (IsSaidPlace datapath.now (said_of words.now)) }
+    ensures cause { IfErr result (IsBadLine datapath.now (said_of words.now)) }
+{
+    if !is_word(words.cycle_label, b"cycle") {
         return Err(LineCause::Form);
     }
-    let (word, rest) = split_word(rest);
-    match number(word) {
-        Some(value) => Ok((value, rest)),
-        None => Err(LineCause::Number),
-    }
-}
-
-/// The place behind the number of a node.
-fn place_behind(line: &[u8], datapath: &Datapath) -> Result<Place, LineCause> {
-    let (cycle, rest) = labelled(line, b"cycle")?;
-    let Ok(cycle) = u16::try_from(cycle) else {
+    let Some(cycle) = cycle_number(words.cycle) else {
         return Err(LineCause::Number);
     };
-    let (word, rest) = split_word(rest);
-    if !is_word(word, b"unit") {
+    if !is_word(words.unit_label, b"unit") {
         return Err(LineCause::Form);
     }
-    match unit_named(datapath, split_word(rest).0) {
+    match unit_named(datapath, words.unit) {
         Some(unit) => Ok(Place { unit, cycle }),
         None => Err(LineCause::Unit),
     }
 }
 
-/// The node of a line that begins with `node`, and its place.
-fn placing(line: &[u8], datapath: &Datapath) -> Result<(u32, Place), LineCause> {
-    let (node, rest) = labelled(line, b"node")?;
-    Ok((node, place_behind(rest, datapath)?))
-}
-
-/// What a line says, if it begins with `node`. It has this number, and begins here in the text.
+/// What a line says, if it begins with `node`. It has this number.
 pub(crate) fn entry_of(
-    line: &[u8],
+    bytes: &[u8],
     datapath: &Datapath,
-    number: u32,
-    at: usize,
-) -> Result<Option<Entry>, GivenFault> {
-    if !is_word(split_word(line).0, b"node") {
+    line: u32,
+) -> Result<Option<Entry>, GivenFault>
+    requires datapath { IsDatapath datapath.now }
+    ensures entry { IfOk result (IsReadAs datapath.now (said_by bytes.now) line) }
+    ensures fault { IfErr result (IsUnread datapath.now (said_by bytes.now) line) }
+{
+    let words = words_of(bytes);
+    if !is_word(words.head, b"node") {
         return Ok(None);
     }
-    match placing(line, datapath) {
-        Ok((node, place)) => Ok(Some(Entry {
-            node,
-            place,
-            line: number,
-            at,
-        })),
-        Err(cause) => Err(GivenFault::Line {
-            line: number,
-            cause,
-        }),
+    let Some(node) = number(words.node) else {
+        return Err(GivenFault::Line {
+            line,
+            cause: LineCause::Number,
+        });
+    };
+    match place_of(&words, datapath) {
+        Ok(place) => Ok(Some(Entry { node, place, line })),
+        Err(cause) => Err(GivenFault::Line { line, cause }),
     }
 }

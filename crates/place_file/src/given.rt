@@ -1,18 +1,22 @@
 //! The places that a text gives.
-//!
-//! Lines are read without a contract. What they say is then written as it has to stand there, and compared.
 
-ghost use Rattle.std.specs.Prelude.{◌≡◌, ◌<◌, ◌++◌, length, IfOk, OnOk};
-ghost use Rattle.place_file.specs.Given.{HasLine, GivesPlaces, placing_words};
+ghost use Rattle.std.specs.Prelude.{◌≡◌, ◌<◌, ◌⊎◌, ◌^◌, length, IfOk, IfErr, Ok, Err};
+ghost use Rattle.datapath.specs.Allowed.{IsDatapath};
+ghost use Rattle.place_file.specs.Lines.{lines_of};
+ghost use Rattle.place_file.specs.Given.{IsGivenBy};
+ghost use Rattle.place_file.specs.Faults.{IsGivenFault};
+ghost use Rattle.place_file.specs.Private.Entries.{AreEntries, AreKeys, AreGiven, IsFirstBad, IsMiscounted};
+ghost use Rattle.place_file.specs.declared.given.Given as of_given;
+ghost use Rattle.place_file.specs.declared.fault.GivenFault as of_fault;
+ghost use Rattle.place_file.specs.declared.fault.GivenFault.TheVariants.{Memory};
 
 use crate::entry::{Entry, entry_of};
 use crate::fault::{GivenFault, LineCause};
-use crate::line::{first_line, is_line_at, is_line_start};
+use crate::line::{LINE_FEED, split_part};
 use datapath::Datapath;
-use lists::{Bytes, List};
-use microcode_asm::put_number;
+use lists::List;
 use placed_plan::Place;
-use std::alloc::{AllocError, Global};
+use std::alloc::Global;
 
 /// The places of nodes, and the line that gives each, from 1.
 #[derive(Drop)]
@@ -21,111 +25,89 @@ pub struct Given {
     pub lines: List<u32>,
 }
 
-/// What stands for a node of which no line was seen.
-const NO_ENTRY: usize = usize::MAX;
+/// There are fewer entries.
+const KEY_LIMIT: u64 = 1 << 32;
 
-/// What the lines say.
-fn entries_of(alloc: Global, text: &[u8], datapath: &Datapath) -> Result<List<Entry>, GivenFault> {
+/// What the lines say, in their order.
+fn entries_of(alloc: Global, text: &[u8], datapath: &Datapath) -> Result<List<Entry>, GivenFault>
+    requires datapath { IsDatapath datapath.now }
+    requires short { length text.now < 2 ^ 31 }
+    ensures entries { IfOk result (AreEntries datapath.now text.now (length (lines_of text.now))) }
+    ensures fault { IfErr result (λ fault. (fault ≡ Memory) ⊎ IsFirstBad datapath.now text.now fault) }
+{
     let mut entries = List::new(alloc);
+    let mut left = Some(text);
     let mut line: u32 = 0;
-    for at in 0..text.len() {
-        if is_line_start(text, at) {
-            line = line.saturating_add(1);
-            if let Some(entry) = entry_of(first_line(text.split_at(at).1), datapath, line, at)? {
-                entries.push(entry)?;
-            }
+    while let Some(rest) = left {
+        let (bytes, behind) = split_part(rest, LINE_FEED);
+        line += 1;
+        if let Some(entry) = entry_of(bytes, datapath, line)? {
+            entries.push(entry)?;
         }
+        left = behind;
     }
     Ok(entries)
 }
 
-/// For each node below the number of entries the number of its entry, if it has one.
-fn index_of_nodes(alloc: Global, entries: &List<Entry>) -> Result<List<usize>, GivenFault> {
-    let count = entries.len();
-    let mut index = List::with_capacity(alloc, count)?;
-    for _ in 0..count {
-        index.push(NO_ENTRY)?;
+/// The keys of the entries in order: of each its node, and then its place among the entries.
+fn keys_of(alloc: Global, entries: &List<Entry>) -> Result<Vec<u64>, GivenFault>
+    requires { length entries.now < 2 ^ 32 }
+    ensures keys { IfOk result (λ keys. AreKeys entries.now keys.items) }
+    ensures fault { IfErr result (λ fault. fault ≡ Memory) }
+{
+    let mut keys = Vec::with_capacity(alloc, entries.len())?;
+    for k in 0..entries.len() {
+        keys.push(u64::from(entries[k].node) * KEY_LIMIT + k as u64)?;
     }
-    for (k, entry) in entries.as_slice().iter().enumerate() {
-        let node = entry.node as usize;
-        if node < index.len() && index.replace(node, k) != NO_ENTRY {
+    keys.sort_unstable();
+    Ok(keys)
+}
+
+/// The places of the nodes from 0 on, of which each has one entry. The keys are those of the entries in order.
+fn given_of(alloc: Global, entries: &List<Entry>, keys: &[u64]) -> Result<Given, GivenFault>
+    requires keys { AreKeys entries.now keys.now }
+    ensures given { IfOk result (AreGiven entries.now keys.now) }
+    ensures fault { IfErr result (λ fault. (fault ≡ Memory) ⊎ IsMiscounted entries.now keys.now fault) }
+{
+    let mut places = List::with_capacity(alloc, keys.len())?;
+    let mut lines = List::with_capacity(alloc, keys.len())?;
+    for v in 0..keys.len() {
+        let entry = entries[(keys[v] % KEY_LIMIT) as usize];
+        if (entry.node as usize) < v {
             return Err(GivenFault::Line {
                 line: entry.line,
                 cause: LineCause::Twice,
             });
         }
+        if entry.node as usize > v {
+            return Err(GivenFault::Missing(v as u32));
+        }
+        places.push(entry.place)?;
+        lines.push(entry.line)?;
     }
-    Ok(index)
-}
-
-/// Adds the words that say where node v is to stand.
-fn put_placing(
-    out: &mut Bytes,
-    datapath: &Datapath,
-    v: usize,
-    place: Place,
-) -> Result<(), AllocError>
-    requires { place.unit < length datapath.now.units }
-    ensures { OnOk result (out.new ≡ out.old ++ placing_words datapath.now v place) }
-{
-    put_number(out, b"node ", v as u64)?;
-    put_number(out, b" cycle ", u64::from(place.cycle))?;
-    out.extend_from_slice(b" unit ")?;
-    out.extend_from_slice(datapath.units[usize::from(place.unit)].name.as_slice())
-}
-
-/// Refuses an entry whose line does not say that node v is to stand there.
-fn check_entry(
-    alloc: Global,
-    text: &[u8],
-    datapath: &Datapath,
-    v: usize,
-    entry: Entry,
-) -> Result<(), GivenFault>
-    ensures { OnOk result (HasLine text.now (placing_words datapath.now v entry.place)) }
-{
-    let refused = GivenFault::Line {
-        line: entry.line,
-        cause: LineCause::Form,
-    };
-    if usize::from(entry.place.unit) >= datapath.units.len() {
-        return Err(refused);
-    }
-    let mut words = List::new(alloc);
-    put_placing(&mut words, datapath, v, entry.place)?;
-    if !is_line_at(text, words.as_slice(), entry.at) {
-        return Err(refused);
-    }
-    Ok(())
-}
-
-/// The entry of node v.
-fn entry_for(entries: &List<Entry>, index: &List<usize>, v: usize) -> Result<Entry, GivenFault> {
-    let k = index.get(v).copied().unwrap_or(NO_ENTRY);
-    match entries.get(k) {
-        Some(entry) => Ok(*entry),
-        None => Err(GivenFault::Missing(u32::try_from(v).unwrap_or(u32::MAX))),
-    }
+    Ok(Given { places, lines })
 }
 
 /// The places that the lines of a text give to the nodes from 0 on. Lines that do not begin with `node` give none.
 ///
 /// # Errors
 ///
-/// `Line` at a line that begins with `node` and is no line as `node 3 cycle 5 unit alu`, or that gives a place to a node
-/// that has one. `Missing` where a node has no place, and one behind it has. `Memory` where no memory is left.
+/// `Line` at the first line that begins with `node` and is no line as `node 3 cycle 5 unit alu`. Else the first node, by
+/// number, that has not one line: `Missing` where it has none, and one behind it has; `Line` with `Twice` at the second of
+/// its lines where it has more. `Memory` where no memory is left.
 pub fn places_in(alloc: Global, text: &[u8], datapath: &Datapath) -> Result<Given, GivenFault>
-    ensures { IfOk result (λ given. GivesPlaces datapath.now text.now given.places) }
+    requires datapath { IsDatapath datapath.now }
+    requires short { length text.now < 2 ^ 31 }
+    ensures given { IfOk result (IsGivenBy datapath.now text.now) }
+    ensures fault { IfErr result (λ fault. (fault ≡ Memory) ⊎ IsGivenFault datapath.now text.now fault) }
+    // The places are always found, unless memory runs out.
+    ensures found { (given : of_given.Given) → IsGivenBy datapath.now text.now given
+        → (result ≡ Ok given) ⊎ (result ≡ Err Memory) }
+    // So is the first fault.
+    ensures refused { (fault : of_fault.GivenFault) → IsGivenFault datapath.now text.now fault
+        → (result ≡ Err fault) ⊎ (result ≡ Err Memory) }
 {
     let entries = entries_of(alloc, text, datapath)?;
-    let index = index_of_nodes(alloc, &entries)?;
-    let mut places = List::with_capacity(alloc, entries.len())?;
-    let mut lines = List::with_capacity(alloc, entries.len())?;
-    for v in 0..entries.len() {
-        let entry = entry_for(&entries, &index, v)?;
-        check_entry(alloc, text, datapath, v, entry)?;
-        places.push(entry.place)?;
-        lines.push(entry.line)?;
-    }
-    Ok(Given { places, lines })
+    let keys = keys_of(alloc, &entries)?;
+    given_of(alloc, &entries, keys.as_slice())
 }

@@ -6,6 +6,7 @@ mod entry;
 mod fault;
 mod given;
 mod line;
+mod number;
 
 pub use fault::{GivenFault, LineCause};
 pub use given::{Given, places_in};

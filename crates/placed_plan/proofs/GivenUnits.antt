@@ -15,8 +15,8 @@ use Rattle.placed_plan.specs.Private.Units.{AreFirstUnits, IsUnfit, IsMisplaced}
 use Rattle.placed_plan.specs.declared.place.Place.{Place}
 use Rattle.placed_plan.specs.declared.fault.PlaceFault.{PlaceFault}
 use Rattle.placed_plan.specs.declared.fault.PlaceFault.TheVariants.{Line as Unstored, Missing, Surplus, TooWide}
-use Rattle.placed_plan.specs.declared.fault.PlaceFault.TheVariants.{WrongUnit, Late, Past, Busy, Blocked, FileFull}
-use Rattle.placed_plan.specs.declared.fault.PlaceFault.TheVariants.{Memory}
+use Rattle.placed_plan.specs.declared.fault.PlaceFault.TheVariants.{WrongUnit, Late, Past, Busy, FileWritten}
+use Rattle.placed_plan.specs.declared.fault.PlaceFault.TheVariants.{NoBus, FileFull, Memory}
 
 module _ (places : List Place) (d : Datapath) where
   module _ (l : Lowered) where
@@ -65,10 +65,11 @@ module _ (places : List Place) (d : Datapath) where
           by (Unstored f) is = absurd is
           by (Missing node) is = absurd is
           by (Surplus node) is = absurd is
-          by (Late node) is = absurd is
+          by (Late node x from) is = absurd is
           by (Past node) is = absurd is
           by (Busy node) is = absurd is
-          by (Blocked node) is = absurd is
+          by (FileWritten unit port node) is = absurd is
+          by (NoBus unit port node) is = absurd is
           by (FileFull unit port node) is = absurd is
           by Memory is = absurd is
 

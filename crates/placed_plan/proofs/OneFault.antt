@@ -1,5 +1,5 @@
 -- Places come to one plan or to one fault, and not both.
-use Rattle.std.proofs.Common.{◌≡◌, ◌⊎◌, ◌∙◌, inl, inr, ⊎_elim, refl, sym, ap, subst, arith, ℕ, ◌+◌, ◌<◌, ◌≤◌, List, []}
+use Rattle.std.proofs.Common.{◌≡◌, ◌⊎◌, ◌∙◌, inl, inr, ⊎_elim, refl, sym, ap, subst, arith, ℕ, ◌<◌, ◌≤◌, List, []}
 use Rattle.std.proofs.Common.{length, ext_get_or}
 use Rattle.operations.specs.declared.units.PortRef.{PortRef}
 use Rattle.datapath.specs.Allowed.{IsDatapath}
@@ -11,10 +11,8 @@ use Rattle.signal_graph.specs.declared.graph.Node.{Node}
 use Rattle.plan_core.specs.Hardware.{port_of, latency_on}
 use Rattle.plan_core.specs.Operands.{node_of, Reads}
 use Rattle.plan_core.specs.Lowered.{IsLowered}
-use Rattle.plan_core.specs.Assigned.{unit_in}
-use Rattle.plan_core.specs.Heights.{latency_of}
-use Rattle.plan_core.specs.Reservations.{IsGapApart, IsOneCycle, IsUnitFree}
-use Rattle.plan_core.specs.ListSchedule.{slot_of, IsEarlier, IsTakenBefore, AreOperandsThere, CanIssueOver}
+use Rattle.plan_core.specs.Reservations.{IsGapApart, IsOneCycle}
+use Rattle.plan_core.specs.ListSchedule.{slot_of, IsEarlier}
 use Rattle.plan_core.specs.Arcs.{IsArcs, IsUnroll}
 use Rattle.plan_core.specs.FirstFit.{IsFirstFit}
 use Rattle.plan_core.specs.Refusals.{NeedsLine, IsWithoutCycleOver, IsWithoutRegister}
@@ -22,7 +20,6 @@ use Rattle.plan_core.specs.declared.delay_lines.Line.{Line}
 use Rattle.plan_core.specs.declared.delay_lines.Lowered.{Lowered}
 use Rattle.plan_core.specs.declared.schedule.Assigned.{Assigned}
 use Rattle.plan_core.specs.declared.schedule.Schedule.{Schedule}
-use Rattle.plan_core.specs.declared.schedule.Slot.{Slot}
 use Rattle.plan_core.specs.declared.registers.Arc.{Arc}
 use Rattle.plan_core.specs.declared.plan.Plan.{Plan}
 use Rattle.plan_core.proofs.Agreeing.{earlier_trans, earlier_same, operand_earlier, one_slot_over}
@@ -45,17 +42,20 @@ use Rattle.reg_alloc.proofs.OneAnswer.{allotted_or_not, one_fault as one_file_fa
 use Rattle.planner.proofs.Asked.{schedulable, allottable}
 use Rattle.planner.proofs.OnePlan.{plan_from}
 use Rattle.placed_plan.specs.Places.{place_of, CanBeOn, AreOnGivenUnits, AtPlace, IsScheduleAt, IsPlanAt}
-use Rattle.placed_plan.specs.Causes.{IsTooWide, IsOnWrongUnit, IsLate, IsPast, IsBusy, IsBlocked}
+use Rattle.placed_plan.specs.Causes.{IsTooWide, IsOnWrongUnit}
 use Rattle.placed_plan.specs.Faults.{IsFirstMisplaced, IsFirstUnplaced, HasMisplacedNode}
 use Rattle.placed_plan.specs.Faults.{HasUnplacedNode, HasUnkeptNode, IsPlaceFault}
 use Rattle.placed_plan.specs.Private.Errors.{of_file}
 use Rattle.placed_plan.specs.declared.place.Place.{Place}
 use Rattle.placed_plan.specs.declared.fault.PlaceFault.{PlaceFault}
 use Rattle.placed_plan.specs.declared.fault.PlaceFault.TheVariants.{Line as Unstored, Missing, Surplus, TooWide}
-use Rattle.placed_plan.specs.declared.fault.PlaceFault.TheVariants.{WrongUnit, Late, Past, Busy, Blocked, FileFull}
-use Rattle.placed_plan.specs.declared.fault.PlaceFault.TheVariants.{Memory}
+use Rattle.placed_plan.specs.declared.fault.PlaceFault.TheVariants.{WrongUnit, Late, Past, Busy, FileWritten}
+use Rattle.placed_plan.specs.declared.fault.PlaceFault.TheVariants.{NoBus, FileFull, Memory}
 use Rattle.placed_plan.proofs.Placings.{at_alike}
 use Rattle.placed_plan.proofs.GivenUnits.{on_right}
+use Rattle.placed_plan.proofs.OneCause.{Stop, late, past, busy, written, busless, fault_at, IsStopCause, cause_not}
+use Rattle.placed_plan.proofs.OneCause.{cause_moves}
+use Rattle.placed_plan.proofs.OneCause.{one_cause}
 
 -- There is one at most, and where there is one there is no fault.
 module _ (g : Graph) (d : Datapath) (places : List Place) (allowed : IsDatapath d) (sound : IsGraph g)
@@ -90,50 +90,30 @@ module _ (g : Graph) (d : Datapath) (places : List Place) (allowed : IsDatapath 
     allottable_at s arcs scheduled are =
         allottable g d sound a low allowed (on_right places d a on) s scheduled arcs are
 
-    abbrev Can : Schedule → (height : ℕ → ℕ) → (v t : ℕ) → Type 0
-    Can s height v t = CanIssueOver IsGapApart IsOneCycle d.period (AtPlace places) d a s height v t
-
     -- a node that cannot stand at its place has no cycle
-    without : (Cause : Datapath → Assigned → Schedule → (height : ℕ → ℕ) → (v t : ℕ) → Type 0)
-        → ((s : Schedule) (height : ℕ → ℕ) (v t : ℕ) → Can s height v t → Cause d a s height v t → ⊥)
-        → (v : ℕ)
-        → IsFirstUnplaced places d a Cause v
+    without : (stop : Stop) (v : ℕ)
+        → IsFirstUnplaced places d a (IsStopCause stop) v
         → IsWithoutCycleOver IsGapApart IsOneCycle d.period (AtPlace places) d a v
-    without Cause cannot v x = record {
+    without stop v x = record {
       height = x.height;
       heights = x.heights;
       there = x.there;
       schedule = x.schedule;
       before = x.before;
       none = λ t can.
-          cannot x.schedule x.height v t can
-          (subst (λ (c : ℕ). Cause d a x.schedule x.height v c) (sym can.allows) x.cause);
+          cause_not d a x.schedule x.height v t (AtPlace places) can stop
+          (subst (λ (c : ℕ). IsStopCause stop d a x.schedule x.height v c) (sym can.allows) x.cause);
     }
 
     -- so there is no schedule
-    refuted : (Cause : Datapath → Assigned → Schedule → (height : ℕ → ℕ) → (v t : ℕ) → Type 0)
-        → ((s : Schedule) (height : ℕ → ℕ) (v t : ℕ) → Can s height v t → Cause d a s height v t → ⊥)
-        → (v : ℕ)
-        → IsFirstUnplaced places d a Cause v
+    refuted : (stop : Stop) (v : ℕ)
+        → IsFirstUnplaced places d a (IsStopCause stop) v
         → (s : Schedule)
         → IsScheduleAt places d a s
         → ⊥
-    refuted Cause cannot v x s scheduled =
+    refuted stop v x s scheduled =
         scheduled_not IsGapApart IsOneCycle d.period (AtPlace places) d a problem (at_alike places d a) s scheduled v
-        (without Cause cannot v x)
-
-    late_not : (s : Schedule) (height : ℕ → ℕ) (v t : ℕ) → Can s height v t → IsLate d a s height v t → ⊥
-    late_not s height v t can late = late can.operands
-
-    past_not : (s : Schedule) (height : ℕ → ℕ) (v t : ℕ) → Can s height v t → IsPast d a s height v t → ⊥
-    past_not s height v t can cause = absurd (omega (arith, can.fits.period, cause.past))
-
-    busy_not : (s : Schedule) (height : ℕ → ℕ) (v t : ℕ) → Can s height v t → IsBusy d a s height v t → ⊥
-    busy_not s height v t can cause = cause.busy can.fits.unit
-
-    blocked_not : (s : Schedule) (height : ℕ → ℕ) (v t : ℕ) → Can s height v t → IsBlocked d a s height v t → ⊥
-    blocked_not s height v t can cause =
-        cause.blocked (λ port to. record { file = can.fits.files port to; bus = can.fits.buses port to })
+        (without stop v x)
 
   -- the lifetimes of nodes at their places, however they are told
   module _ (b : Assigned) (low : IsLowered g d b.lowered) (on : AreOnGivenUnits places d b) (z : Schedule)
@@ -162,18 +142,12 @@ module _ (g : Graph) (d : Datapath) (places : List Place) (allowed : IsDatapath 
         cannot (node_of p.assigned.lowered.nodes v) (place_of places v).unit (is.units.can v x.there) x.cause
 
     -- each node can be issued in its cycle
-    cycle_refuted : (Cause : Datapath → Assigned → Schedule → (height : ℕ → ℕ) → (v t : ℕ) → Type 0)
-        → ((s : Schedule) (height : ℕ → ℕ) (v t : ℕ)
-        → Can p.assigned is.placed.lowered is.units s height v t
-        → Cause d p.assigned s height v t
-        → ⊥)
-        → (v : ℕ)
-        → HasUnplacedNode g d places Cause v
-        → ⊥
-    cycle_refuted Cause cannot v h =
+    cycle_refuted : (stop : Stop) (v : ℕ) → HasUnplacedNode g d places (IsStopCause stop) v → ⊥
+    cycle_refuted stop v h =
         let same = same_assigned p.assigned is.placed.lowered is.units h.assigned h.is_lowered h.units in
-        refuted p.assigned is.placed.lowered is.units Cause cannot v
-        (subst (λ (a : Assigned). IsFirstUnplaced places d a Cause v) same h.unplaced) p.schedule is.placed.schedule
+        refuted p.assigned is.placed.lowered is.units stop v
+        (subst (λ (a : Assigned). IsFirstUnplaced places d a (IsStopCause stop) v) same h.unplaced) p.schedule
+        is.placed.schedule
 
     pub plan_or_not : (fault : PlaceFault) → IsPlaceFault g d places fault → ⊥
     plan_or_not (Unstored f) h = lowered_or_not d.hold 1 g d p.assigned.lowered is.placed.lowered f h
@@ -186,10 +160,11 @@ module _ (g : Graph) (d : Datapath) (places : List Place) (allowed : IsDatapath 
     plan_or_not (TooWide v) h =
         unit_refuted IsTooWide (λ node u can wide. absurd (omega (arith, can.width, wide))) v h
     plan_or_not (WrongUnit v) h = unit_refuted IsOnWrongUnit (λ node u can cause. cause.wrong can.right) v h
-    plan_or_not (Late v) h = cycle_refuted IsLate (late_not p.assigned is.placed.lowered is.units) v h
-    plan_or_not (Past v) h = cycle_refuted IsPast (past_not p.assigned is.placed.lowered is.units) v h
-    plan_or_not (Busy v) h = cycle_refuted IsBusy (busy_not p.assigned is.placed.lowered is.units) v h
-    plan_or_not (Blocked v) h = cycle_refuted IsBlocked (blocked_not p.assigned is.placed.lowered is.units) v h
+    plan_or_not (Late v x from) h = cycle_refuted (late x from) v h
+    plan_or_not (Past v) h = cycle_refuted past v h
+    plan_or_not (Busy v) h = cycle_refuted busy v h
+    plan_or_not (FileWritten unit port v) h = cycle_refuted (written unit port) v h
+    plan_or_not (NoBus unit port v) h = cycle_refuted (busless unit port) v h
     plan_or_not (FileFull unit port v) h =
         let same = same_assigned p.assigned is.placed.lowered is.units h.assigned h.is_lowered h.units in
         let arcs = same_arcs p.assigned is.placed.lowered is.units p.schedule is.placed.schedule p.arcs is.placed.arcs
@@ -265,21 +240,14 @@ module _ (g : Graph) (d : Datapath) (places : List Place) (allowed : IsDatapath 
     cause : (IsFirstMisplaced places d lowered IsTooWide v × (f ≡ TooWide v))
         ⊎ (IsFirstMisplaced places d lowered IsOnWrongUnit v × (f ≡ WrongUnit v))
 
-  module _ (a : Assigned) where
-    -- the first node that cannot be issued in its cycle, and its fault
-    abbrev IsStop : (v : ℕ) → PlaceFault → Type 0
-    IsStop v f =
-        (IsFirstUnplaced places d a IsLate v × (f ≡ Late v))
-        ⊎ ((IsFirstUnplaced places d a IsPast v × (f ≡ Past v))
-        ⊎ ((IsFirstUnplaced places d a IsBusy v × (f ≡ Busy v))
-        ⊎ (IsFirstUnplaced places d a IsBlocked v × (f ≡ Blocked v))))
-
   record IsOfCycles (f : PlaceFault) : Type 0 where
     assigned : Assigned
     is_lowered : IsLowered g d assigned.lowered
     units : AreOnGivenUnits places d assigned
     v : ℕ
-    cause : IsStop assigned v f
+    stop : Stop
+    unplaced : IsFirstUnplaced places d assigned (IsStopCause stop) v
+    is : f ≡ fault_at v stop
 
   record IsOfFiles (f : PlaceFault) : Type 0 where
     unit : ℕ
@@ -296,6 +264,17 @@ module _ (g : Graph) (d : Datapath) (places : List Place) (allowed : IsDatapath 
 
   abbrev AfterLines : PlaceFault → Type 0
   AfterLines f = IsOfCount f ⊎ AfterCount f
+
+  stopped : (v : ℕ) (stop : Stop) → HasUnplacedNode g d places (IsStopCause stop) v → IsOfCycles (fault_at v stop)
+  stopped v stop h = record {
+    assigned = h.assigned;
+    is_lowered = h.is_lowered;
+    units = h.units;
+    v = v;
+    stop = stop;
+    unplaced = h.unplaced;
+    is = refl;
+  }
 
   by_check : (f : PlaceFault) → IsPlaceFault g d places f → IsOfLines f ⊎ AfterLines f
   by_check (Unstored e) h = inl (e, refl, h)
@@ -319,38 +298,11 @@ module _ (g : Graph) (d : Datapath) (places : List Place) (allowed : IsDatapath 
         v = v;
         cause = inr (h.misplaced, refl);
       })))
-  by_check (Late v) h =
-      inr (inr (inr (inl (record {
-        assigned = h.assigned;
-        is_lowered = h.is_lowered;
-        units = h.units;
-        v = v;
-        cause = inl (h.unplaced, refl);
-      }))))
-  by_check (Past v) h =
-      inr (inr (inr (inl (record {
-        assigned = h.assigned;
-        is_lowered = h.is_lowered;
-        units = h.units;
-        v = v;
-        cause = inr (inl (h.unplaced, refl));
-      }))))
-  by_check (Busy v) h =
-      inr (inr (inr (inl (record {
-        assigned = h.assigned;
-        is_lowered = h.is_lowered;
-        units = h.units;
-        v = v;
-        cause = inr (inr (inl (h.unplaced, refl)));
-      }))))
-  by_check (Blocked v) h =
-      inr (inr (inr (inl (record {
-        assigned = h.assigned;
-        is_lowered = h.is_lowered;
-        units = h.units;
-        v = v;
-        cause = inr (inr (inr (h.unplaced, refl)));
-      }))))
+  by_check (Late v x from) h = inr (inr (inr (inl (stopped v (late x from) h))))
+  by_check (Past v) h = inr (inr (inr (inl (stopped v past h))))
+  by_check (Busy v) h = inr (inr (inr (inl (stopped v busy h))))
+  by_check (FileWritten unit port v) h = inr (inr (inr (inl (stopped v (written unit port) h))))
+  by_check (NoBus unit port v) h = inr (inr (inr (inl (stopped v (busless unit port) h))))
   by_check (FileFull unit port v) h =
       inr (inr (inr (inr (record { unit = unit; port = port; v = v; kept = h; is = refl }))))
   by_check Memory h = absurd h
@@ -489,118 +441,69 @@ module _ (g : Graph) (d : Datapath) (places : List Place) (allowed : IsDatapath 
     inside v q x r = operand_in d a (problem a low on) v q x r
 
     -- a node that is the first of two kinds
-    module _ (C D : Datapath → Assigned → Schedule → (height : ℕ → ℕ) → (v t : ℕ) → Type 0) (v : ℕ)
-        (x : IsFirstUnplaced places d a C v) (y : IsFirstUnplaced places d a D v) where
+    module _ (j k : Stop) (v : ℕ) (x : IsFirstUnplaced places d a (IsStopCause j) v)
+        (y : IsFirstUnplaced places d a (IsStopCause k) v) where
       earlier_x : (u : ℕ) → IsEarlier a y.height v u → IsEarlier a x.height v u
       earlier_x u r = earlier_same d a live x.height y.height x.heights y.heights v u x.there r
+
+      earlier_y : (u : ℕ) → IsEarlier a x.height v u → IsEarlier a y.height v u
+      earlier_y u r = earlier_same d a live y.height x.height y.heights x.heights v u x.there r
 
       agree : (u : ℕ) → IsEarlier a y.height v u → slot_of x.schedule u ≡ slot_of y.schedule u
       agree u r =
           one_slot_over IsGapApart IsOneCycle d.period (AtPlace places) d a live (at_alike places d a) inside
           x.schedule y.schedule x.height y.height x.heights y.heights (IsEarlier a x.height v)
           (λ w z has e. earlier_trans a x.height v w z has e) (λ w there has. x.before w has)
-          (λ w there has.
-          y.before w (earlier_same d a live y.height x.height y.heights x.heights v w x.there has))
+          (λ w there has. y.before w (earlier_y w has))
           u r.node (earlier_x u r)
 
-      operands_too : (t : ℕ) → AreOperandsThere d a x.schedule v t → AreOperandsThere d a y.schedule v t
-      operands_too t operands q w r =
-          subst (λ (slot : Slot). slot.cycle + latency_of d a w ≤ t)
-          (agree w (operand_earlier d a live y.height y.heights v q w (inside v q w r.reads) r)) (operands q w r)
-
-      free_too : (u t : ℕ)
-          → IsUnitFree d (IsTakenBefore a x.schedule x.height v) u t
-          → IsUnitFree d (IsTakenBefore a y.schedule y.height v) u t
-      free_too u t free slot taken =
-          free slot (record {
-            x = taken.x;
-            earlier = earlier_x taken.x taken.earlier;
-            unit = taken.unit;
-            its_slot = agree taken.x taken.earlier ∙ taken.its_slot;
+      -- their causes are one
+      same_cause : j ≡ k
+      same_cause =
+          one_cause d a y.schedule y.height v (place_of places v).cycle j k
+          (cause_moves d a x.schedule y.schedule x.height y.height v (place_of places v).cycle
+          (λ q w r. agree w (operand_earlier d a live y.height y.heights v q w (inside v q w r.reads) r))
+          (λ u slot t. record {
+            x = t.x;
+            earlier = earlier_y t.x t.earlier;
+            unit = t.unit;
+            its_slot = sym (agree t.x (earlier_y t.x t.earlier)) ∙ t.its_slot;
           })
+          (λ u slot t. record {
+            x = t.x;
+            earlier = earlier_x t.x t.earlier;
+            unit = t.unit;
+            its_slot = agree t.x t.earlier ∙ t.its_slot;
+          })
+          j x.cause)
+          y.cause
 
-    module _ (C D : Datapath → Assigned → Schedule → (height : ℕ → ℕ) → (v t : ℕ) → Type 0)
-        (no_c : (s : Schedule) (height : ℕ → ℕ) (v t : ℕ) → Can a low on s height v t → C d a s height v t → ⊥)
-        (no_d : (s : Schedule) (height : ℕ → ℕ) (v t : ℕ) → Can a low on s height v t → D d a s height v t → ⊥)
-        (v u : ℕ) (x : IsFirstUnplaced places d a C v) (y : IsFirstUnplaced places d a D u) where
-      one_node : v ≡ u
-      one_node =
-          one_without IsGapApart IsOneCycle d.period (AtPlace places) d a (problem a low on) (at_alike places d a) v u
-          (without a low on C no_c v x) (without a low on D no_d u y)
-
-      at_one : IsFirstUnplaced places d a D v
-      at_one = subst (λ (n : ℕ). IsFirstUnplaced places d a D n) (sym one_node) y
-
-    late_past : (v u : ℕ) → IsFirstUnplaced places d a IsLate v → IsFirstUnplaced places d a IsPast u → ⊥
-    late_past v u x y =
-        let z = at_one IsLate IsPast (late_not a low on) (past_not a low on) v u x y in
-        x.cause (operands_too IsPast IsLate v z x (place_of places v).cycle z.cause.operands)
-
-    late_busy : (v u : ℕ) → IsFirstUnplaced places d a IsLate v → IsFirstUnplaced places d a IsBusy u → ⊥
-    late_busy v u x y =
-        let z = at_one IsLate IsBusy (late_not a low on) (busy_not a low on) v u x y in
-        x.cause (operands_too IsBusy IsLate v z x (place_of places v).cycle z.cause.operands)
-
-    late_blocked : (v u : ℕ) → IsFirstUnplaced places d a IsLate v → IsFirstUnplaced places d a IsBlocked u → ⊥
-    late_blocked v u x y =
-        let z = at_one IsLate IsBlocked (late_not a low on) (blocked_not a low on) v u x y in
-        x.cause (operands_too IsBlocked IsLate v z x (place_of places v).cycle z.cause.operands)
-
-    past_busy : (v u : ℕ) → IsFirstUnplaced places d a IsPast v → IsFirstUnplaced places d a IsBusy u → ⊥
-    past_busy v u x y =
-        let z = at_one IsPast IsBusy (past_not a low on) (busy_not a low on) v u x y in
-        absurd (omega (arith, x.cause.past, z.cause.ends))
-
-    past_blocked : (v u : ℕ) → IsFirstUnplaced places d a IsPast v → IsFirstUnplaced places d a IsBlocked u → ⊥
-    past_blocked v u x y =
-        let z = at_one IsPast IsBlocked (past_not a low on) (blocked_not a low on) v u x y in
-        absurd (omega (arith, x.cause.past, z.cause.ends))
-
-    busy_blocked : (v u : ℕ) → IsFirstUnplaced places d a IsBusy v → IsFirstUnplaced places d a IsBlocked u → ⊥
-    busy_blocked v u x y =
-        let z = at_one IsBusy IsBlocked (busy_not a low on) (blocked_not a low on) v u x y in
-        x.cause.busy (free_too IsBlocked IsBusy v z x (unit_in a.units v) (place_of places v).cycle z.cause.free)
-
-    one_stop : (f h : PlaceFault) (v u : ℕ) → IsStop a v f → IsStop a u h → f ≡ h
-    one_stop f h v u (inl c) (inl k) =
-        c.1 ∙ ap Late (one_node IsLate IsLate (late_not a low on) (late_not a low on) v u c.0 k.0) ∙ sym k.1
-    one_stop f h v u (inl c) (inr (inl k)) = absurd (late_past v u c.0 k.0)
-    one_stop f h v u (inl c) (inr (inr (inl k))) = absurd (late_busy v u c.0 k.0)
-    one_stop f h v u (inl c) (inr (inr (inr k))) = absurd (late_blocked v u c.0 k.0)
-    one_stop f h v u (inr (inl c)) (inl k) = absurd (late_past u v k.0 c.0)
-    one_stop f h v u (inr (inl c)) (inr (inl k)) =
-        c.1 ∙ ap Past (one_node IsPast IsPast (past_not a low on) (past_not a low on) v u c.0 k.0) ∙ sym k.1
-    one_stop f h v u (inr (inl c)) (inr (inr (inl k))) = absurd (past_busy v u c.0 k.0)
-    one_stop f h v u (inr (inl c)) (inr (inr (inr k))) = absurd (past_blocked v u c.0 k.0)
-    one_stop f h v u (inr (inr (inl c))) (inl k) = absurd (late_busy u v k.0 c.0)
-    one_stop f h v u (inr (inr (inl c))) (inr (inl k)) = absurd (past_busy u v k.0 c.0)
-    one_stop f h v u (inr (inr (inl c))) (inr (inr (inl k))) =
-        c.1 ∙ ap Busy (one_node IsBusy IsBusy (busy_not a low on) (busy_not a low on) v u c.0 k.0) ∙ sym k.1
-    one_stop f h v u (inr (inr (inl c))) (inr (inr (inr k))) = absurd (busy_blocked v u c.0 k.0)
-    one_stop f h v u (inr (inr (inr c))) (inl k) = absurd (late_blocked u v k.0 c.0)
-    one_stop f h v u (inr (inr (inr c))) (inr (inl k)) = absurd (past_blocked u v k.0 c.0)
-    one_stop f h v u (inr (inr (inr c))) (inr (inr (inl k))) = absurd (busy_blocked u v k.0 c.0)
-    one_stop f h v u (inr (inr (inr c))) (inr (inr (inr k))) =
-        c.1 ∙ ap Blocked (one_node IsBlocked IsBlocked (blocked_not a low on) (blocked_not a low on) v u c.0 k.0)
-        ∙ sym k.1
-
-    stop_not : (f : PlaceFault) (v : ℕ) → IsStop a v f → (s : Schedule) → IsScheduleAt places d a s → ⊥
-    stop_not f v (inl c) s is = refuted a low on IsLate (late_not a low on) v c.0 s is
-    stop_not f v (inr (inl c)) s is = refuted a low on IsPast (past_not a low on) v c.0 s is
-    stop_not f v (inr (inr (inl c))) s is = refuted a low on IsBusy (busy_not a low on) v c.0 s is
-    stop_not f v (inr (inr (inr c))) s is = refuted a low on IsBlocked (blocked_not a low on) v c.0 s is
+    one_stop : (j k : Stop) (v u : ℕ)
+        → IsFirstUnplaced places d a (IsStopCause j) v
+        → IsFirstUnplaced places d a (IsStopCause k) u
+        → fault_at v j ≡ fault_at u k
+    one_stop j k v u x y =
+        let node : v ≡ u =
+        one_without IsGapApart IsOneCycle d.period (AtPlace places) d a (problem a low on) (at_alike places d a) v u
+        (without a low on j v x) (without a low on k u y) in
+        ap (fault_at v)
+        (same_cause j k v x (subst (λ (n : ℕ). IsFirstUnplaced places d a (IsStopCause k) n) (sym node) y))
+        ∙ ap (λ (n : ℕ). fault_at n k) node
 
   one_cycle : (f h : PlaceFault) → IsOfCycles f → IsOfCycles h → f ≡ h
   one_cycle f h x y =
       let same = same_assigned y.assigned y.is_lowered y.units x.assigned x.is_lowered x.units in
-      one_stop y.assigned y.is_lowered y.units f h x.v y.v
-      (subst (λ (a : Assigned). IsStop a x.v f) same x.cause) y.cause
+      x.is
+      ∙ one_stop y.assigned y.is_lowered y.units x.stop y.stop x.v y.v
+      (subst (λ (a : Assigned). IsFirstUnplaced places d a (IsStopCause x.stop) x.v) same x.unplaced) y.unplaced
+      ∙ sym y.is
 
   cycles_not : (f h : PlaceFault) → IsOfCycles f → IsOfFiles h → ⊥
   cycles_not f h x y =
       let k = y.kept in
       let same = same_assigned k.assigned k.is_lowered k.units x.assigned x.is_lowered x.units in
-      stop_not k.assigned k.is_lowered k.units f x.v (subst (λ (a : Assigned). IsStop a x.v f) same x.cause) k.schedule
+      refuted k.assigned k.is_lowered k.units x.stop x.v
+      (subst (λ (a : Assigned). IsFirstUnplaced places d a (IsStopCause x.stop) x.v) same x.unplaced) k.schedule
       k.is_schedule
 
   -- The registers of the lifetimes.

@@ -9,7 +9,9 @@ use Rattle.datapath.specs.declared.types.Datapath.{Datapath}
 use Rattle.signal_graph.specs.GraphRules.{IsGraph}
 use Rattle.signal_graph.specs.GraphSolves.{IsGraphLoopless}
 use Rattle.signal_graph.specs.declared.graph.Graph.{Graph}
+use Rattle.plan_core.specs.IsPlan.{IsPlan}
 use Rattle.plan_core.specs.Lowered.{IsLowered}
+use Rattle.plan_core.specs.Operands.{node_of}
 use Rattle.plan_core.specs.Arcs.{IsArcs, IsUnroll}
 use Rattle.plan_core.specs.FirstFit.{IsFirstFit}
 use Rattle.plan_core.specs.declared.delay_lines.Lowered.{Lowered}
@@ -22,6 +24,7 @@ use Rattle.plan_core.proofs.OneArcs.{one_unroll}
 use Rattle.plan_soundness.specs.Units.{IsRouted}
 use Rattle.plan_soundness.specs.Feasible.{IsFeasiblePlan}
 use Rattle.plan_soundness.proofs.Machines.{machine_of}
+use Rattle.plan_soundness.proofs.Units.{on_right_units}
 use Rattle.plan_soundness.proofs.RunsSolution.{placed_feasible, placed_routed}
 use Rattle.delay_memory.specs.Faults.{IsLineFault}
 use Rattle.delay_memory.specs.declared.fault.LineFault.{LineFault}
@@ -30,22 +33,36 @@ use Rattle.reg_alloc.specs.Allottable.{AreAllotted}
 use Rattle.reg_alloc.specs.Faults.{IsFileFault}
 use Rattle.reg_alloc.specs.declared.fault.FileFault.{FileFault}
 use Rattle.reg_alloc.specs.declared.fault.FileFault.TheVariants as file
-use Rattle.placed_plan.specs.Places.{AreOnGivenUnits, IsScheduleAt, IsGiven, IsPlanAt}
-use Rattle.placed_plan.specs.Places.{IsNarrow}
+use Rattle.placed_plan.specs.Places.{CanBeOn, AreOnGivenUnits, IsScheduleAt, IsGiven, IsPlanAt, IsNarrow}
 use Rattle.placed_plan.specs.Faults.{IsPlaceFault}
+use Rattle.placed_plan.specs.Private.Answers.{IsAnswer}
 use Rattle.placed_plan.specs.Private.Errors.{of_line, of_file}
 use Rattle.placed_plan.specs.Private.Units.{IsMiscounted, IsMisplaced}
 use Rattle.placed_plan.specs.Private.Placing.{IsUnplaced}
 use Rattle.placed_plan.specs.declared.place.Place.{Place}
 use Rattle.placed_plan.specs.declared.fault.PlaceFault.{PlaceFault}
 use Rattle.placed_plan.specs.declared.fault.PlaceFault.TheVariants.{Line as Unstored, Missing, Surplus, TooWide}
-use Rattle.placed_plan.specs.declared.fault.PlaceFault.TheVariants.{WrongUnit, Late, Past, Busy, Blocked, FileFull}
-use Rattle.placed_plan.specs.declared.fault.PlaceFault.TheVariants.{Memory}
+use Rattle.placed_plan.specs.declared.fault.PlaceFault.TheVariants.{WrongUnit, Late, Past, Busy, FileWritten}
+use Rattle.placed_plan.specs.declared.fault.PlaceFault.TheVariants.{NoBus, FileFull, Memory}
 use Rattle.placed_plan.proofs.GivenUnits.{on_right}
 use Rattle.placed_plan.proofs.OneFault.{plan_or_not, one_plan, one_place_fault}
 
-pub told : (r : Result Plan PlaceFault) (f : PlaceFault) → IsErrAnd r (λ (h : PlaceFault). h ≡ f) → r ≡ Err f
+pub told : {A : Type 0} (r : Result A PlaceFault) (f : PlaceFault)
+    → IsErrAnd r (λ (h : PlaceFault). h ≡ f)
+    → r ≡ Err f
 told r f is = let x = err_from_is_err_and r is in x.1 ∙ ap (λ (h : PlaceFault). Err h) x.2
+
+-- an answer that is this fault has its cause
+pub with_cause : {A : Type 0} (P : PlaceFault → Type 0) (r : Result A PlaceFault) (f : PlaceFault)
+    → r ≡ Err f
+    → P f
+    → IfErr r P
+with_cause {A = A} P r f same why = subst (λ (x : Result A PlaceFault). IfErr x P) (sym same) why
+
+-- what a plan has, where there is one
+pub if_planned : {P Q : Plan → Type 0} (r : Result Plan PlaceFault) → IfOk r P → ((p : Plan) → P p → Q p) → IfOk r Q
+if_planned (Ok p) is then = then p is
+if_planned (Err f) is then = tt
 
 -- What holds of a plan with its places.
 module _ (g : Graph) (d : Datapath) (places : List Place) (allowed : IsDatapath d) (sound : IsGraph g) (p : Plan)
@@ -67,42 +84,7 @@ module _ (g : Graph) (d : Datapath) (places : List Place) (allowed : IsDatapath 
         (is.placed.schedule.placed v (omega (arith, there, is.units.place_count))).can.allows;
   }
 
-module _ (g : Graph) (d : Datapath) (places : List Place) (allowed : IsDatapath d) (sound : IsGraph g)
-    (loopless : IsGraphLoopless g) where
-  -- what is promised of an answer
-  pub record IsAnswer (result : Result Plan PlaceFault) : Type 0 where
-    pub plan : IfOk result (IsPlanAt places g d)
-    pub fault : IfErr result (λ (fault : PlaceFault). (fault ≡ Memory) ⊎ IsPlaceFault g d places fault)
-    pub found : (p : Plan) → IsPlanAt places g d p → (result ≡ Ok p) ⊎ (result ≡ Err Memory)
-    pub refused : (f : PlaceFault) → IsPlaceFault g d places f → (result ≡ Err f) ⊎ (result ≡ Err Memory)
-
-  pub finds : (p : Plan) → IsPlanAt places g d p → IsAnswer (Ok p)
-  finds p is = record {
-    plan = is;
-    fault = tt;
-    found = λ q other. inl (ap (λ (x : Plan). Ok x) (one_plan g d places allowed sound loopless p q is other));
-    refused = λ f h. absurd (plan_or_not g d places allowed sound loopless p is f h);
-  }
-
-  pub fails : (f : PlaceFault) → (f ≡ Memory) ⊎ IsPlaceFault g d places f → IsAnswer (Err f)
-  fails f why = record {
-    plan = tt;
-    fault = why;
-    found = λ p is.
-        ⊎_elim (λ (e : f ≡ Memory). inr (ap (λ (x : PlaceFault). Err x) e))
-        (λ (h : IsPlaceFault g d places f). absurd (plan_or_not g d places allowed sound loopless p is f h)) why;
-    refused = λ k is.
-        ⊎_elim (λ (e : f ≡ Memory). inr (ap (λ (x : PlaceFault). Err x) e))
-        (λ (h : IsPlaceFault g d places f).
-        inl (ap (λ (x : PlaceFault). Err x) (one_place_fault g d places allowed sound loopless f k h is))) why;
-  }
-
-  pub answers : (r : Result Plan PlaceFault) (f : PlaceFault)
-      → r ≡ Err f
-      → (f ≡ Memory) ⊎ IsPlaceFault g d places f
-      → IsAnswer r
-  answers r f same why = subst IsAnswer (sym same) (fails f why)
-
+module _ (g : Graph) (d : Datapath) (places : List Place) where
   -- The faults of the passes.
 
   pub line_fails : (f : LineFault)
@@ -123,10 +105,11 @@ module _ (g : Graph) (d : Datapath) (places : List Place) (allowed : IsDatapath 
     count_fails (Unstored f) h = absurd h
     count_fails (TooWide v) h = absurd h
     count_fails (WrongUnit v) h = absurd h
-    count_fails (Late v) h = absurd h
+    count_fails (Late v x from) h = absurd h
     count_fails (Past v) h = absurd h
     count_fails (Busy v) h = absurd h
-    count_fails (Blocked v) h = absurd h
+    count_fails (FileWritten unit port v) h = absurd h
+    count_fails (NoBus unit port v) h = absurd h
     count_fails (FileFull unit port v) h = absurd h
     count_fails Memory h = absurd h
 
@@ -142,10 +125,11 @@ module _ (g : Graph) (d : Datapath) (places : List Place) (allowed : IsDatapath 
     unit_fails count (Unstored f) (inr h) = absurd h
     unit_fails count (Missing v) (inr h) = absurd h
     unit_fails count (Surplus v) (inr h) = absurd h
-    unit_fails count (Late v) (inr h) = absurd h
+    unit_fails count (Late v x from) (inr h) = absurd h
     unit_fails count (Past v) (inr h) = absurd h
     unit_fails count (Busy v) (inr h) = absurd h
-    unit_fails count (Blocked v) (inr h) = absurd h
+    unit_fails count (FileWritten unit port v) (inr h) = absurd h
+    unit_fails count (NoBus unit port v) (inr h) = absurd h
     unit_fails count (FileFull unit port v) (inr h) = absurd h
     unit_fails count Memory (inr h) = absurd h
 
@@ -154,10 +138,13 @@ module _ (g : Graph) (d : Datapath) (places : List Place) (allowed : IsDatapath 
         → (f ≡ Memory) ⊎ IsUnplaced places d a f
         → (f ≡ Memory) ⊎ IsPlaceFault g d places f
     cycle_fails f (inl e) = inl e
-    cycle_fails (Late v) (inr h) = inr (record { assigned = a; is_lowered = low; units = on; unplaced = h })
+    cycle_fails (Late v x from) (inr h) = inr (record { assigned = a; is_lowered = low; units = on; unplaced = h })
     cycle_fails (Past v) (inr h) = inr (record { assigned = a; is_lowered = low; units = on; unplaced = h })
     cycle_fails (Busy v) (inr h) = inr (record { assigned = a; is_lowered = low; units = on; unplaced = h })
-    cycle_fails (Blocked v) (inr h) = inr (record { assigned = a; is_lowered = low; units = on; unplaced = h })
+    cycle_fails (FileWritten unit port v) (inr h) =
+        inr (record { assigned = a; is_lowered = low; units = on; unplaced = h })
+    cycle_fails (NoBus unit port v) (inr h) =
+        inr (record { assigned = a; is_lowered = low; units = on; unplaced = h })
     cycle_fails (Unstored f) (inr h) = absurd h
     cycle_fails (Missing v) (inr h) = absurd h
     cycle_fails (Surplus v) (inr h) = absurd h
@@ -217,45 +204,73 @@ module _ (g : Graph) (d : Datapath) (places : List Place) (allowed : IsDatapath 
         };
       }
 
-  -- What is answered at each place where `plan_at` returns.
+  -- The plan by the rules has its places.
+  pub ordinary : (p : Plan) → IsPlan g d p → IsGiven places p → IsPlanAt places g d p
+  ordinary p is given = record {
+    units = record {
+      place_count = given.count;
+      count = is.assigned.count;
+      given = λ v there. given.unit v (omega (arith, there, given.count));
+      can = λ v there.
+          let unit = is.assigned.units v (omega (arith, there, is.assigned.count)) in
+          subst (CanBeOn d (node_of p.assigned.lowered.nodes v)) (given.unit v (omega (arith, there, given.count)))
+          (record { width = unit.width; right = unit.candidate.right });
+    };
+    placed = record {
+      lowered = is.lowered;
+      assigned = on_right_units is.assigned;
+      schedule = record {
+        height = is.schedule.height;
+        heights = is.schedule.heights;
+        count = is.schedule.count;
+        placed = λ v there.
+            let at = given.cycle v (omega (arith, there, given.count)) in
+            let its = is.schedule.placed v there in
+            record {
+              can = record { operands = its.can.operands; fits = its.can.fits; allows = at };
+              least = λ t less can. absurd (omega (arith, less, can.allows, at));
+              destinations = its.destinations;
+              buses = its.buses;
+            };
+      };
+      arcs = is.arcs;
+      unroll = is.unroll;
+      registers = is.registers;
+      sizes = is.sizes;
+      inputs = is.inputs;
+      outs = is.outs;
+    };
+  }
 
-  pub at_lines : (r : Result Plan PlaceFault) (f : LineFault)
-      → IsErrAnd r (λ (h : PlaceFault). h ≡ of_line f)
-      → (f ≡ line.Memory) ⊎ IsLineFault g d f
-      → IsAnswer r
-  at_lines r f is why = answers r (of_line f) (told r (of_line f) is) (line_fails f why)
+module _ (g : Graph) (d : Datapath) (places : List Place) (allowed : IsDatapath d) (sound : IsGraph g)
+    (loopless : IsGraphLoopless g) where
+  abbrev IsTold : Result Plan PlaceFault → Type 0
+  IsTold = IsAnswer g d places
 
-  pub at_count : (l : Lowered)
-      → IsLowered g d l
-      → (r : Result Plan PlaceFault) (f : PlaceFault)
+  pub finds : (p : Plan) → IsPlanAt places g d p → IsTold (Ok p)
+  finds p is = record {
+    plan = is;
+    fault = tt;
+    found = λ q other. inl (ap (λ (x : Plan). Ok x) (one_plan g d places allowed sound loopless p q is other));
+    refused = λ f h. absurd (plan_or_not g d places allowed sound loopless p is f h);
+  }
+
+  pub fails : (f : PlaceFault) → (f ≡ Memory) ⊎ IsPlaceFault g d places f → IsTold (Err f)
+  fails f why = record {
+    plan = tt;
+    fault = why;
+    found = λ p is.
+        ⊎_elim (λ (e : f ≡ Memory). inr (ap (λ (x : PlaceFault). Err x) e))
+        (λ (h : IsPlaceFault g d places f). absurd (plan_or_not g d places allowed sound loopless p is f h)) why;
+    refused = λ k is.
+        ⊎_elim (λ (e : f ≡ Memory). inr (ap (λ (x : PlaceFault). Err x) e))
+        (λ (h : IsPlaceFault g d places f).
+        inl (ap (λ (x : PlaceFault). Err x) (one_place_fault g d places allowed sound loopless f k h is))) why;
+  }
+
+  -- the same of an answer that is this fault
+  pub answers : (r : Result Plan PlaceFault) (f : PlaceFault)
       → r ≡ Err f
-      → IsMiscounted (length places) (length l.nodes) f
-      → IsAnswer r
-  at_count l low r f same why = answers r f same (inr (count_fails l low f why))
-
-  pub at_units : (l : Lowered)
-      → IsLowered g d l
-      → length places ≡ length l.nodes
-      → (r : Result Plan PlaceFault) (f : PlaceFault)
-      → r ≡ Err f
-      → (f ≡ Memory) ⊎ IsMisplaced places d l f
-      → IsAnswer r
-  at_units l low count r f same why = answers r f same (unit_fails l low count f why)
-
-  module _ (a : Assigned) (low : IsLowered g d a.lowered) (on : AreOnGivenUnits places d a) where
-    pub at_cycles : (r : Result Plan PlaceFault) (f : PlaceFault)
-        → r ≡ Err f
-        → (f ≡ Memory) ⊎ IsUnplaced places d a f
-        → IsAnswer r
-    at_cycles r f same why = answers r f same (cycle_fails a low on f why)
-
-    pub at_registers : (s : Schedule)
-        → IsScheduleAt places d a s
-        → (arcs : List Arc)
-        → IsArcs d a s arcs
-        → (r : Result Plan PlaceFault) (f : FileFault)
-        → IsErrAnd r (λ (h : PlaceFault). h ≡ of_file f)
-        → (f ≡ file.Memory) ⊎ IsFileFault d arcs f
-        → IsAnswer r
-    at_registers s scheduled arcs are r f is why =
-        answers r (of_file f) (told r (of_file f) is) (file_fails a low on s scheduled arcs are f why)
+      → (f ≡ Memory) ⊎ IsPlaceFault g d places f
+      → IsTold r
+  answers r f same why = subst IsTold (sym same) (fails f why)

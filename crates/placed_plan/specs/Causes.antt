@@ -1,12 +1,12 @@
 -- Why a node cannot stand at its place.
-use Rattle.std.specs.Prelude.{ℕ, ◌+◌, ◌<◌, ◌≤◌}
+use Rattle.std.specs.Prelude.{◌≡◌, ℕ, ◌+◌, ◌<◌, ◌≤◌}
 use Rattle.operations.specs.declared.units.PortRef.{PortRef}
 use Rattle.datapath.specs.declared.types.Datapath.{Datapath}
 use Rattle.signal_graph.specs.declared.graph.Node.{Node}
 use Rattle.plan_core.specs.Assigned.{unit_in, IsRightUnit}
-use Rattle.plan_core.specs.Heights.{latency_of}
+use Rattle.plan_core.specs.Heights.{ReadsNow, latency_of}
 use Rattle.plan_core.specs.Reservations.{result_on, IsUnitFree, IsFileFree, IsFreeRoute}
-use Rattle.plan_core.specs.ListSchedule.{IsDestination, IsTakenBefore, AreOperandsThere}
+use Rattle.plan_core.specs.ListSchedule.{cycle_of, IsDestination, IsPortBefore, IsTakenBefore, AreOperandsThere}
 use Rattle.plan_core.specs.declared.schedule.Assigned.{Assigned}
 use Rattle.plan_core.specs.declared.schedule.Schedule.{Schedule}
 
@@ -22,13 +22,18 @@ module _ (d : Datapath) (node : Node) (u : ℕ) where
 
 -- At cycle t, where these are the slots of the nodes that are placed before node v. Each cause is that of a node for
 -- which those before it are none.
+
+-- Node x is the first operand of the same sample, by port, that is not there. It is there from this cycle on.
+pub record IsFirstLate (x from : ℕ) (d : Datapath) (a : Assigned) (s : Schedule) (v t : ℕ) : Type 0 where
+  pub port : ℕ
+  pub reads : ReadsNow a.lowered.nodes v port x
+  pub before : (q y : ℕ) → q < port → ReadsNow a.lowered.nodes v q y → cycle_of s y + latency_of d a y ≤ t
+  pub from_is : from ≡ cycle_of s x + latency_of d a x
+  pub late : t < from
+
 module _ (d : Datapath) (a : Assigned) (s : Schedule) (height : ℕ → ℕ) (v t : ℕ) where
   abbrev u : ℕ
   u = unit_in a.units v
-
-  -- an operand of the same sample is not there
-  abbrev pub IsLate : Type 0
-  IsLate = AreOperandsThere d a s v t → ⊥
 
   -- it does not end in the period
   pub record IsPast : Type 0 where
@@ -41,14 +46,39 @@ module _ (d : Datapath) (a : Assigned) (s : Schedule) (height : ℕ → ℕ) (v 
     pub ends : t + latency_of d a v ≤ d.period
     pub busy : IsUnitFree d (IsTakenBefore a s height v) u t → ⊥
 
+  -- the register file of the port is not written in the cycle of the result
+  abbrev pub HasFile : PortRef → Type 0
+  HasFile port = IsFileFree d (IsTakenBefore a s height v) (result_on d u t) port
+
+  -- this bus can take the result to the port
+  abbrev pub HasBus : PortRef → (b : ℕ) → Type 0
+  HasBus port b = IsFreeRoute d (IsTakenBefore a s height v) u (result_on d u t) port b
+
   -- its result can be transferred to the port: its register file is not written, and a bus to it is free
   pub record HasTransfer (port : PortRef) : Type 0 where
-    pub file : IsFileFree d (IsTakenBefore a s height v) (result_on d u t) port
-    pub bus : (b : ℕ) × IsFreeRoute d (IsTakenBefore a s height v) u (result_on d u t) port b
+    pub file : HasFile port
+    pub bus : (b : ℕ) × HasBus port b
 
-  -- its result can't be transferred to every port that reads it
-  pub record IsBlocked : Type 0 where
+  -- its unit is free, and its result can be transferred to each port that reads it and comes before this one
+  pub record IsOpenUpTo (port : PortRef) : Type 0 where
     pub operands : AreOperandsThere d a s v t
     pub ends : t + latency_of d a v ≤ d.period
     pub free : IsUnitFree d (IsTakenBefore a s height v) u t
-    pub blocked : ((port : PortRef) → IsDestination a v port → HasTransfer port) → ⊥
+    pub reads : IsDestination a v port
+    pub before : (q : PortRef) → IsDestination a v q → IsPortBefore q port → HasTransfer q
+
+-- an operand of the same sample is not there
+abbrev pub IsLate : (x from : ℕ) → Datapath → Assigned → Schedule → (height : ℕ → ℕ) → (v t : ℕ) → Type 0
+IsLate x from d a s height v t = IsFirstLate x from d a s v t
+
+module _ (port : PortRef) (d : Datapath) (a : Assigned) (s : Schedule) (height : ℕ → ℕ) (v t : ℕ) where
+  -- the port is the first, by unit, then port, that cannot get its result: its register file is written
+  pub record IsFileWritten : Type 0 where
+    pub first : IsOpenUpTo d a s height v t port
+    pub written : HasFile d a s height v t port → ⊥
+
+  -- so it is, but no bus is free
+  pub record IsBusless : Type 0 where
+    pub first : IsOpenUpTo d a s height v t port
+    pub file : HasFile d a s height v t port
+    pub none : (b : ℕ) → HasBus d a s height v t port b → ⊥

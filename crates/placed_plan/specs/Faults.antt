@@ -17,12 +17,12 @@ use Rattle.plan_core.specs.declared.schedule.Schedule.{Schedule}
 use Rattle.plan_core.specs.declared.registers.Arc.{Arc}
 use Rattle.delay_memory.specs.Faults.{IsLineFault}
 use Rattle.placed_plan.specs.Places.{place_of, CanBeOn, AreOnGivenUnits, IsPlacedAt, IsScheduleAt}
-use Rattle.placed_plan.specs.Causes.{IsTooWide, IsOnWrongUnit, IsLate, IsPast, IsBusy, IsBlocked}
+use Rattle.placed_plan.specs.Causes.{IsTooWide, IsOnWrongUnit, IsLate, IsPast, IsBusy, IsFileWritten, IsBusless}
 use Rattle.placed_plan.specs.declared.place.Place.{Place}
 use Rattle.placed_plan.specs.declared.fault.PlaceFault.{PlaceFault}
 use Rattle.placed_plan.specs.declared.fault.PlaceFault.TheVariants.{Line as Unstored, Missing, Surplus, TooWide}
-use Rattle.placed_plan.specs.declared.fault.PlaceFault.TheVariants.{WrongUnit, Late, Past, Busy, Blocked, FileFull}
-use Rattle.placed_plan.specs.declared.fault.PlaceFault.TheVariants.{Memory}
+use Rattle.placed_plan.specs.declared.fault.PlaceFault.TheVariants.{WrongUnit, Late, Past, Busy, FileWritten}
+use Rattle.placed_plan.specs.declared.fault.PlaceFault.TheVariants.{NoBus, FileFull, Memory}
 
 -- node v is the first that cannot be on its unit, for this cause
 module _ (places : List Place) (d : Datapath) (l : Lowered) (Cause : Datapath → Node → (u : ℕ) → Type 0) where
@@ -92,9 +92,10 @@ module _ (g : Graph) (d : Datapath) (places : List Place) where
   IsPlaceFault (Surplus v) = LacksNode v
   IsPlaceFault (TooWide v) = HasMisplacedNode IsTooWide v
   IsPlaceFault (WrongUnit v) = HasMisplacedNode IsOnWrongUnit v
-  IsPlaceFault (Late v) = HasUnplacedNode IsLate v
+  IsPlaceFault (Late v operand from) = HasUnplacedNode (IsLate operand from) v
   IsPlaceFault (Past v) = HasUnplacedNode IsPast v
   IsPlaceFault (Busy v) = HasUnplacedNode IsBusy v
-  IsPlaceFault (Blocked v) = HasUnplacedNode IsBlocked v
+  IsPlaceFault (FileWritten unit port v) = HasUnplacedNode (IsFileWritten (port_of unit port)) v
+  IsPlaceFault (NoBus unit port v) = HasUnplacedNode (IsBusless (port_of unit port)) v
   IsPlaceFault (FileFull unit port v) = HasUnkeptNode (port_of unit port) v
   IsPlaceFault Memory = ⊥

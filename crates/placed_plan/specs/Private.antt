@@ -1,3 +1,4 @@
 pub mod Errors
 pub mod Units
 pub mod Placing
+pub mod Answers

@@ -1,4 +1,4 @@
-//! Why there is no plan with the places that are given.
+//! Why nodes cannot stand at the places that are given.
 
 use bus_alloc::TableFault;
 use cyclic_life::ArcFault;
@@ -7,8 +7,8 @@ use reg_alloc::FileFault;
 use std::alloc::{AllocError, AllocFailed};
 use thiserror::Error;
 
-/// Why there is no plan with the places that are given. At `Line` nodes have the numbers of the graph, at the others
-/// those of the lowered list.
+/// Why these places have no plan. At `Line` nodes have the numbers of the graph, at the others those of the lowered list.
+/// Another choice of places, of buses or of registers may have a plan all the same.
 #[derive(Debug, Clone, Copy, PartialEq, Eq, Drop, Error)]
 pub enum PlaceFault {
     /// The first node that needs a delay line and gets none, and why. Want of memory is an error of its own and never
@@ -28,20 +28,23 @@ pub enum PlaceFault {
     /// its ram.
     #[error("wrong unit for node {0}")]
     WrongUnit(u32),
-    /// The first node, in the order in which nodes are placed, that cannot be issued in its cycle: an operand of the same
-    /// sample is not there.
-    #[error("operand late at node {0}")]
-    Late(u32),
+    /// The first node, in the order in which nodes are placed, that cannot be issued in its cycle: `operand` is the first
+    /// node that it reads of the same sample whose result is not there. It is there from the cycle `from` on.
+    #[error("operand {operand} of node {node} is there from cycle {from}")]
+    Late { node: u32, operand: u32, from: u16 },
     /// As before: operands are there, and it does not end in the period.
     #[error("period exceeded at node {0}")]
     Past(u32),
     /// As before: it ends in the period, and its unit is not free.
     #[error("unit busy at node {0}")]
     Busy(u32),
-    /// As before: its unit is free, and its result can't be transferred to every port that reads it, since the port's
-    /// file is written or no bus to it is free.
-    #[error("no transfer from node {0}")]
-    Blocked(u32),
+    /// As before: its unit is free. This port is the first, by unit, then port, to which its result has to go and cannot:
+    /// the port's register file is written in that cycle.
+    #[error("file written {unit}.{port} at node {node}")]
+    FileWritten { unit: u8, port: u8, node: u32 },
+    /// As before, but the port's register file is not written, and no bus from the node's unit to the port is free.
+    #[error("no bus to {unit}.{port} at node {node}")]
+    NoBus { unit: u8, port: u8, node: u32 },
     /// The first lifetime, by unit, port, the cycle of its write, then node, of which a copy shares cycles with others
     /// in every register of its file.
     #[error("file full {unit}.{port} at node {node}")]

@@ -1,8 +1,9 @@
 //! Plans with units and cycles that are given, by whatever planner: their buses, lifetimes and registers are found, or
-//! the first node that cannot stand at its place is reported. Page `docs/PLANNING.md`, "Plans from elsewhere".
+//! the first node that cannot stand at its place is reported, and why. Page `docs/PLANNING.md`, "Plans from elsewhere".
 #![tactic(auto)]
 
 mod fault;
+mod obstacles;
 mod passes;
 mod place;
 mod placing;

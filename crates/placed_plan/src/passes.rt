@@ -7,9 +7,12 @@ ghost use Rattle.signal_graph.specs.GraphSolves.{IsGraphLoopless};
 ghost use Rattle.plan_core.specs.declared.plan.Plan as of_plan;
 ghost use Rattle.plan_soundness.specs.Units.{IsRouted};
 ghost use Rattle.plan_soundness.specs.Feasible.{IsFeasiblePlan};
-ghost use Rattle.placed_plan.specs.Places.{IsPlanAt, IsGiven, IsNarrow};
+ghost use Rattle.plan_core.specs.IsPlan.{IsPlan};
+ghost use Rattle.plan_core.specs.Lowered.{IsLowered};
+ghost use Rattle.placed_plan.specs.Places.{AreOnGivenUnits, IsPlanAt, IsGiven, IsNarrow};
 ghost use Rattle.placed_plan.specs.Faults.{IsPlaceFault};
 ghost use Rattle.placed_plan.specs.Private.Units.{IsMiscounted};
+ghost use Rattle.placed_plan.specs.Private.Answers.{IsWhyNone, IsAnswer};
 ghost use Rattle.placed_plan.specs.declared.fault.PlaceFault as of_fault;
 ghost use Rattle.placed_plan.specs.declared.fault.PlaceFault.TheVariants.{Memory};
 
@@ -42,15 +45,68 @@ fn check_count(nodes: usize, places: usize) -> Result<(), PlaceFault>
     Ok(())
 }
 
+/// The nodes of the lowered list of a graph, each on the unit of its place.
+fn assigned_at(
+    alloc: Global,
+    graph: Graph,
+    places: &[Place],
+    datapath: &Datapath,
+) -> Result<Assigned, PlaceFault>
+    requires datapath { IsDatapath datapath.now }
+    requires sound { IsGraph graph }
+    ensures lowered { IfOk result (λ assigned. IsLowered graph datapath.now assigned.lowered) }
+    ensures units { IfOk result (AreOnGivenUnits places.now datapath.now) }
+    ensures fault { IfErr result (IsWhyNone graph datapath.now places.now) }
+{
+    let lowered = lower_owned(alloc, graph, datapath)?;
+    check_count(lowered.nodes.len(), places.len())?;
+    let units = units_of(alloc, &lowered, places, datapath)?;
+    Ok(Assigned { lowered, units })
+}
+
+/// Plans a graph with the units and cycles that are given, pass by pass.
+fn planned_at(
+    alloc: Global,
+    graph: Graph,
+    places: &[Place],
+    datapath: &Datapath,
+) -> Result<Plan, PlaceFault>
+    requires datapath { IsDatapath datapath.now }
+    requires sound { IsGraph graph }
+    requires loopless { IsGraphLoopless graph }
+    ensures { IsAnswer graph datapath.now places.now result }
+{
+    let inputs = List::from_slice(alloc, graph.inputs.as_slice())?;
+    let outs = graph.outs;
+    let assigned = assigned_at(alloc, graph, places, datapath)?;
+    let problem = Problem {
+        datapath,
+        assigned: &assigned,
+    };
+    let schedule = schedule_at(alloc, &problem, places)?;
+    let arcs = arcs(alloc, &schedule, &assigned, datapath)?;
+    let unroll = unroll(arcs.as_slice());
+    let registers = allot(alloc, &arcs, datapath)?;
+    Ok(Plan {
+        assigned,
+        schedule,
+        arcs,
+        registers,
+        unroll,
+        inputs,
+        outs,
+    })
+}
+
 /// Plans a graph with the units and cycles that are given: node v of the lowered list has place v. Its delay lines,
 /// buses, lifetimes and registers are found. Page `docs/PLANNING.md`, "Plans from elsewhere".
 ///
 /// # Errors
 ///
 /// `Line` where a node needs a delay line and gets none; else `Missing` or `Surplus` where the places are not as many as
-/// the nodes; else `TooWide` or `WrongUnit` at the first node that cannot be on its unit; else `Late`, `Past`, `Busy` or
-/// `Blocked` at the first node, in the order in which nodes are placed, that cannot be issued in its cycle; else
-/// `FileFull` where a copy of a lifetime has no register. `Memory` where no memory is left.
+/// the nodes; else `TooWide` or `WrongUnit` at the first node that cannot be on its unit; else `Late`, `Past`, `Busy`,
+/// `FileWritten` or `NoBus` at the first node, in the order in which nodes are placed, that cannot be issued in its
+/// cycle; else `FileFull` where a copy of a lifetime has no register. `Memory` where no memory is left.
 pub fn plan_at(
     alloc: Global,
     graph: Graph,
@@ -73,28 +129,9 @@ pub fn plan_at(
     // So is the first fault.
     ensures refused { (fault : of_fault.PlaceFault) → IsPlaceFault graph datapath.now places.now fault
         → (result ≡ Err fault) ⊎ (result ≡ Err Memory) }
+    // The places of the plan by the rules give that plan.
+    ensures ordinary { (p : of_plan.Plan) → IsPlan graph datapath.now p → IsGiven places.now p
+        → (result ≡ Ok p) ⊎ (result ≡ Err Memory) }
 {
-    let inputs = List::from_slice(alloc, graph.inputs.as_slice())?;
-    let outs = graph.outs;
-    let lowered = lower_owned(alloc, graph, datapath)?;
-    check_count(lowered.nodes.len(), places.len())?;
-    let units = units_of(alloc, &lowered, places, datapath)?;
-    let assigned = Assigned { lowered, units };
-    let problem = Problem {
-        datapath,
-        assigned: &assigned,
-    };
-    let schedule = schedule_at(alloc, &problem, places)?;
-    let arcs = arcs(alloc, &schedule, &assigned, datapath)?;
-    let unroll = unroll(arcs.as_slice());
-    let registers = allot(alloc, &arcs, datapath)?;
-    Ok(Plan {
-        assigned,
-        schedule,
-        arcs,
-        registers,
-        unroll,
-        inputs,
-        outs,
-    })
+    planned_at(alloc, graph, places, datapath)
 }

@@ -19,8 +19,10 @@ node 3 cycle 5 unit alu
 with more behind it or not. Lines that do not begin with 'node' give no place. What wrote PLAN is not
 trusted: where OUT is written, it is the solution of SRC, and each node stands where PLAN says.
 
-The exit code is that of 'silc compile SRC DP OUT', and 16 where PLAN gives no plan. An error is reported
-in one line on standard error, and no OUT is made then, except where it can't be written.";
+The exit code is that of 'silc compile SRC DP OUT', and 16 where PLAN gives no places or nodes can't stand
+at them. Their buses and registers are the first that are free, so that other places, or a choice of buses
+and registers, may have a plan where these have none. An error is reported in one line on standard error,
+and no OUT is made then, except where it can't be written.";
 
 const VERSION: &str = "silc_place 0.1.0";
 

@@ -7,4 +7,4 @@ pub returns-in-Ok-clause-gives : goal.returns-in-Ok-clause-gives
 returns-in-Ok-clause-gives c =
     λ content is.
     subst (λ (t : List ℕ). GivesPlaces c.args.path.now t c.in-Ok.given.places)
-    (c.as_slice.ensures ∙ subst (IsInput content) c.in-Whole.is is) c.in-Ok.ensures
+    (c.as_slice.ensures ∙ subst (IsInput content) c.in-Whole.is is) (c.in-Ok.given.lines, c.in-Ok.ensures.given)

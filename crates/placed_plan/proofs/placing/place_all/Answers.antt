@@ -1,4 +1,4 @@
-use Rattle.std.proofs.Common.{◌≡◌, ◌⊎◌, ap, arith, rules, Err}
+use Rattle.std.proofs.Common.{◌≡◌, ◌⊎◌, refl, rules, Err}
 use Rattle.schedule_priority.specs.Order.{nth}
 use Rattle.placed_plan.specs.Private.Placing.{IsUnplaced}
 use Rattle.placed_plan.specs.declared.fault.PlaceFault.TheVariants.{Memory}
@@ -12,13 +12,13 @@ returns-in_err-place-clause-fault c =
     let fault = c.in_err-place.field-0.0 in
     let is : c.from_residual.result ≡ Err fault = search rules in
     let why : (fault ≡ Memory) ⊎ IsUnplaced c.args.places.now d a fault =
-    stops c.args.places.now d a c.requires.problem c.args.order.now.items c.loop-v.v-index c.loop-v.placing
-    c.loop-v.invariant (omega arith) (nth c.deref-v-items.result.now c.loop-v.v-index) fault
-    (ap (λ xs. nth xs c.loop-v.v-index) c.deref-v-items.ensures.value) c.in_err-place.ensures.fault in
+    stops c.args.places.now d a c.requires.problem c.args.order.now c.loop-k.k c.loop-k.placing c.loop-k.invariant
+    c.loop-k-test.true c.split_at.result.0.now c.split_at.ensures.front (nth c.args.order.now c.loop-k.k) fault refl
+    c.in_err-place.ensures.fault in
     search rules
 
-pub loop-v-preserved : goal.loop-v-preserved
-loop-v-preserved c =
+pub loop-k-preserved : goal.loop-k-preserved
+loop-k-preserved c =
     goes_on c.args.places.now c.args.problem.now.datapath.now c.args.problem.now.assigned.now c.requires.problem
-    c.args.order.now.items c.deref-v-items.result.now c.deref-v-items.ensures.value c.loop-v.v-index
-    c.loop-v.placing c.loop-v.invariant (omega arith) c.place.new.placing c.in_ok-place.ensures.placed
+    c.args.order.now c.args.order.now refl c.loop-k.k c.loop-k.placing c.loop-k.invariant c.loop-k-test.true
+    c.place.new.placing c.in_ok-place.ensures.placed
