@@ -6,7 +6,8 @@ usage: tests/same/check_same.py [--silc PROGRAM] [--changes N]
 The microcode that `silc compile` makes of each example on each of its datapaths passes, in both versions of the file.
 Of each of them N files with one bit changed are tried, 20 where no number is given: one that is still some microcode is
 refused in a line that says `not shown`, or puts the rows of the example on its samples. Microcode of another example is
-refused, and so is a source or a file that is none, each in its line. Where `silc` or `silc_same` is not built, it is
+refused, and so is a source or a file that is none, each in its line. Of the listings that are written by hand, each
+beside its source, those of `ways` pass, and those of `refused`, which put other rows, do not. Where `silc` or `silc_same` is not built, it is
 skipped with 77. The last line is 'N passed, M failed'.
 """
 import os
@@ -21,6 +22,7 @@ from pathlib import Path
 from typing import TypeAlias
 
 from silc import micro_file
+from silc.micro_file.listing import image_of_listing
 
 # A check, which is given a folder.
 Check: TypeAlias = Callable[[Path], None]
@@ -124,6 +126,13 @@ def check_others(folder: Path, silc: Path, pairs: list[tuple[Path, Path]]) -> No
             raise Wrong(f"the microcode of {other.name} passes for {source.name}")
 
 
+def check_listing(folder: Path, listing: Path, shown: bool) -> None:
+    """Microcode that is written by hand, beside its source."""
+    (folder / "listed").write_bytes(micro_file.bytes_of(image_of_listing(listing.read_text())))
+    if is_same(folder, listing.with_suffix(".sil"), "listed") != shown:
+        raise Wrong("it is not shown" if shown else "it passes")
+
+
 def check_line(folder: Path, words: list[str], status: int, line: str) -> None:
     (folder / "good").write_text("func main(x : fix<8,0>) y : fix<8,0> = begin y = x + 1; end;")
     (folder / "bad").write_text("func main(x : fix<8,0>) y : fix<8,0> =\nbegin y = z; end;")
@@ -155,6 +164,9 @@ def checks(silc: Path, changes: int, told: Counter[str]) -> Iterator[tuple[str, 
     """Each check by its name."""
     for words, status, line in lines():
         yield f"silc_same {' '.join(words)}", partial(check_line, words=words, status=status, line=line)
+    for folder, shown in (("ways", True), ("refused", False)):
+        for listing in sorted((HERE / folder).glob("*.listing")):
+            yield str(listing.relative_to(HERE)), partial(check_listing, listing=listing, shown=shown)
     for source, datapath in examples():
         yield str(datapath.relative_to(ROOT)), \
             partial(check_example, silc=silc, source=source, datapath=datapath, changes=changes, told=told)

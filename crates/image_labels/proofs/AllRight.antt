@@ -14,7 +14,7 @@ use Rattle.plan_soundness.specs.Samples.{past}
 use Rattle.plan_soundness.specs.Private.Cells.{cell_in}
 use Rattle.image_labels.specs.declared.label.Certificate.{Certificate}
 use Rattle.image_labels.specs.declared.label.Label.{Label}
-use Rattle.image_labels.specs.declared.label.Label.TheVariants.{Unknown, Signal, Address}
+use Rattle.image_labels.specs.declared.label.Label.TheVariants.{Unknown, Signal, Address, Constant}
 use Rattle.image_labels.specs.Labels.{turn_of, register_label, cell_label}
 use Rattle.image_labels.specs.Labelled.{IsStart}
 use Rattle.image_labels.specs.Run.{Run, rows_of, Says, IsRight}
@@ -49,6 +49,7 @@ module _ {g : Graph} {image : Image} {certificate : Certificate} (run : Run g im
       none : 0 * image.unroll + s ≡ s
       none = omega arith
   start_by place (Address cells x) last is = absurd is
+  start_by place (Constant word) last is = is.0
 
   -- the label at the end of a turn is that at the start of the next
   turn_by : (k : ℕ) (place : Place) (label last : Label) (v : ℤ)
@@ -65,6 +66,7 @@ module _ {g : Graph} {image : Image} {certificate : Certificate} (run : Run g im
       later : k * image.unroll + (s + image.unroll) ≡ suc k * image.unroll + s
       later = omega (arith, one_more)
   turn_by k place (Address cells x) last v is says = absurd is
+  turn_by k place (Constant word) last v is says = subst (λ l. Says run k l v) is.1 says
 
   first_right : IsRight run 0 0
   first_right = record {

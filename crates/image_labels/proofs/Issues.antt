@@ -1,11 +1,12 @@
 -- What an issue comes to is what its label says, where the labels of its cycle are right.
-use Rattle.std.proofs.Common.{◌≡◌, ℕ, ◌+◌, ◌*◌, ◌/◌, ◌<◌, inl, inr, refl, sym, ap, ap₂, ◌∙◌, arith}
+use Rattle.std.proofs.Common.{◌≡◌, ℕ, ◌+◌, ◌-◌, ◌*◌, ◌/◌, ◌<◌, ◌≤◌, ⊎_elim, inl, inr, refl, sym, ap, ap₂, ◌∙◌, arith}
 use Rattle.std.proofs.Common.{length, ℤ, pos, negsuc, Option, Some, None, subst, slice_get, List}
 use Rattle.std.specs.Prelude.{IsSomeAnd, ◌-ℤ◌}
 use Rattle.std.specs.Int.{int_rem_euclid}
 use Rattle.std.proofs.lemmas.Int.{ints}
 use Rattle.std.proofs.lemmas.Option.{get_or_from_slice_get, slice_get_within}
 use Rattle.lists.specs.Rows.{Rows}
+use Rattle.fix_word.specs.Words.{IsWord}
 use Rattle.fix_word.specs.declared.operation.Op.{Op}
 use Rattle.fix_word.specs.declared.operation.Op.TheVariants as op
 use Rattle.operations.specs.Operations.{operands}
@@ -30,12 +31,16 @@ use Rattle.plan_soundness.proofs.Lines.{addr-cell}
 use Rattle.plan_soundness.proofs.Meanings.{value-meaning}
 use Rattle.image_labels.specs.declared.label.Certificate.{Certificate}
 use Rattle.image_labels.specs.declared.label.Label.{Label}
-use Rattle.image_labels.specs.declared.label.Label.TheVariants.{Unknown, Signal, Address}
-use Rattle.image_labels.specs.Labels.{turn_of, word_in, issue_label, operand_label}
-use Rattle.image_labels.specs.Labelled.{IsFit, IsLabelOf, IsOfNode, IsLoad, IsAddress}
+use Rattle.image_labels.specs.declared.label.Label.TheVariants.{Unknown, Signal, Address, Constant}
+use Rattle.image_labels.specs.Labels.{turn_of, word_in, issue_label, operand_label, cell_label}
+use Rattle.image_labels.specs.Rules.{IsCommutative, Tells, IsNarrow}
+use Rattle.image_labels.specs.Labelled.{sample_at, ReadsOperand, ReadsInOrder, ReadsExchanged, IsFit, IsLabelOf}
+use Rattle.image_labels.specs.Labelled.{IsOfNode}
+use Rattle.image_labels.specs.Labelled.{IsLoad, IsKept, IsMoved, IsConst, IsAddress}
 use Rattle.image_labels.specs.Run.{Run, rows_of, Says, IsRight}
 use Rattle.image_labels.proofs.Frames.{later_cell}
 use Rattle.image_labels.proofs.NodeWords.{word_is as node_word_is, node_sound, edge_sound, is_of_graph, sample_ago}
+use Rattle.image_labels.proofs.Rules.{meaning_exchanged, kept, word_bits, constant_at}
 use Rattle.image_labels.proofs.Turns.{fit_of, sample_is, sample_below, row_is}
 
 pos_of : (n : ℕ) (z : ℤ) → IsBelow n z → z ≡ pos (to_nat z)
@@ -44,6 +49,18 @@ pos_of n (negsuc k) h = absurd h
 
 now_too : (k n : ℕ) → pos (k + (past + n)) -ℤ pos past ≡ pos (k + n)
 now_too k n = omega (arith, ints)
+
+one_cell : (m n x y : ℕ) → Address m x ≡ Address n y → x ≡ y
+one_cell m n x y e = cc
+
+two_operands : (o : Op) → IsCommutative o → (q : ℕ) → q < 2 → q < operands o
+two_operands op.Add of q less = less
+two_operands op.Mul of q less = less
+two_operands op.Eq of q less = less
+two_operands op.Ne of q less = less
+two_operands op.And of q less = less
+two_operands op.Or of q less = less
+two_operands _ of q less = absurd of
 
 load_is_memory : (o : Op) → o ≡ op.Load → IsMemory o
 load_is_memory o is = subst IsMemory (sym is) (tt {0})
@@ -134,36 +151,88 @@ module _ {g : Graph} {image : Image} {certificate : Certificate} (run : Run g im
     abbrev n : ℕ
     n = k * image.unroll + c / image.period
 
+    in-n : n < length run.stream
+    in-n = sample_below run k c in-run
+
+    -- a sample of the turn up to this cycle's is one of the run
+    in_samples : (s : ℕ) → s ≤ sample_at image c → k * image.unroll + s < past + length run.stream
+    in_samples s le = omega (arith, le, in-n)
+
+    late_sample : (s : ℕ) → past ≤ s → past ≤ k * image.unroll + s
+    late_sample s le = omega (arith, le)
+
+    -- a label that tells a word says it
+    tells_says : (label : Label) (value : ℤ) (v s : ℕ)
+        → Tells g label v s
+        → s ≤ sample_at image c
+        → Says run k label value
+        → value ≡ run.words v (pos (k * image.unroll + s) -ℤ pos past)
+    tells_says Unknown value v s tells le says = absurd tells
+    tells_says (Signal w r) value v s tells le says =
+        says ∙ ap₂ (λ (w r : ℕ). run.words w (pos (k * image.unroll + r) -ℤ pos past)) tells.0 tells.1
+    tells_says (Address cells x) value v s tells le says = absurd tells
+    tells_says (Constant word) value v s tells le says =
+        says
+        ∙ sym (constant_at g run.stream run.words run.sound run.solves v word (k * image.unroll + s) tells.0
+        (late_sample s tells.1) (in_samples s le))
+
+    graph_op : (v sample : ℕ) → IsOfNode g image certificate c issue v sample → IsOfGraph issue.op
+    graph_op v sample of =
+        subst IsOfGraph (sym of.op)
+        (is_of_graph (node_of g v).op
+        (node_sound g run.stream run.words run.sound run.solves v of.there).operation)
+
+    -- the word of operand q of node v
+    abbrev operand_word : (v q : ℕ) → ℤ
+    operand_word v q = run.words (edge_of (node_of g v) q).node (pos n -ℤ pos (edge_of (node_of g v) q).delay)
+
+    reads_word : (v port q : ℕ)
+        → v < length g.nodes
+        → q < operands (node_of g v).op
+        → port < operands issue.op
+        → ReadsOperand g image certificate (sample_at image c) c issue (node_of g v) port q
+        → operand micro log t issue port ≡ operand_word v q
+    reads_word v port q in-v in-q in-port reads =
+        tells_says (operand_label image certificate c issue port) (operand micro log t issue port)
+        (edge_of (node_of g v) q).node (sample_at image c - (edge_of (node_of g v) q).delay) reads
+        (omega arith) (operand_says port in-port)
+        ∙ ap (run.words (edge_of (node_of g v) q).node)
+        (sample_ago (k * image.unroll) (c / image.period) (edge_of (node_of g v) q).delay
+        (edge_sound g run.stream run.words run.sound run.solves v q in-v in-q).delay)
+
+    -- what the issue's operands come to is what the node's do
+    reads_same : (v sample : ℕ)
+        → IsOfNode g image certificate c issue v sample
+        → meaning_by (node_of g v).op (node_of g v) run.stream n (operand micro log t issue) ≡ run.words v (pos n)
+    reads_same v sample of =
+        ⊎_elim
+        (λ (order : ReadsInOrder g image certificate (sample_at image c) c issue (node_of g v)).
+        node_word_is g run.stream run.words run.sound run.solves v n (operand micro log t issue) of.there in-n
+        (λ q in-q. let in-issue : q < operands issue.op = subst (λ o. q < operands o) (sym of.op) in-q in
+        reads_word v q q of.there in-q in-issue (order q in-issue)))
+        (λ (exchanged : ReadsExchanged g image certificate (sample_at image c) c issue (node_of g v)).
+        let two : (q : ℕ) → q < 2 → q < operands issue.op = λ q less. two_operands issue.op exchanged.commutes q less in
+        let node_two : (q : ℕ) → q < 2 → q < operands (node_of g v).op =
+        λ q less. subst (λ o. q < operands o) of.op (two q less) in
+        meaning_exchanged (node_of g v).op (node_of g v) run.stream n (operand micro log t issue) (operand_word v)
+        (subst IsCommutative of.op exchanged.commutes)
+        (reads_word v 0 1 of.there (node_two 1 (omega arith)) (two 0 (omega arith)) exchanged.first)
+        (reads_word v 1 0 of.there (node_two 0 (omega arith)) (two 1 (omega arith)) exchanged.second)
+        ∙ node_word_is g run.stream run.words run.sound run.solves v n (operand_word v) of.there in-n
+        (λ q in-q. refl))
+        of.operands
+
     node_says : (v sample : ℕ)
         → IsOfNode g image certificate c issue v sample
         → Says run k (Signal v sample) (value micro z log t issue)
     unfolding value
     node_says v sample of =
-        let in-n : n < length run.stream = sample_below run k c in-run in
-        value-meaning issue.op micro z run.stream log t n issue (node_of g v) graph (λ input. row_is run k c in-run)
-        of.arg of.fmt
+        value-meaning issue.op micro z run.stream log t n issue (node_of g v) (graph_op v sample of)
+        (λ input. row_is run k c in-run) of.arg of.fmt
         ∙ ap (λ o. meaning_by o (node_of g v) run.stream n (operand micro log t issue)) of.op
-        ∙ node_word_is g run.stream run.words run.sound run.solves v n (operand micro log t issue) of.there in-n
-        (λ q in-q. reads q in-q)
+        ∙ reads_same v sample of
         ∙ ap (run.words v) (sym (ap (λ s. pos (k * image.unroll + s) -ℤ pos past) of.now
         ∙ now_too (k * image.unroll) (c / image.period)))
-      where
-        graph : IsOfGraph issue.op
-        graph =
-            subst IsOfGraph (sym of.op)
-            (is_of_graph (node_of g v).op
-            (node_sound g run.stream run.words run.sound run.solves v of.there).operation)
-
-        reads : (q : ℕ)
-            → q < operands (node_of g v).op
-            → operand micro log t issue q
-            ≡ run.words (edge_of (node_of g v) q).node (pos n -ℤ pos (edge_of (node_of g v) q).delay)
-        reads q in-q =
-            let in-issue : q < operands issue.op = subst (λ o. q < operands o) (sym of.op) in-q in
-            subst (λ l. Says run k l (operand micro log t issue q)) (of.operands q in-issue) (operand_says q in-issue)
-            ∙ ap (run.words (edge_of (node_of g v) q).node)
-            (sample_ago (k * image.unroll) (c / image.period) (edge_of (node_of g v) q).delay
-            (edge_sound g run.stream run.words run.sound run.solves v q of.there in-q).delay)
 
     fit : IsFit g image certificate c issue
     fit = fit_of run c issue below among
@@ -179,13 +248,53 @@ module _ {g : Graph} {image : Image} {certificate : Certificate} (run : Run g im
         let m : ℕ = length (unit_of micro issue.unit).cells in
         let address : operand micro log t issue 0 ≡ pos (cell_in m 0 x (k * image.unroll)) =
         address_says x memory ram.2 in
+        let same : of.cell ≡ x = one_cell of.cells m of.cell x (sym of.address ∙ ram.2) in
+        let holds : cell_label image certificate issue.unit x c ≡ label =
+        subst (λ x. cell_label image certificate issue.unit x c ≡ label) same of.holds in
         let is : value_by issue.op micro z log t issue
         ≡ Content micro z (Cell issue.unit (cell_in m 0 x (k * image.unroll))) t =
         ap (λ o. value_by o micro z log t issue) of.op
         ∙ ap (λ a. Content micro z (Cell issue.unit (to_nat a)) t) address in
         subst (Says run k label) (sym is)
         (subst (λ l. Says run k l (Content micro z (Cell issue.unit (cell_in m 0 x (k * image.unroll))) t))
-        (of.cell m x ram.2) (right.cells issue.unit x on.there ram.1))
+        holds (right.cells issue.unit x on.there ram.1))
+
+    narrow_says : (label : Label) (w : ℕ) (value : ℤ)
+        → IsNarrow g (sample_at image c) w label
+        → Says run k label value
+        → IsWord w value
+    narrow_says Unknown w value bits says = absurd bits
+    narrow_says (Signal v s) w value bits says =
+        subst (IsWord w) (sym says)
+        (word_bits g run.stream run.words run.sound run.solves v w (k * image.unroll + s) bits.0
+        (omega (arith, bits.1)) (in_samples s bits.2))
+    narrow_says (Address cells x) w value bits says = absurd bits
+    narrow_says (Constant word) w value bits says = subst (IsWord w) (sym says) bits
+
+    kept_says : (label : Label)
+        → IsKept g image certificate c issue label
+        → Says run k label (value micro z log t issue)
+    unfolding value
+    kept_says label of =
+        let some : 0 < operands issue.op = subst (λ o. 0 < operands o) (sym of.op) (omega arith) in
+        let reads : Says run k label (operand micro log t issue 0) =
+        subst (λ l. Says run k l (operand micro log t issue 0)) of.operand (operand_says 0 some) in
+        let is : value_by issue.op micro z log t issue ≡ operand micro log t issue 0 =
+        ap (λ o. value_by o micro z log t issue) of.op
+        ∙ kept issue.fmt (operand micro log t issue 0) (operand micro log t issue 1) (operand micro log t issue 2)
+        of.shift of.width.narrowest
+        (narrow_says label issue.fmt.width (operand micro log t issue 0) of.bits reads) in
+        subst (Says run k label) (sym is) reads
+
+    moved_says : (label : Label)
+        → IsMoved g image certificate c issue label
+        → Says run k label (value micro z log t issue)
+    moved_says label (inl of) = load_says label of
+    moved_says label (inr of) = kept_says label of
+
+    const_says : (word : ℤ) → IsConst issue word → Says run k (Constant word) (value micro z log t issue)
+    unfolding value
+    const_says word of = ap (λ o. value_by o micro z log t issue) of.0 ∙ of.1
 
     addr_says : (cells x : ℕ)
         → IsAddress image c issue cells x
@@ -208,8 +317,10 @@ module _ {g : Graph} {image : Image} {certificate : Certificate} (run : Run g im
         → Says run k label (value micro z log t issue)
     label_says Unknown of = tt {0}
     label_says (Signal v sample) (inl of) = node_says v sample of
-    label_says (Signal v sample) (inr of) = load_says (Signal v sample) of
+    label_says (Signal v sample) (inr of) = moved_says (Signal v sample) of
     label_says (Address cells x) of = addr_says cells x of
+    label_says (Constant word) (inl of) = const_says word of
+    label_says (Constant word) (inr of) = moved_says (Constant word) of
 
     -- what it comes to
     pub issue_says :

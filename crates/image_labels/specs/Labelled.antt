@@ -1,6 +1,7 @@
 -- A labelled image: its labels fit the graph, and its words have no conflict by themselves.
-use Rattle.std.specs.Prelude.{◌≡◌, ℕ, ◌+◌, ◌-◌, ◌/◌, ◌%◌, ◌<◌, ◌==◌, ◌⊎◌, true, [], length, ℤ, All, count_by}
+use Rattle.std.specs.Prelude.{◌≡◌, ℕ, ◌+◌, ◌-◌, ◌/◌, ◌%◌, ◌<◌, ◌==◌, ◌⊎◌, true, [], length, ℤ, pos, All, count_by}
 use Rattle.std.specs.Prelude.{Some, None, find, IsSome}
+use Rattle.fix_word.specs.Words.{IsWidth}
 use Rattle.fix_word.specs.declared.operation.Op.TheVariants as op
 use Rattle.operations.specs.Operations.{operands}
 use Rattle.operations.specs.Ranges.{to_nat}
@@ -8,6 +9,7 @@ use Rattle.signal_graph.specs.Rules.{word_before}
 use Rattle.signal_graph.specs.GraphRules.{first_output}
 use Rattle.signal_graph.specs.GraphSolves.{node_of}
 use Rattle.signal_graph.specs.declared.graph.Graph.{Graph}
+use Rattle.signal_graph.specs.declared.graph.Node.{Node}
 use Rattle.plan_core.specs.Operands.{edge_of}
 use Rattle.micro_image.specs.declared.image.Enable.{Enable}
 use Rattle.micro_image.specs.declared.image.Issue.{Issue}
@@ -21,8 +23,9 @@ use Rattle.micro_image.specs.Operations.{gives}
 use Rattle.plan_soundness.specs.Samples.{past}
 use Rattle.plan_soundness.specs.Private.Cells.{cell_in}
 use Rattle.image_labels.specs.declared.label.Label.{Label}
-use Rattle.image_labels.specs.declared.label.Label.TheVariants.{Unknown, Signal, Address}
+use Rattle.image_labels.specs.declared.label.Label.TheVariants.{Unknown, Signal, Address, Constant}
 use Rattle.image_labels.specs.declared.label.Certificate.{Certificate}
+use Rattle.image_labels.specs.Rules.{IsCommutative, Tells, IsNarrow}
 use Rattle.image_labels.specs.Labels.{turn_of, word_in, delay_on, issued_in, ended_in, issue_label, register_label}
 use Rattle.image_labels.specs.Labels.{operand_label, cell_label}
 
@@ -37,6 +40,11 @@ module _ (image : Image) where
     pub size : cells ≡ modulus_of (microprogram_of image) issue.unit
     pub some : 0 < cells
     pub cell : x ≡ cell_in cells 0 (to_nat issue.arg) (c / image.period)
+
+  -- unit u is not busy in cycle c with an issue of an earlier cycle of the turn
+  abbrev pub IsFree : (c u : ℕ) → Type 0
+  IsFree c u =
+      (b : ℕ) → b < c → c < b + (unit_of (microprogram_of image) u).gap → issued_in (word_in image b) u ≡ None
 
   -- unit u has a result in cycle c
   abbrev pub HasResult : (c u : ℕ) → Type 0
@@ -57,11 +65,16 @@ abbrev pub PutsOn : Word → (u j : ℕ) → Type 0
 PutsOn word u j =
     (issue : Issue) × (issued_in word u ≡ Some issue) × (issue.op ≡ op.Output) × (to_nat issue.arg ≡ j)
 
+-- the issue gives this word
+abbrev pub IsConst : Issue → (word : ℤ) → Type 0
+IsConst issue word = (issue.op ≡ op.Const) × (issue.arg ≡ word)
+
 -- an output of this number is issued in this sample of a turn
 pub record IsRowWord (image : Image) (sample j : ℕ) : Type 0 where
   pub cycle : ℕ
   pub unit : ℕ
   pub there : cycle < turn_of image
+  pub on : unit < length image.units
   pub now : cycle / image.period ≡ sample
   pub puts : PutsOn (word_in image cycle) unit j
 
@@ -76,9 +89,10 @@ module _ (image : Image) (certificate : Certificate) where
   -- the issue of cycle c loads a cell with this label
   pub record IsLoad (c : ℕ) (issue : Issue) (label : Label) : Type 0 where
     pub op : issue.op ≡ op.Load
-    pub cell : (cells x : ℕ)
-        → operand_label image certificate c issue 0 ≡ Address cells x
-        → cell_label image certificate issue.unit x c ≡ label
+    pub cells : ℕ
+    pub cell : ℕ
+    pub address : operand_label image certificate c issue 0 ≡ Address cells cell
+    pub holds : cell_label image certificate issue.unit cell c ≡ label
 
   -- the issue of cycle c addresses a cell of its ram
   abbrev pub IsInRam : (c : ℕ) → Issue → Type 0
@@ -89,6 +103,22 @@ module _ (image : Image) (certificate : Certificate) where
       ≡ Address (length (unit_of (microprogram_of image) issue.unit).cells) x)
 
 module _ (g : Graph) (image : Image) (certificate : Certificate) where
+  -- in this sample the issue of cycle c reads operand q of the node at this port
+  abbrev pub ReadsOperand : (sample c : ℕ) → Issue → Node → (port q : ℕ) → Type 0
+  ReadsOperand sample c issue node port q =
+      Tells g (operand_label image certificate c issue port) (edge_of node q).node (sample - (edge_of node q).delay)
+
+  -- the issue of cycle c reads the operands of the node, each at its port
+  abbrev pub ReadsInOrder : (sample c : ℕ) → Issue → Node → Type 0
+  ReadsInOrder sample c issue node =
+      (q : ℕ) → q < operands issue.op → ReadsOperand sample c issue node q q
+
+  -- it reads its two operands exchanged, and gives the same
+  pub record ReadsExchanged (sample c : ℕ) (issue : Issue) (node : Node) : Type 0 where
+    pub commutes : IsCommutative issue.op
+    pub first : ReadsOperand sample c issue node 0 1
+    pub second : ReadsOperand sample c issue node 1 0
+
   -- the issue of cycle c does what node v does in its sample, and reads that node's operands
   pub record IsOfNode (c : ℕ) (issue : Issue) (v sample : ℕ) : Type 0 where
     pub there : v < length g.nodes
@@ -96,16 +126,27 @@ module _ (g : Graph) (image : Image) (certificate : Certificate) where
     pub fmt : issue.fmt ≡ (node_of g v).fmt
     pub arg : issue.arg ≡ (node_of g v).arg
     pub now : sample ≡ sample_at image c
-    pub operands : (q : ℕ)
-        → q < operands issue.op
-        → operand_label image certificate c issue q
-        ≡ Signal (edge_of (node_of g v) q).node (sample_at image c - (edge_of (node_of g v) q).delay)
+    pub operands : ReadsInOrder (sample_at image c) c issue (node_of g v)
+        ⊎ ReadsExchanged (sample_at image c) c issue (node_of g v)
+
+  -- the issue of cycle c is a pass that keeps all bits of a word with this label
+  pub record IsKept (c : ℕ) (issue : Issue) (label : Label) : Type 0 where
+    pub op : issue.op ≡ op.Pass
+    pub shift : issue.fmt.shift ≡ pos 0
+    pub width : IsWidth issue.fmt.width
+    pub operand : operand_label image certificate c issue 0 ≡ label
+    pub bits : IsNarrow g (sample_at image c) issue.fmt.width label
+
+  -- the issue of cycle c loads or keeps a word with this label
+  abbrev pub IsMoved : (c : ℕ) → Issue → Label → Type 0
+  IsMoved c issue label = IsLoad image certificate c issue label ⊎ IsKept c issue label
 
   -- the label is one of the issue of cycle c
   abbrev pub IsLabelOf : (c : ℕ) → Issue → Label → Type 0
   IsLabelOf c issue Unknown = Unit {0}
-  IsLabelOf c issue (Signal v sample) = IsOfNode c issue v sample ⊎ IsLoad image certificate c issue (Signal v sample)
+  IsLabelOf c issue (Signal v sample) = IsOfNode c issue v sample ⊎ IsMoved c issue (Signal v sample)
   IsLabelOf c issue (Address cells x) = IsAddress image c issue cells x
+  IsLabelOf c issue (Constant word) = IsConst issue word ⊎ IsMoved c issue (Constant word)
 
   -- an output puts the word of its node, in its sample
   pub record IsPut (c : ℕ) (issue : Issue) : Type 0 where
@@ -117,10 +158,7 @@ module _ (g : Graph) (image : Image) (certificate : Certificate) where
   pub record IsFit (c : ℕ) (issue : Issue) : Type 0 where
     pub label : IsLabelOf c issue (issue_label certificate c issue.unit)
     pub ends : c + delay_on image issue.unit < turn_of image
-    pub free : (b : ℕ)
-        → b < c
-        → c < b + (unit_of (microprogram_of image) issue.unit).gap
-        → issued_in (word_in image b) issue.unit ≡ None
+    pub free : IsFree image c issue.unit
     pub in_ram : IsMemory issue.op → IsInRam image certificate c issue
     pub put : issue.op ≡ op.Output → IsPut c issue
 
@@ -136,6 +174,7 @@ module _ (g : Graph) (image : Image) (certificate : Certificate) where
   IsStart place (Signal v sample) last =
       IsWordBefore g v sample (initial (microprogram_of image) place) × (last ≡ Signal v (sample + image.unroll))
   IsStart place (Address cells x) last = ⊥
+  IsStart place (Constant word) last = (initial (microprogram_of image) place ≡ word) × (last ≡ Constant word)
 
   -- a register comes round after so many cycles
   abbrev pub IsRegisterStart : (turn u p r : ℕ) → Type 0

@@ -12,7 +12,7 @@ use Rattle.micro_image.specs.declared.image.Image.{Image}
 use Rattle.micro_image.specs.Fields.{nth, no_word, microprogram_of, delay_of}
 use Rattle.micro_image.specs.Log.{Register, same_place}
 use Rattle.image_labels.specs.declared.label.Label.{Label}
-use Rattle.image_labels.specs.declared.label.Label.TheVariants.{Unknown, Signal, Address}
+use Rattle.image_labels.specs.declared.label.Label.TheVariants.{Unknown, Signal, Address, Constant}
 use Rattle.image_labels.specs.declared.label.Certificate.{Certificate}
 
 -- the cycles of a turn, after which the microwords repeat
@@ -72,6 +72,7 @@ abbrev pub is_address : Label → (x : ℕ) → Bool
 is_address (Address cells cell) x = cell == x
 is_address Unknown x = false
 is_address (Signal node sample) x = false
+is_address (Constant word) x = false
 
 -- the label of cell x after what ends on its ram, issued in cycle b
 abbrev pub stored_by : Op → Image → Certificate → (b x : ℕ) → Issue → Label → Label

@@ -1,3 +1,5 @@
 pub mod Labels
+pub mod Rules
 pub mod Labelled
+pub mod Private
 pub mod Run

@@ -13,7 +13,7 @@ use Rattle.micro_image.specs.Valid.{IsValid}
 use Rattle.plan_soundness.specs.Samples.{past}
 use Rattle.plan_soundness.specs.Private.Cells.{cell_in}
 use Rattle.image_labels.specs.declared.label.Label.{Label}
-use Rattle.image_labels.specs.declared.label.Label.TheVariants.{Unknown, Signal, Address}
+use Rattle.image_labels.specs.declared.label.Label.TheVariants.{Unknown, Signal, Address, Constant}
 use Rattle.image_labels.specs.declared.label.Certificate.{Certificate}
 use Rattle.image_labels.specs.Labels.{turn_of, register_label, cell_label}
 use Rattle.image_labels.specs.Labelled.{IsLabelled}
@@ -36,6 +36,7 @@ module _ {g : Graph} {image : Image} {certificate : Certificate} (run : Run g im
   Says k Unknown value = Unit {0}
   Says k (Signal v sample) value = value ≡ run.words v (pos (k * image.unroll + sample) -ℤ pos past)
   Says k (Address cells x) value = value ≡ pos (cell_in cells 0 x (k * image.unroll))
+  Says k (Constant word) value = value ≡ word
 
   -- at the start of cycle c of turn k the labels say what registers and cells hold
   pub record IsRight (k c : ℕ) : Type 0 where

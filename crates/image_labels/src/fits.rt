@@ -1,27 +1,26 @@
 //! Whether the issues of a cycle fit their labels.
-ghost use Rattle.std.specs.Prelude.{◌≡◌, ◌<◌, ◌≤◌, ◌-◌, ◌+◌, ◌*◌, ℕ, length, None, IsTrue};
-ghost use Rattle.operations.specs.Operations.{operands};
+ghost use Rattle.std.specs.Prelude.{◌≡◌, ◌<◌, ◌≤◌, ◌+◌, ◌*◌, ◌⊎◌, ◌↔◌, length, IsTrue};
 ghost use Rattle.signal_graph.specs.GraphRules.{IsGraph, first_output as first_output_in};
 ghost use Rattle.signal_graph.specs.GraphSolves.{node_of};
-ghost use Rattle.plan_core.specs.Operands.{edge_of, no_edge};
 ghost use Rattle.fix_word.specs.declared.operation.Op.TheVariants.{Output};
 ghost use Rattle.operations.specs.Ranges.{to_nat};
-ghost use Rattle.micro_image.specs.Fields.{nth};
 ghost use Rattle.micro_image.specs.Conflict.{IsMemory};
-ghost use Rattle.micro_image.specs.Fields.{unit_of, microprogram_of};
 ghost use Rattle.micro_image.specs.Valid.{IsValid};
 ghost use Rattle.image_labels.specs.declared.label.Label.TheVariants.{Signal};
-ghost use Rattle.image_labels.specs.Labels.{turn_of, word_in as word_of, issued_in as issued, operand_label as label_of_operand};
-ghost use Rattle.image_labels.specs.Labelled.{sample_at as sample_of, IsOfNode, IsLoad, IsAddress, IsLabelOf, IsInRam, IsPut, IsFit};
+ghost use Rattle.image_labels.specs.Labels.{turn_of, delay_on as delay_of, issue_label as label_of_issue};
+ghost use Rattle.image_labels.specs.Private.Checked.{IsIssuedBefore};
+ghost use Rattle.image_labels.specs.Labelled.{sample_at as sample_of, ReadsInOrder, ReadsExchanged, IsFree, IsOfNode, IsLoad, IsKept, IsMoved, IsConst, IsAddress, IsLabelOf, IsInRam, IsPut, IsFit};
 
 use crate::hardware::{
     cell_in, cells_on, delay_on, gap_on, issued_in, modulus_of, number_of, word_in,
 };
 use crate::label::{Certificate, Label};
-use crate::labels::{cell_label, is_signal, issue_label, operand_label};
+use crate::labels::{cell_label, is_signal, issue_label, operand_label, same_label};
+use crate::narrow::{is_narrow, is_width};
+use crate::operands::reads_operands;
 use fix_word::{Format, Op};
-use micro_image::{Image, Issue, reads};
-use signal_graph::{Edge, Edges, Graph, Node};
+use micro_image::{Image, Issue};
+use signal_graph::{Graph, Node};
 
 /// The number of the sample that a cycle of a turn is in.
 pub fn sample_at(image: &Image, cycle: u16) -> u32
@@ -31,59 +30,56 @@ pub fn sample_at(image: &Image, cycle: u16) -> u32
     1024 + u32::from(cycle / image.period)
 }
 
-pub fn edge_at(edges: &Edges, port: u32) -> Edge
-    ensures { result ≡ nth edges.now port no_edge }
-{
-    let port = port as usize;
-    if port < edges.len() {
-        edges[port]
-    } else {
-        Edge { node: 0, delay: 0 }
-    }
-}
-
 fn same_format(a: Format, b: Format) -> bool
-    ensures { IsTrue result → a ≡ b }
+    ensures { IsTrue result ↔ (a ≡ b) }
 {
     a == b
 }
 
 fn same_operation(a: Op, b: Op) -> bool
-    ensures { IsTrue result → a ≡ b }
+    ensures { IsTrue result ↔ (a ≡ b) }
 {
     a == b
 }
 
-/// Whether an issue reads a node's operands in a sample.
-fn reads_operands(
+/// Whether the operation, the format and the argument of an issue are those of a node.
+fn does_same(issue: &Issue, node: &Node) -> bool
+    ensures { IsTrue result
+        ↔ ((issue.now.op ≡ node.now.op) × (issue.now.fmt ≡ node.now.fmt) × (issue.now.arg ≡ node.now.arg)) }
+{
+    same_operation(issue.op, node.op) && same_format(issue.fmt, node.fmt) && issue.arg == node.arg
+}
+
+/// Whether there is a node of this number, and the operation, the format and the argument of an issue are those of it.
+fn does_at(graph: &Graph, issue: &Issue, node: u32) -> bool
+    ensures { IsTrue result
+        ↔ ((node < length graph.now.nodes)
+        × (issue.now.op ≡ (node_of graph.now node).op)
+        × (issue.now.fmt ≡ (node_of graph.now node).fmt)
+        × (issue.now.arg ≡ (node_of graph.now node).arg)) }
+{
+    let v = node as usize;
+    v < graph.nodes.len() && does_same(issue, &graph.nodes[v])
+}
+
+/// Whether an issue reads the operands of a node in a sample.
+fn reads_node(
+    graph: &Graph,
     image: &Image,
     certificate: &Certificate,
+    sample: u32,
     cycle: u16,
     issue: &Issue,
-    node: &Node,
-    sample: u32,
+    node: u32,
 ) -> bool
-    requires { cycle ≤ length image.now.words }
+    requires node { node < length graph.now.nodes }
+    requires cycle { cycle ≤ length image.now.words }
     ensures { IsTrue result
-        → (q : ℕ)
-        → q < operands issue.now.op
-        → label_of_operand image.now certificate.now cycle issue.now q
-        ≡ Signal (edge_of node.now q).node (sample - (edge_of node.now q).delay) }
+        ↔ (ReadsInOrder graph.now image.now certificate.now sample cycle issue.now (node_of graph.now node)
+        ⊎ ReadsExchanged graph.now image.now certificate.now sample cycle issue.now (node_of graph.now node)) }
 {
-    for port in 0..3u32 {
-        if (port as usize) < reads(issue.op) {
-            let edge = edge_at(&node.edges, port);
-            let label = operand_label(image, certificate, cycle, issue, port);
-            if !is_signal(
-                label,
-                edge.node,
-                sample.saturating_sub(u32::from(edge.delay)),
-            ) {
-                return false;
-            }
-        }
-    }
-    true
+    let node = &graph.nodes[node as usize];
+    reads_operands(graph, image, certificate, sample, cycle, issue, node)
 }
 
 /// Whether an issue does what a node does in a sample.
@@ -99,40 +95,31 @@ fn is_of_node(
     requires valid { IsValid image.now }
     requires cycle { cycle ≤ length image.now.words }
     ensures { IsTrue result
-        → IsOfNode graph.now image.now certificate.now cycle issue.now node sample }
+        ↔ IsOfNode graph.now image.now certificate.now cycle issue.now node sample }
 {
-    let v = node as usize;
     let now = sample_at(image, cycle);
-    if v < graph.nodes.len() && sample == now {
-        let node = &graph.nodes[v];
-        same_operation(issue.op, node.op)
-            && same_format(issue.fmt, node.fmt)
-            && issue.arg == node.arg
-            && reads_operands(image, certificate, cycle, issue, node, now)
-    } else {
-        false
+    if sample != now {
+        return false;
     }
+    does_at(graph, issue, node) && reads_node(graph, image, certificate, now, cycle, issue, node)
 }
 
-/// Whether an issue loads a cell with this word.
+/// Whether an issue loads a cell with this label.
 fn is_load(
     image: &Image,
     certificate: &Certificate,
     cycle: u16,
     issue: &Issue,
-    node: u32,
-    sample: u32,
+    label: Label,
 ) -> bool
     requires { cycle ≤ length image.now.words }
-    ensures { IsTrue result
-        → IsLoad image.now certificate.now cycle issue.now (Signal node sample) }
+    ensures { IsTrue result ↔ IsLoad image.now certificate.now cycle issue.now label }
 {
     match issue.op {
         Op::Load => match operand_label(image, certificate, cycle, issue, 0) {
-            Label::Address(_, x) => is_signal(
+            Label::Address(_, x) => same_label(
                 cell_label(image, certificate, u32::from(issue.unit), x, cycle),
-                node,
-                sample,
+                label,
             ),
             _ => false,
         },
@@ -140,10 +127,62 @@ fn is_load(
     }
 }
 
+/// Whether an issue is a pass that keeps all bits of a word with this label.
+fn is_kept(
+    graph: &Graph,
+    image: &Image,
+    certificate: &Certificate,
+    cycle: u16,
+    issue: &Issue,
+    label: Label,
+) -> bool
+    requires valid { IsValid image.now }
+    requires cycle { cycle ≤ length image.now.words }
+    ensures { IsTrue result ↔ IsKept graph.now image.now certificate.now cycle issue.now label }
+{
+    match issue.op {
+        Op::Pass => {
+            let width = issue.fmt.width;
+            issue.fmt.shift == 0
+                && is_width(width)
+                && same_label(operand_label(image, certificate, cycle, issue, 0), label)
+                && is_narrow(graph, sample_at(image, cycle), width, label)
+        }
+        _ => false,
+    }
+}
+
+/// Whether an issue loads or keeps a word with this label.
+fn is_moved(
+    graph: &Graph,
+    image: &Image,
+    certificate: &Certificate,
+    cycle: u16,
+    issue: &Issue,
+    label: Label,
+) -> bool
+    requires valid { IsValid image.now }
+    requires cycle { cycle ≤ length image.now.words }
+    ensures { IsTrue result ↔ IsMoved graph.now image.now certificate.now cycle issue.now label }
+{
+    is_load(image, certificate, cycle, issue, label)
+        || is_kept(graph, image, certificate, cycle, issue, label)
+}
+
+/// Whether an issue gives this word.
+fn is_const(issue: &Issue, word: i64) -> bool
+    ensures { IsTrue result ↔ IsConst issue.now word }
+{
+    match issue.op {
+        Op::Const => issue.arg == word,
+        _ => false,
+    }
+}
+
 /// Whether an issue gives the address of a cell in a ram of so many.
 fn is_address(image: &Image, cycle: u16, issue: &Issue, cells: u32, x: u32) -> bool
     requires { IsValid image.now }
-    ensures { IsTrue result → IsAddress image.now cycle issue.now cells x }
+    ensures { IsTrue result ↔ IsAddress image.now cycle issue.now cells x }
 {
     match issue.op {
         Op::Addr => {
@@ -166,22 +205,25 @@ fn is_label_of(
 ) -> bool
     requires valid { IsValid image.now }
     requires cycle { cycle ≤ length image.now.words }
-    ensures { IsTrue result → IsLabelOf graph.now image.now certificate.now cycle issue.now label }
+    ensures { IsTrue result ↔ IsLabelOf graph.now image.now certificate.now cycle issue.now label }
 {
     match label {
         Label::Unknown => true,
         Label::Signal(node, sample) => {
             is_of_node(graph, image, certificate, cycle, issue, node, sample)
-                || is_load(image, certificate, cycle, issue, node, sample)
+                || is_moved(graph, image, certificate, cycle, issue, label)
         }
         Label::Address(cells, x) => is_address(image, cycle, issue, cells, x),
+        Label::Constant(word) => {
+            is_const(issue, word) || is_moved(graph, image, certificate, cycle, issue, label)
+        }
     }
 }
 
 /// Whether an issue addresses a cell of its ram.
 fn is_in_ram(image: &Image, certificate: &Certificate, cycle: u16, issue: &Issue) -> bool
     requires { cycle ≤ length image.now.words }
-    ensures { IsTrue result → IsInRam image.now certificate.now cycle issue.now }
+    ensures { IsTrue result ↔ IsInRam image.now certificate.now cycle issue.now }
 {
     let own = cells_on(image, u32::from(issue.unit));
     match operand_label(image, certificate, cycle, issue, 0) {
@@ -194,7 +236,7 @@ fn is_in_ram(image: &Image, certificate: &Certificate, cycle: u16, issue: &Issue
 fn is_access(image: &Image, certificate: &Certificate, cycle: u16, issue: &Issue) -> bool
     requires { cycle ≤ length image.now.words }
     ensures { IsTrue result
-        → IsMemory issue.now.op → IsInRam image.now certificate.now cycle issue.now }
+        ↔ (IsMemory issue.now.op → IsInRam image.now certificate.now cycle issue.now) }
 {
     match issue.op {
         Op::Load | Op::Store => is_in_ram(image, certificate, cycle, issue),
@@ -211,7 +253,7 @@ pub fn first_output(graph: &Graph) -> usize
 /// Whether a label is the word of an output in a sample.
 fn is_output(graph: &Graph, label: Label, arg: i64, sample: u32) -> bool
     requires { IsGraph graph.now }
-    ensures { IsTrue result → label ≡ Signal (first_output_in graph.now + to_nat arg) sample }
+    ensures { IsTrue result ↔ (label ≡ Signal (first_output_in graph.now + to_nat arg) sample) }
 {
     match label {
         Label::Signal(v, s) => {
@@ -231,7 +273,7 @@ fn is_put(
 ) -> bool
     requires graph { IsGraph graph.now }
     requires valid { IsValid image.now }
-    ensures { IsTrue result → IsPut graph.now image.now certificate.now cycle issue.now }
+    ensures { IsTrue result ↔ IsPut graph.now image.now certificate.now cycle issue.now }
 {
     let unit = u32::from(issue.unit);
     let label = issue_label(certificate, cycle, unit);
@@ -250,7 +292,7 @@ fn is_put_if_output(
     requires graph { IsGraph graph.now }
     requires valid { IsValid image.now }
     ensures { IsTrue result
-        → issue.now.op ≡ Output → IsPut graph.now image.now certificate.now cycle issue.now }
+        ↔ (issue.now.op ≡ Output → IsPut graph.now image.now certificate.now cycle issue.now) }
 {
     match issue.op {
         Op::Output => is_put(graph, image, certificate, cycle, issue),
@@ -258,21 +300,81 @@ fn is_put_if_output(
     }
 }
 
+/// Whether a unit has an issue so many cycles before a cycle of a turn.
+fn is_issued_before(image: &Image, cycle: u16, back: u16, unit: u32) -> bool
+    requires { cycle < length image.now.words }
+    ensures { IsTrue result ↔ IsIssuedBefore image.now cycle back unit }
+{
+    back <= cycle && issued_in(word_in(image, cycle - back), unit).is_some()
+}
+
 /// Whether a unit is not busy with an issue of an earlier cycle of the turn.
 fn is_free(image: &Image, cycle: u16, unit: u32) -> bool
     requires { cycle < length image.now.words }
-    ensures { IsTrue result
-        → (b : ℕ)
-        → b < cycle
-        → cycle < b + (unit_of (microprogram_of image.now) unit).gap
-        → issued (word_of image.now b) unit ≡ None }
+    ensures { IsTrue result ↔ IsFree image.now cycle unit }
 {
     for back in 1..u16::from(gap_on(image, unit)) {
-        if back <= cycle && issued_in(word_in(image, cycle - back), unit).is_some() {
+        if is_issued_before(image, cycle, back, unit) {
             return false;
         }
     }
     true
+}
+
+/// Whether the label of an issue is one of it.
+fn has_label(
+    graph: &Graph,
+    image: &Image,
+    certificate: &Certificate,
+    cycle: u16,
+    issue: &Issue,
+) -> bool
+    requires valid { IsValid image.now }
+    requires cycle { cycle ≤ length image.now.words }
+    ensures { IsTrue result
+        ↔ IsLabelOf graph.now image.now certificate.now cycle issue.now
+        (label_of_issue certificate.now cycle issue.now.unit) }
+{
+    let label = issue_label(certificate, cycle, u32::from(issue.unit));
+    is_label_of(graph, image, certificate, cycle, issue, label)
+}
+
+/// Whether an issue ends in its turn.
+fn ends_in_turn(image: &Image, cycle: u16, unit: u32) -> bool
+    requires { IsValid image.now }
+    ensures { IsTrue result ↔ (cycle + delay_of image.now unit < turn_of image.now) }
+{
+    let ends = u32::from(cycle) + u32::from(delay_on(image, unit));
+    ends < u32::from(image.unroll) * u32::from(image.period)
+}
+
+/// Whether an issue ends in its turn, and its unit is not busy.
+fn is_timely(image: &Image, cycle: u16, unit: u32) -> bool
+    requires valid { IsValid image.now }
+    requires cycle { cycle < length image.now.words }
+    ensures { IsTrue result
+        ↔ ((cycle + delay_of image.now unit < turn_of image.now) × IsFree image.now cycle unit) }
+{
+    ends_in_turn(image, cycle, unit) && is_free(image, cycle, unit)
+}
+
+/// Whether an access to memory is to a cell of its ram, and an output puts its word in its sample.
+fn is_placed(
+    graph: &Graph,
+    image: &Image,
+    certificate: &Certificate,
+    cycle: u16,
+    issue: &Issue,
+) -> bool
+    requires graph { IsGraph graph.now }
+    requires valid { IsValid image.now }
+    requires cycle { cycle ≤ length image.now.words }
+    ensures { IsTrue result
+        ↔ ((IsMemory issue.now.op → IsInRam image.now certificate.now cycle issue.now)
+        × (issue.now.op ≡ Output → IsPut graph.now image.now certificate.now cycle issue.now)) }
+{
+    is_access(image, certificate, cycle, issue)
+        && is_put_if_output(graph, image, certificate, cycle, issue)
 }
 
 /// Whether an issue fits: it has its label, ends in its turn, and its unit is not busy.
@@ -286,15 +388,10 @@ pub fn is_fit(
     requires graph { IsGraph graph.now }
     requires valid { IsValid image.now }
     requires cycle { cycle < length image.now.words }
-    ensures { IsTrue result → IsFit graph.now image.now certificate.now cycle issue.now }
+    ensures yes { IsTrue result → IsFit graph.now image.now certificate.now cycle issue.now }
+    ensures no { IsFit graph.now image.now certificate.now cycle issue.now → IsTrue result }
 {
-    let unit = u32::from(issue.unit);
-    let label = issue_label(certificate, cycle, unit);
-    let ends = u32::from(cycle) + u32::from(delay_on(image, unit));
-    let turn = u32::from(image.unroll) * u32::from(image.period);
-    ends < turn
-        && is_free(image, cycle, unit)
-        && is_access(image, certificate, cycle, issue)
-        && is_put_if_output(graph, image, certificate, cycle, issue)
-        && is_label_of(graph, image, certificate, cycle, issue, label)
+    is_timely(image, cycle, u32::from(issue.unit))
+        && is_placed(graph, image, certificate, cycle, issue)
+        && has_label(graph, image, certificate, cycle, issue)
 }

@@ -56,6 +56,31 @@ pub fn cells_on(image: &Image, unit: u32) -> usize
     }
 }
 
+/// How many register files a unit has.
+pub fn files_on(image: &Image, unit: u32) -> usize
+    ensures { result ≡ length (unit_of (microprogram_of image.now) unit).files }
+{
+    let unit = unit as usize;
+    if unit < image.units.len() {
+        image.units[unit].files.len()
+    } else {
+        0
+    }
+}
+
+/// How many registers a port of a unit has.
+pub fn registers_on(image: &Image, unit: u32, port: u32) -> usize
+    ensures { result ≡ length (nth (unit_of (microprogram_of image.now) unit).files port []) }
+{
+    let unit = unit as usize;
+    let port = port as usize;
+    if unit < image.units.len() && port < image.units[unit].files.len() {
+        image.units[unit].files[port].len()
+    } else {
+        0
+    }
+}
+
 /// The ram that an acu addresses.
 fn ram_of(image: &Image, unit: u32) -> u8
     ensures { result ≡ (unit_of (microprogram_of image.now) unit).ram }

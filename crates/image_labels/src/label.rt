@@ -3,7 +3,7 @@
 use lists::List;
 
 /// What a storage location holds, or a result is. Samples are counted from the turn's first, which has the number 1024.
-#[derive(Clone, Copy, Debug)]
+#[derive(Clone, Copy, Debug, PartialEq, Eq)]
 pub enum Label {
     /// Nothing is known of it.
     Unknown,
@@ -12,6 +12,8 @@ pub enum Label {
     /// The address of a cell, in a ram of so many cells: how many cells there are, and the cell. Cells are counted so
     /// that the address of an offset in the turn's first sample is the offset.
     Address(u32, u32),
+    /// This raw word, in each sample of a run.
+    Constant(i64),
 }
 
 /// Where the words of a graph are in a turn of an image: what an image is checked by. Nothing is asked of it.

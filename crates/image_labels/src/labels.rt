@@ -1,5 +1,5 @@
 //! The labels of registers and cells in a cycle of a turn.
-ghost use Rattle.std.specs.Prelude.{◌≡◌, ◌<◌, ◌≤◌, ◌==◌, ◌+◌, ◌*◌, length, find, IsTrue, Some, if◌then◌else◌};
+ghost use Rattle.std.specs.Prelude.{◌≡◌, ◌<◌, ◌≤◌, ◌==◌, ◌+◌, ◌*◌, ◌↔◌, length, find, IsTrue, Some, if◌then◌else◌};
 ghost use Rattle.image_labels.specs.declared.label.Label.{Label as LabelOf};
 ghost use Rattle.micro_image.specs.Fields.{nth};
 ghost use Rattle.image_labels.specs.declared.label.Label.TheVariants.{Unknown, Signal};
@@ -11,14 +11,18 @@ use fix_word::Op;
 use lists::List;
 use micro_image::{Image, Issue};
 
+/// Whether two labels are one.
+pub fn same_label(a: Label, b: Label) -> bool
+    ensures { IsTrue result ↔ (a ≡ b) }
+{
+    a == b
+}
+
 /// Whether a label is of this word.
 pub fn is_signal(label: Label, node: u32, sample: u32) -> bool
-    ensures { IsTrue result → label ≡ Signal node sample }
+    ensures { IsTrue result ↔ (label ≡ Signal node sample) }
 {
-    match label {
-        Label::Signal(v, s) => v == node && s == sample,
-        _ => false,
-    }
+    same_label(label, Label::Signal(node, sample))
 }
 
 fn is_address(label: Label, cell: u32) -> bool

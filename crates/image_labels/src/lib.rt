@@ -9,6 +9,8 @@ mod label;
 mod labels;
 mod misfits;
 mod mismatch;
+mod narrow;
+mod operands;
 mod recovery;
 mod rows;
 mod starts;

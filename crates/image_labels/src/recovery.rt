@@ -3,7 +3,7 @@
 ghost use Rattle.std.specs.Prelude.{◌≤◌, length};
 ghost use Rattle.micro_image.specs.Valid.{IsValid};
 
-use crate::fits::{edge_at, first_output, sample_at};
+use crate::fits::{first_output, sample_at};
 use crate::hardware::{
     cell_in, cells_on, delay_on, driver_of, ended_in, issued_in, modulus_of, number_of,
     register_at, take_into, word_in,
@@ -11,10 +11,11 @@ use crate::hardware::{
 use crate::label::{Certificate, Label};
 use crate::labels::{first_cell, issue_label, operand_label, stores_into};
 use crate::misfits::does_node;
+use crate::operands::{commutes, edge_at};
 use fix_word::Op;
 use lists::List;
 use micro_image::{Image, Issue};
-use signal_graph::Graph;
+use signal_graph::{Edges, Graph};
 use std::alloc::{AllocError, Global};
 
 /// The most units of an image, and for how many a certificate has room in each cycle.
@@ -162,8 +163,16 @@ fn a_turn_later(image: &Image, signal: Signal) -> Signal {
     }
 }
 
-/// The label of an issue that is to come to a word: that word of a load, and else the node's of its own sample, if it
-/// does what the node does.
+/// Whether an issue is a pass that moves a word as it is, and no node's own of that sample.
+fn moves(graph: &Graph, image: &Image, issue: &Issue, cycle: u16, signal: Signal) -> bool
+    requires { IsValid image.now }
+{
+    let own = does_node(graph, issue, signal.node) && signal.sample == sample_at(image, cycle);
+    matches!(issue.op, Op::Pass) && issue.fmt.shift == 0 && !own
+}
+
+/// The label of an issue that is to come to a word: that word of a load and of a pass that moves it, and else the node's
+/// of its own sample, if it does what the node does.
 fn label_for(
     graph: &Graph,
     image: &Image,
@@ -173,7 +182,7 @@ fn label_for(
 ) -> Option<Signal>
     requires { IsValid image.now }
 {
-    if matches!(issue.op, Op::Load) {
+    if matches!(issue.op, Op::Load) || moves(graph, image, issue, cycle, signal) {
         return Some(signal);
     }
     if does_node(graph, issue, signal.node) {
@@ -215,6 +224,43 @@ fn want_issue(
     Ok(())
 }
 
+/// Where the label stands of what a register holds when a turn starts.
+fn register_index(register: Register) -> usize {
+    register.unit as usize * UNIT_REGISTERS
+        + register.port as usize * PORT_REGISTERS
+        + register.reg as usize
+}
+
+/// Notes the word of a constant in a register that no cycle writes.
+fn put_constant(search: &mut Search, graph: &Graph, register: Register, signal: Signal) {
+    let node = signal.node as usize;
+    if node < graph.nodes.len() && matches!(graph.nodes[node].op, Op::Const) {
+        let label = Label::Constant(graph.nodes[node].arg);
+        put(
+            &mut search.certificate.registers,
+            register_index(register),
+            label,
+        );
+    }
+}
+
+/// Notes the word that a register holds when the turn starts, by what the issue comes to that wrote it last, in the turn
+/// before.
+fn put_first(search: &mut Search, image: &Image, register: Register, cycle: u16, unit: u32) {
+    let label = match issue_label(&search.certificate, cycle, unit) {
+        Label::Signal(node, sample) => {
+            Label::Signal(node, sample.saturating_sub(u32::from(image.unroll)))
+        }
+        Label::Constant(word) => Label::Constant(word),
+        _ => Label::Unknown,
+    };
+    put(
+        &mut search.certificate.registers,
+        register_index(register),
+        label,
+    );
+}
+
 /// Notes the word that a register holds when the turn starts, and what the issue comes to by which it does, in the turn
 /// before.
 fn want_first(
@@ -226,29 +272,25 @@ fn want_first(
 ) -> Result<(), AllocError>
     requires { IsValid image.now }
 {
-    if let Writer::Issue { cycle, unit } = writer_of(image, register, image.words.len() as u16) {
-        want_issue(
-            search,
-            graph,
-            image,
-            cycle,
-            unit,
-            a_turn_later(image, signal),
-        )?;
-        if let Label::Signal(node, sample) = issue_label(&search.certificate, cycle, unit) {
-            let sample = sample.saturating_sub(u32::from(image.unroll));
-            let Register { unit, port, reg } = register;
-            let index = unit as usize * UNIT_REGISTERS
-                + port as usize * PORT_REGISTERS
-                + reg as usize;
-            put_signal(
-                &mut search.certificate.registers,
-                index,
-                Signal { node, sample },
-            );
+    match writer_of(image, register, image.words.len() as u16) {
+        Writer::Issue { cycle, unit } => {
+            want_issue(
+                search,
+                graph,
+                image,
+                cycle,
+                unit,
+                a_turn_later(image, signal),
+            )?;
+            put_first(search, image, register, cycle, unit);
+            Ok(())
+        }
+        Writer::NoDriver => Ok(()),
+        Writer::Nothing => {
+            put_constant(search, graph, register, signal);
+            Ok(())
         }
     }
-    Ok(())
 }
 
 /// Notes the word that a register holds at the start of a cycle.
@@ -365,6 +407,107 @@ fn want_loaded(
     }
 }
 
+/// The register that an issue reads at a port.
+fn read_register(issue: &Issue, unit: u32, port: u32) -> Register {
+    Register {
+        unit,
+        port,
+        reg: u32::from(register_at(&issue.regs, port)),
+    }
+}
+
+/// The word of an operand in a sample.
+fn operand_signal(edges: &Edges, operand: u32, sample: u32) -> Signal {
+    let edge = edge_at(edges, operand);
+    Signal {
+        node: edge.node,
+        sample: sample.saturating_sub(u32::from(edge.delay)),
+    }
+}
+
+/// What writes a register last before a cycle, or in the turn before, and so many samples ago it counts.
+fn last_writer(image: &Image, register: Register, cycle: u16) -> Option<(u16, u32, u32)>
+    requires valid { IsValid image.now }
+    requires cycle { cycle ≤ length image.now.words }
+{
+    match writer_of(image, register, cycle) {
+        Writer::Issue { cycle, unit } => Some((cycle, unit, 0)),
+        Writer::NoDriver => None,
+        Writer::Nothing => match writer_of(image, register, image.words.len() as u16) {
+            Writer::Issue { cycle, unit } => Some((cycle, unit, u32::from(image.unroll))),
+            _ => None,
+        },
+    }
+}
+
+/// Whether an issue may come to a word, as far as it itself shows.
+fn may_give(graph: &Graph, image: &Image, issue: &Issue, cycle: u16, signal: Signal) -> bool
+    requires { IsValid image.now }
+{
+    let own = does_node(graph, issue, signal.node) && signal.sample == sample_at(image, cycle);
+    own || matches!(issue.op, Op::Load) || moves(graph, image, issue, cycle, signal)
+}
+
+/// Whether a register may hold a word at the start of a cycle, by the issue that wrote it.
+fn may_hold(graph: &Graph, image: &Image, register: Register, cycle: u16, signal: Signal) -> bool
+    requires valid { IsValid image.now }
+    requires cycle { cycle ≤ length image.now.words }
+{
+    match last_writer(image, register, cycle) {
+        Some((cycle, unit, later)) => {
+            let signal = Signal {
+                node: signal.node,
+                sample: signal.sample.saturating_add(later),
+            };
+            usize::from(cycle) < image.words.len()
+                && match issued_in(word_in(image, cycle), unit) {
+                    Some(issue) => may_give(graph, image, issue, cycle, signal),
+                    None => false,
+                }
+        }
+        None => true,
+    }
+}
+
+/// Whether an issue may read an operand of a node at a port.
+fn may_read(
+    graph: &Graph,
+    image: &Image,
+    issue: &Issue,
+    known: Known,
+    edges: &Edges,
+    port: u32,
+    operand: u32,
+) -> bool
+    requires valid { IsValid image.now }
+    requires cycle { known.cycle ≤ length image.now.words }
+{
+    let register = read_register(issue, known.unit, port);
+    let signal = operand_signal(edges, operand, sample_at(image, known.cycle));
+    may_hold(graph, image, register, known.cycle, signal)
+}
+
+/// Whether an issue reads the two operands of a node exchanged, as far as the issues show that wrote them.
+fn is_exchanged(graph: &Graph, image: &Image, issue: &Issue, known: Known, edges: &Edges) -> bool
+    requires valid { IsValid image.now }
+    requires cycle { known.cycle ≤ length image.now.words }
+{
+    commutes(issue.op)
+        && !(may_read(graph, image, issue, known, edges, 0, 0)
+            && may_read(graph, image, issue, known, edges, 1, 1))
+        && may_read(graph, image, issue, known, edges, 0, 1)
+        && may_read(graph, image, issue, known, edges, 1, 0)
+}
+
+/// The operand that an issue reads at a port.
+fn operand_at(exchanged: bool, port: u32) -> u32 {
+    match (exchanged, port) {
+        (true, 0) => 1,
+        (true, 1) => 0,
+        _ => port,
+    }
+}
+
 /// Notes the words that the operands of a node are, at the registers that an issue reads.
 fn want_operands(
     search: &mut Search,
@@ -381,23 +524,31 @@ fn want_operands(
         return Ok(());
     }
     let edges = &graph.nodes[node].edges;
-    let sample = sample_at(image, known.cycle);
+    let exchanged = is_exchanged(graph, image, issue, known, edges);
     for port in 0..PORTS {
         if (port as usize) < edges.len() {
-            let edge = edge_at(edges, port);
-            let register = Register {
-                unit: known.unit,
-                port,
-                reg: u32::from(register_at(&issue.regs, port)),
-            };
-            let signal = Signal {
-                node: edge.node,
-                sample: sample.saturating_sub(u32::from(edge.delay)),
-            };
+            let register = read_register(issue, known.unit, port);
+            let operand = operand_at(exchanged, port);
+            let signal = operand_signal(edges, operand, sample_at(image, known.cycle));
             want_register(search, graph, image, register, known.cycle, signal)?;
         }
     }
     Ok(())
+}
+
+/// Notes the word that a pass moves.
+fn want_moved(
+    search: &mut Search,
+    graph: &Graph,
+    image: &Image,
+    issue: &Issue,
+    known: Known,
+) -> Result<(), AllocError>
+    requires valid { IsValid image.now }
+    requires cycle { known.cycle ≤ length image.now.words }
+{
+    let register = read_register(issue, known.unit, 0);
+    want_register(search, graph, image, register, known.cycle, known.signal)
 }
 
 /// Notes the words that an issue reads whose own word is known.
@@ -415,6 +566,9 @@ fn want_reads(
     match issued_in(word_in(image, known.cycle), known.unit) {
         Some(issue) => match issue.op {
             Op::Load => want_loaded(search, graph, image, issue, known),
+            _ if moves(graph, image, issue, known.cycle, known.signal) => {
+                want_moved(search, graph, image, issue, known)
+            }
             _ => want_operands(search, graph, image, issue, known),
         },
         None => Ok(()),
@@ -431,6 +585,55 @@ fn put_address(image: &Image, labels: &mut List<Label>, cycle: u16, unit: u32, i
         let cell = cell_in(cells, number_of(issue.arg), cycle / image.period) as u32;
         let index = usize::from(cycle) * UNITS as usize + unit as usize;
         put(labels, index, Label::Address(cells, cell));
+    }
+}
+
+/// Whether a node is a constant.
+fn is_const(graph: &Graph, node: u32) -> bool {
+    let node = node as usize;
+    node < graph.nodes.len() && matches!(graph.nodes[node].op, Op::Const)
+}
+
+/// Whether one of the edges leads to a constant of an earlier sample.
+fn reads_constant_late(graph: &Graph, edges: &Edges) -> bool {
+    for port in 0..PORTS {
+        let edge = edge_at(edges, port);
+        if (port as usize) < edges.len() && 0 < edge.delay && is_const(graph, edge.node) {
+            return true;
+        }
+    }
+    false
+}
+
+/// Whether a node reads a constant of an earlier sample: before sample 0 its word is another one.
+fn reads_constants_late(graph: &Graph) -> bool {
+    for v in 0..graph.nodes.len() {
+        if reads_constant_late(graph, &graph.nodes[v].edges) {
+            return true;
+        }
+    }
+    false
+}
+
+/// Notes the word that a unit is issued in a cycle, if it is issued a constant.
+fn put_const(labels: &mut List<Label>, cycle: u16, unit: u32, issue: &Issue) {
+    if matches!(issue.op, Op::Const) {
+        let index = usize::from(cycle) * UNITS as usize + unit as usize;
+        put(labels, index, Label::Constant(issue.arg));
+    }
+}
+
+/// Notes the words of constants.
+fn put_constants(image: &Image, labels: &mut List<Label>, turn: u16)
+    requires valid { IsValid image.now }
+    requires turn { turn ≤ length image.now.words }
+{
+    for cycle in 0..turn {
+        for unit in 0..UNITS {
+            if let Some(issue) = issued_in(word_in(image, cycle), unit) {
+                put_const(labels, cycle, unit, issue);
+            }
+        }
     }
 }
 
@@ -507,6 +710,9 @@ pub fn recover(alloc: Global, graph: &Graph, image: &Image) -> Result<Certificat
         known: List::new(alloc),
     };
     put_addresses(image, &mut search.certificate.issues, turn);
+    if !reads_constants_late(graph) {
+        put_constants(image, &mut search.certificate.issues, turn);
+    }
     want_outputs(&mut search, graph, image, turn)?;
     for next in 0..issues {
         if next < search.known.len() {

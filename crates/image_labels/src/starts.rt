@@ -1,23 +1,28 @@
 //! Whether what registers and cells hold comes round with each turn.
-ghost use Rattle.std.specs.Prelude.{◌≡◌, ◌<◌, ◌≤◌, ◌+◌, ℕ, length, ℤ, IsTrue, OnOk};
+ghost use Rattle.std.specs.Prelude.{◌≡◌, ◌<◌, ◌≤◌, ◌+◌, ◌↔◌, [], ℕ, length, ℤ, IsTrue, OnOk, OnErr};
 ghost use Rattle.signal_graph.specs.Rules.{word_before as word_before_in};
 ghost use Rattle.signal_graph.specs.GraphSolves.{node_of};
-ghost use Rattle.micro_image.specs.Fields.{unit_of, microprogram_of};
+ghost use Rattle.micro_image.specs.Fields.{nth, unit_of, microprogram_of};
 ghost use Rattle.micro_image.specs.Log.{Register, Cell, initial};
 ghost use Rattle.micro_image.specs.Valid.{IsValid};
 ghost use Rattle.image_labels.specs.Labels.{register_label as label_of_register, cell_label as label_of_cell};
 ghost use Rattle.image_labels.specs.Labelled.{IsWordBefore, IsRegisterStart, IsCellStart};
+ghost use Rattle.image_labels.specs.Private.Checked.{IsFileStart, AreFilesStart, AreRegistersStart, IsRamStart, AreCellsStart};
 
-use crate::hardware::{cell_in, cells_on, initial_cell, initial_register, word_before};
+use crate::hardware::{
+    cell_in, cells_on, files_on, initial_cell, initial_register, registers_on, word_before,
+};
 use crate::label::{Certificate, Label};
-use crate::labels::{cell_label, first_cell, first_register, is_signal, register_label};
+use crate::labels::{
+    cell_label, first_cell, first_register, is_signal, register_label, same_label,
+};
 use crate::mismatch::Mismatch;
 use micro_image::Image;
 use signal_graph::Graph;
 
 /// Whether a word is that of a node before the run.
 fn is_before(graph: &Graph, node: u32, sample: u32, word: i64) -> bool
-    ensures { IsTrue result → IsWordBefore graph.now node sample word }
+    ensures { IsTrue result ↔ IsWordBefore graph.now node sample word }
 {
     let v = node as usize;
     if v < graph.nodes.len() && 0 < sample && sample < 1024 {
@@ -45,7 +50,7 @@ fn is_register_start(
 ) -> bool
     requires { turn ≡ length image.now.words }
     ensures { IsTrue result
-        → IsRegisterStart graph.now image.now certificate.now turn unit port reg }
+        ↔ IsRegisterStart graph.now image.now certificate.now turn unit port reg }
 {
     match first_register(certificate, unit, port, reg) {
         Label::Unknown => true,
@@ -62,6 +67,13 @@ fn is_register_start(
             )
         }
         Label::Address(_, _) => false,
+        Label::Constant(word) => {
+            initial_register(image, unit, port, reg) == word
+                && same_label(
+                    register_label(image, certificate, unit, port, reg, turn),
+                    Label::Constant(word),
+                )
+        }
     }
 }
 
@@ -78,7 +90,7 @@ fn is_cell_start(
     requires turn { turn ≡ length image.now.words }
     requires cell { cell < cells }
     ensures { IsTrue result
-        → IsCellStart graph.now image.now certificate.now turn cells unit cell }
+        ↔ IsCellStart graph.now image.now certificate.now turn cells unit cell }
 {
     match first_cell(certificate, unit, cell) {
         Label::Unknown => true,
@@ -92,6 +104,14 @@ fn is_cell_start(
                 )
         }
         Label::Address(_, _) => false,
+        Label::Constant(word) => {
+            let last = cell_in(cells, u64::from(cell), u16::from(image.unroll)) as u32;
+            initial_cell(image, unit, cell) == word
+                && same_label(
+                    cell_label(image, certificate, unit, last, turn),
+                    Label::Constant(word),
+                )
+        }
     }
 }
 
@@ -104,12 +124,14 @@ fn check_file(
     turn: u16,
 ) -> Result<(), Mismatch>
     requires { turn ≡ length image.now.words }
-    ensures { OnOk result ((r : ℕ)
-        → r < 256
-        → IsRegisterStart graph.now image.now certificate.now turn unit port r) }
+    ensures ok { OnOk result (IsFileStart graph.now image.now certificate.now turn unit port 256) }
+    ensures err { OnErr result (IsFileStart graph.now image.now certificate.now turn unit port 256 → ⊥) }
 {
+    let registers = registers_on(image, unit, port);
     for reg in 0..256u32 {
-        if !is_register_start(graph, image, certificate, unit, port, reg, turn) {
+        if (reg as usize) < registers
+            && !is_register_start(graph, image, certificate, unit, port, reg, turn)
+        {
             return Err(Mismatch::Register(unit, port, reg));
         }
     }
@@ -124,14 +146,13 @@ fn check_files(
     turn: u16,
 ) -> Result<(), Mismatch>
     requires { turn ≡ length image.now.words }
-    ensures { OnOk result ((p : ℕ)
-        → p < 3
-        → (r : ℕ)
-        → r < 256
-        → IsRegisterStart graph.now image.now certificate.now turn unit p r) }
+    ensures ok { OnOk result (AreFilesStart graph.now image.now certificate.now turn unit 3) }
+    ensures err { OnErr result (AreFilesStart graph.now image.now certificate.now turn unit 3 → ⊥) }
 {
     for port in 0..3u32 {
-        check_file(graph, image, certificate, unit, port, turn)?;
+        if (port as usize) < files_on(image, unit) {
+            check_file(graph, image, certificate, unit, port, turn)?;
+        }
     }
     Ok(())
 }
@@ -144,16 +165,13 @@ pub fn check_registers(
     turn: u16,
 ) -> Result<(), Mismatch>
     requires { turn ≡ length image.now.words }
-    ensures { OnOk result ((u : ℕ)
-        → u < 32
-        → (p : ℕ)
-        → p < 3
-        → (r : ℕ)
-        → r < 256
-        → IsRegisterStart graph.now image.now certificate.now turn u p r) }
+    ensures ok { OnOk result (AreRegistersStart graph.now image.now certificate.now turn 32) }
+    ensures err { OnErr result (AreRegistersStart graph.now image.now certificate.now turn 32 → ⊥) }
 {
     for unit in 0..32u32 {
-        check_files(graph, image, certificate, unit, turn)?;
+        if (unit as usize) < image.units.len() {
+            check_files(graph, image, certificate, unit, turn)?;
+        }
     }
     Ok(())
 }
@@ -167,9 +185,8 @@ fn check_ram(
     turn: u16,
 ) -> Result<(), Mismatch>
     requires { turn ≡ length image.now.words }
-    ensures { OnOk result ((x : ℕ)
-        → x < cells
-        → IsCellStart graph.now image.now certificate.now turn cells unit x) }
+    ensures ok { OnOk result (IsRamStart graph.now image.now certificate.now turn cells unit cells) }
+    ensures err { OnErr result (IsRamStart graph.now image.now certificate.now turn cells unit cells → ⊥) }
 {
     for cell in 0..cells {
         if !is_cell_start(graph, image, certificate, unit, cells, cell, turn) {
@@ -188,16 +205,14 @@ pub fn check_cells(
 ) -> Result<(), Mismatch>
     requires valid { IsValid image.now }
     requires turn { turn ≡ length image.now.words }
-    ensures { OnOk result ((u : ℕ)
-        → u < 32
-        → (x : ℕ)
-        → x < length (unit_of (microprogram_of image.now) u).cells
-        → IsCellStart graph.now image.now certificate.now turn
-        (length (unit_of (microprogram_of image.now) u).cells) u x) }
+    ensures ok { OnOk result (AreCellsStart graph.now image.now certificate.now turn 32) }
+    ensures err { OnErr result (AreCellsStart graph.now image.now certificate.now turn 32 → ⊥) }
 {
     for unit in 0..32u32 {
-        let cells = cells_on(image, unit) as u32;
-        check_ram(graph, image, certificate, unit, cells, turn)?;
+        if (unit as usize) < image.units.len() {
+            let cells = cells_on(image, unit) as u32;
+            check_ram(graph, image, certificate, unit, cells, turn)?;
+        }
     }
     Ok(())
 }

@@ -1,8 +1,9 @@
 //! Whether an image is a graph's.
-ghost use Rattle.std.specs.Prelude.{IfOk, OnOk};
+ghost use Rattle.std.specs.Prelude.{OnOk, OnErr};
 ghost use Rattle.signal_graph.specs.GraphRules.{IsGraph};
 ghost use Rattle.micro_image.specs.Valid.{IsValid};
 ghost use Rattle.plan_soundness.specs.Run.{RunsSolution};
+ghost use Rattle.image_labels.specs.Labelled.{IsLabelled};
 
 use crate::cycles::check_cycles;
 use crate::label::Certificate;
@@ -17,6 +18,8 @@ pub fn validate(graph: &Graph, image: &Image, certificate: &Certificate) -> Resu
     requires graph { IsGraph graph.now }
     requires image { IsValid image.now }
     ensures runs { OnOk result (RunsSolution graph.now image.now) }
+    ensures labelled { OnOk result (IsLabelled graph.now image.now certificate.now) }
+    ensures refused { OnErr result (IsLabelled graph.now image.now certificate.now → ⊥) }
 {
     if image.outs != graph.outs {
         return Err(Mismatch::Outs);

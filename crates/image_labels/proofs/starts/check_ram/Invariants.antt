@@ -1,7 +1,5 @@
-use Rattle.std.proofs.Common.{◌<◌, ℕ}
-use Rattle.image_labels.specs.Labelled.{IsCellStart}
+use Rattle.image_labels.specs.Private.Checked.{IsRamStart}
 use Rattle.image_labels.proofs.starts.check_ram.Given as goal
 
 abbrev pub invariant-loop-cell : goal.invariant-loop-cell
-invariant-loop-cell l =
-    (x : ℕ) → x < l.cell → IsCellStart l.graph l.image l.certificate l.turn l.cells l.unit x
+invariant-loop-cell l = IsRamStart l.graph l.image l.certificate l.turn l.cells l.unit l.cell

@@ -1,0 +1,67 @@
+-- The parts of a labelled image that are looked at one after another, as far as they are.
+use Rattle.std.specs.Prelude.{◌≡◌, ℕ, ◌-◌, ◌/◌, ◌<◌, ◌≤◌, [], length, IsSome}
+use Rattle.signal_graph.specs.declared.graph.Graph.{Graph}
+use Rattle.micro_image.specs.declared.image.Image.{Image}
+use Rattle.micro_image.specs.Fields.{nth, microprogram_of, unit_of}
+use Rattle.image_labels.specs.declared.label.Certificate.{Certificate}
+use Rattle.image_labels.specs.Labels.{word_in, issued_in}
+use Rattle.image_labels.specs.Labelled.{IsFitCycle, IsRegisterStart, IsCellStart, IsRowWord, PutsOn}
+
+module _ (g : Graph) (image : Image) (certificate : Certificate) where
+  -- the microwords of the first cycles fit
+  abbrev pub AreCyclesFit : (count : ℕ) → Type 0
+  AreCyclesFit count = (c : ℕ) → c < count → IsFitCycle g image certificate c
+
+  -- the first registers of a file come round
+  abbrev pub IsFileStart : (turn u p count : ℕ) → Type 0
+  IsFileStart turn u p count =
+      (r : ℕ)
+      → r < count
+      → r < length (nth (unit_of (microprogram_of image) u).files p [])
+      → IsRegisterStart g image certificate turn u p r
+
+  -- those of the first files of a unit do
+  abbrev pub AreFilesStart : (turn u count : ℕ) → Type 0
+  AreFilesStart turn u count =
+      (p : ℕ) → p < count → p < length (unit_of (microprogram_of image) u).files → IsFileStart turn u p 256
+
+  -- those of the first units do
+  abbrev pub AreRegistersStart : (turn count : ℕ) → Type 0
+  AreRegistersStart turn count = (u : ℕ) → u < count → u < length image.units → AreFilesStart turn u 3
+
+  -- the first cells of a ram of so many do
+  abbrev pub IsRamStart : (turn cells u count : ℕ) → Type 0
+  IsRamStart turn cells u count = (x : ℕ) → x < count → IsCellStart g image certificate turn cells u x
+
+  -- those of the first units do
+  abbrev pub AreCellsStart : (turn count : ℕ) → Type 0
+  AreCellsStart turn count =
+      (u : ℕ)
+      → u < count
+      → u < length image.units
+      → IsRamStart turn (length (unit_of (microprogram_of image) u).cells) u
+      (length (unit_of (microprogram_of image) u).cells)
+
+-- unit u has an issue so many cycles before cycle c of a turn
+abbrev pub IsIssuedBefore : Image → (c back u : ℕ) → Type 0
+IsIssuedBefore image c back u = (back ≤ c) × IsSome (issued_in (word_in image (c - back)) u)
+
+-- a unit that is there is issued the output of word j in cycle c
+abbrev pub PutsAt : Image → (c u j : ℕ) → Type 0
+PutsAt image c u j = (u < length image.units) × PutsOn (word_in image c) u j
+
+-- some unit is
+abbrev pub PutsIn : Image → (c j : ℕ) → Type 0
+PutsIn image c j = (u : ℕ) × PutsAt image c u j
+
+-- some unit is, and the cycle is in this sample
+abbrev pub PutsInSample : Image → (c sample j : ℕ) → Type 0
+PutsInSample image c sample j = (c / image.period ≡ sample) × PutsIn image c j
+
+-- the first output words are put in a sample
+abbrev pub IsRowPut : Image → (sample count : ℕ) → Type 0
+IsRowPut image sample count = (j : ℕ) → j < count → IsRowWord image sample j
+
+-- all are in the first samples
+abbrev pub AreRowsPut : Image → (count : ℕ) → Type 0
+AreRowsPut image count = (sample : ℕ) → sample < count → IsRowPut image sample image.outs
