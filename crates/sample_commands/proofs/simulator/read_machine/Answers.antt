@@ -1,4 +1,3 @@
-use Rattle.std.proofs.Common.{IfErr}
 use Rattle.std.proofs.lemmas.Result.{IfErr-weaker}
 use Rattle.sample_commands.specs.Loaded.{IsNoMachine}
 use Rattle.sample_commands.specs.Private.Running.{IsLoadError}
