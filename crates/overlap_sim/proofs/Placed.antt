@@ -36,7 +36,7 @@ module _ (g : Graph) (d : Datapath) (stages : ℕ) (allowed : IsDatapath d) (sou
     output = λ e. (placed v there).can.allows.output e;
     stores = λ x ago loads.
         let behind =
-            loads_behind g d allowed sound (omega (arith, some)) p.assigned is.lowered on_units v x ago loads in
+        loads_behind g d allowed sound (omega (arith, some)) p.assigned is.lowered on_units v x ago loads in
         let higher = higher_behind g d allowed sound (omega (arith, some)) p.assigned is.lowered on_units v x
         behind.behind is.schedule.height is.schedule.heights in
         (placed v there).can.allows.stores x ago loads

@@ -40,7 +40,8 @@ loop-x-preserved c =
     (λ (j : ℕ).
     result_on d (unit_in a.units (nth c.args.placed.now j)) (slot_at c.args.slots.now (nth c.args.placed.now j)).cycle
     ≡ c.args.cycle
-    → All (λ (transfer : Transfer). transfer.port ≢ port) (slot_at c.args.slots.now (nth c.args.placed.now j)).transfers)
+    → All (λ (transfer : Transfer). transfer.port ≢ port)
+    (slot_at c.args.slots.now (nth c.args.placed.now j)).transfers)
     c.loop-x.x-index c.loop-x.invariant
     (λ at.
     elim c.else-end-cycle.branch [
