@@ -50,7 +50,8 @@ loop-left-preserved-in_ok-push c =
     ∙ sym (ap lines_left c.in-Some.is) ∙ c.loop-left.invariant.0 in
     let there = line_there (lines_of text) i bytes left is in
     let e = c.in-Some-2.entry in
-    let read = read_some d (said_by bytes) (i + 1) c.in_ok-entry.field-0 e c.in-Some-2.is c.in_ok-entry.ensures.entry in (
+    let told = c.in_ok-entry.ensures.entry in
+    let read = read_some d (said_by bytes) (i + 1) c.in_ok-entry.field-0 e c.in-Some-2.is told in (
       rest_is (lines_of text) i bytes left is,
       omega (arith, there),
       subst (AreEntries d text (i + 1)) (sym c.in_ok-push.ensures.ok)
