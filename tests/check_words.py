@@ -81,9 +81,9 @@ def help_faults(room: Room) -> Iterator[str]:
     shown = room.run("help")
     heads = re.split(r"^(?=\w.*:\n)", shown.stdout, flags=re.M)
     listed = [set(re.findall(r"^  ([a-z]+) ", part, re.M)) for part in heads]
-    proved = set().union(*(words for part, words in zip(heads, listed) if "which is proved" in part.split("\n")[0]))
-    others = set().union(*(words for part, words in zip(heads, listed) if "not proved" in part.split("\n")[0]))
-    answered = set().union(*(words for part, words in zip(heads, listed) if "what each says is proved" in part.split("\n")[0]))
+    proved, others, answered = (
+        set().union(*(words for part, words in zip(heads, listed) if said in part.split("\n")[0]))
+        for said in ("which is proved", "not proved", "what each says is proved"))
     if proved != commands():
         yield f"the proved commands of `silc help` are {sorted(proved)}, and the program's are {sorted(commands())}"
     if answered != ANSWERED.keys():
@@ -106,13 +106,14 @@ def help_faults(room: Room) -> Iterator[str]:
 
 def placed_faults(room: Room) -> Iterator[str]:
     """OUT of `place` is there whole or as it was, and is no input by another name."""
-    program = room.top / "crates" / "silc_place" / "out" / "silc_place"
+    program, out = room.top / "crates" / "silc_place" / "out" / "silc_place", room.top / "out.mic"
     for status, left in ((0, "made"), (16, "as it was")):
-        (room.top / "out.mic").write_text("as it was")
-        program.write_text(f'#!/bin/sh\n[ "$1 $2 $3" = "a.sil dp plan" ] && [ "$4" != out.mic ] && printf made >"$4"\nexit {status}\n')
-        done = room.run("place", "a.sil", "dp", "plan", "out.mic")
-        if (done.returncode, (room.top / "out.mic").read_text()) != (status, left):
-            yield f"place that ends with {status}: {done.returncode} {(room.top / 'out.mic').read_text()!r} {done.stderr!r}"
+        out.write_text("as it was")
+        program.write_text(f'#!/bin/sh\n[ "$1 $2 $3" = "a.sil dp plan" ] && [ "$4" != out.mic ] && printf made >"$4"\n'
+                           f"exit {status}\n")
+        done = room.run("place", "a.sil", "dp", "plan", out.name)
+        if (done.returncode, out.read_text()) != (status, left):
+            yield f"place that ends with {status}: {done.returncode} {out.read_text()!r} {done.stderr!r}"
     (room.top / "link").symlink_to("out.mic")
     done = room.run("place", "a.sil", "dp", "out.mic", "link")
     if done.returncode != 2 or "by another name" not in done.stderr:
@@ -149,7 +150,8 @@ def lacking_faults(room: Room) -> Iterator[str]:
 def main() -> int:
     with tempfile.TemporaryDirectory(prefix="silc-words-") as folder:
         room = Room(Path(folder))
-        faults = [fault for check in (handed_faults, help_faults, near_faults, placed_faults, lacking_faults) for fault in check(room)]
+        checks = (handed_faults, help_faults, near_faults, placed_faults, lacking_faults)
+        faults = [fault for check in checks for fault in check(room)]
     if commands() & tools() or (commands() | tools()) & OWN:
         faults.append("a word is a command and a tool")
     for fault in faults:

@@ -86,3 +86,4 @@ def with_package() -> dict[str, str]:
 
 SILC = Program("silc", "SILC", "silc_main")
 SHOW = Program("silc_show", "SILC_SHOW", "silc_show")
+PLACE = Program("silc_place", "SILC_PLACE", "silc_place")

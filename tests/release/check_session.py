@@ -5,8 +5,8 @@ commands of the page run in an empty HOME, with neither the toolchain nor this r
 usage: tests/release/check_session.py
 
 It packs the built programs, or those that `SILC`, `SILC_SHOW`, `SILC_PLACE` and `SILC_SAME` name, with what this
-repository has; the two last are given the page's plan and microcode. The exit status is 70 where a program is not built,
-and 77 without dpkg-deb.
+repository has; the two last are given the page's plan and microcode. The exit status is 70 where a program is not
+built, and 77 without dpkg-deb.
 """
 import shutil
 import subprocess
