@@ -5,11 +5,12 @@ the datapath with the period of the plan and with files and memories that it jus
 """
 from __future__ import annotations
 
+import json
 import subprocess
 import tempfile
 import time
 import tomllib
-from collections.abc import Callable, Iterable
+from collections.abc import Callable, Iterable, Iterator
 from dataclasses import dataclass
 from pathlib import Path
 
@@ -31,6 +32,12 @@ BEGIN, END = "<!-- made by examples/plans -->\n", "<!-- end -->"
 HEAD = ("| Example | Processor | Rules | Registers | Bound | Best | Registers | The least |\n"
         "|---|---|---|---|---|---|---|---|\n")
 FOLDER = "plans"
+CORES_BEGIN = "<!-- made by examples/plans --hardware -->\n"
+# What of the numbers of tools/synthesize is shown, by the family.
+CORES = {"ice40": ("logic cells", "flip-flops", "block memories"),
+         "xilinx": ("logic cells", "flip-flops", "memories in cells", "block memories", "multipliers")}
+CORES_HEAD = ("| Example | Processor | Plan | Period | LUT4 | Flip-flops | RAM40 | xilinx: cells | Flip-flops | LUTRAM "
+              "| RAMB | DSP48 |\n|---|---|---|---|---|---|---|---|---|---|---|---|\n")
 BY_BOUND, BY_SOLVER, OPEN = "yes, by the bound", "yes, by the solver", "open: "
 # The share of the time that goes to the registers, beside that for the period.
 REGISTERS = 0.25
@@ -187,26 +194,55 @@ def periods_in(text: str) -> set[int]:
     return made
 
 
-def rows_in(page: str) -> dict[tuple[str, str], str]:
-    """The rows of the table by their first two cells."""
-    table = page.partition(BEGIN)[2].partition(END)[0]
-    rows = [line for line in table.splitlines()[HEAD.count("\n"):] if line.count(" | ") > 2]
-    made = {}
-    for line in rows:
+def rows_in(page: str, begin: str = BEGIN) -> dict[tuple[str, str], str]:
+    """The rows of a table by their first two cells; those of a plan and its other follow one another."""
+    table = page.partition(begin)[2].partition(END)[0]
+    made: dict[tuple[str, str], str] = {}
+    for line in table.splitlines()[HEAD.count("\n"):]:
         example, processor, *_ = line.removeprefix("| ").split(" | ")
-        made[example, processor] = line + "\n"
+        made[example, processor] = made.get((example, processor), "") + line + "\n"
     return made
 
 
-def with_row(row: str, key: tuple[str, str]) -> None:
-    """Puts a row into the table of the page."""
+def with_row(row: str, key: tuple[str, str], begin: str = BEGIN, head: str = HEAD) -> None:
+    """Puts a row into a table of the page."""
     text = PAGE.read_text()
-    rows = rows_in(text)
+    rows = rows_in(text, begin)
     rows[key] = row
-    before, found, rest = text.partition(BEGIN)
-    assert found, f"{PAGE} has no table of plans"
+    before, found, rest = text.partition(begin)
+    assert found, f"{PAGE} has no line {begin}"
     after = rest.partition(END)[2]
-    put_whole(PAGE, before + BEGIN + HEAD + "".join(row for _, row in sorted(rows.items())) + END + after)
+    put_whole(PAGE, before + begin + head + "".join(row for _, row in sorted(rows.items())) + END + after)
+
+
+def synthesized(microcode: bytes, datapath: Path) -> Iterator[object]:
+    """What the core of some microcode takes of an FPGA."""
+    with tempfile.NamedTemporaryFile(suffix=".mic") as file:
+        file.write(microcode)
+        file.flush()
+        for family, kinds in CORES.items():
+            words = [*command("synthesize"), file.name, "--datapath", str(datapath), "--for", family, "--json"]
+            done = subprocess.run(words, capture_output=True, text=True, stdin=subprocess.DEVNULL, env=with_package())
+            if done.returncode:
+                raise Wrong(f"synthesize: {done.stderr.strip()}")
+            numbers = json.loads(done.stdout)
+            yield from (numbers.get(kind, 0) for kind in kinds)
+
+
+def cores(kept: Iterable[Kept], say: Say) -> None:
+    """Writes what the cores take of the plan of the rules over the example's own processor, and of the best plan."""
+    for one in kept:
+        ruled = ran(one.programs.silc, ["compile", str(one.source), str(one.processor), STDOUT])
+        if ruled.status:
+            raise Wrong(f"{one.name}: compile: {ruled.said}")
+        rows = ""
+        for plan, period, microcode, datapath in (
+                ("rules", one.datapath["period"], ruled.out, one.processor),
+                ("best", one.best().period, one.microcode(), one.hardware)):
+            cells = [*one.key, plan, period, *synthesized(microcode, datapath)]
+            rows += f"| {' | '.join(map(str, cells))} |\n"
+            say(f"{one.name}, {plan}: {cells[3:]}")
+        with_row(rows, one.key, CORES_BEGIN, CORES_HEAD)
 
 
 def improve(kept: Iterable[Kept], seconds: float, solver: str | None, seed: int, say: Say) -> None:
