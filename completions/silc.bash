@@ -87,7 +87,7 @@ design --attenuation=- --band=- --dither=- --edge=- --force --form=df1|df2t|latt
 ranges --all --element=- --force --json --library=/ --picture=* --seconds=- --worst --worst-input=* --wraps=-
 values --json --library=/
 noise --against=* --force --impulse=- --library=/ --picture=* --zero-input=-
-explore --against=* --area=ice40|xilinx|ecp5 --best=- --clock=- --dsp --force --jobs=- --json --library=/ --out=- --pool --samples=* --sshlogin=- --stages=-
+explore --against=* --area=ice40|xilinx|ecp5 --best=- --best-plans=- --clock=- --dsp --force --jobs=- --json --library=/ --out=- --pool --samples=* --sshlogin=- --stages=-
 plan --datapath=* --force --period=- --registers --roomy --seconds=- --seed=- --solver=- --stages=- --table
 link --check=*.sil --force --library=/ --pages --test --where=-
 rows --bits=16|24|32 --columns=- --force

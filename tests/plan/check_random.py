@@ -5,12 +5,13 @@
 usage: tests/plan/check_random.py [--silc PROGRAM] [--seconds N] [COUNT [SEED]]
 
 Of COUNT programs, 200 where nothing is said, each is searched for N seconds, 0.15 where nothing is said, over one, two
-or four stages, by turns with the files and memories of its processor and with such as are large enough. A program that has no place by the rules in any period is
-left out, and another is made. Looked at is that each plan passes, with its buses and registers and without; that no
-period of the rules is lost; and that no bound and no solver refutes a period in which the rules have a plan. Of a plan
-over one stage `silc_place` makes microcode, which puts the rows of `silc eval` on `silc sim`; of the plan of the rules
-it makes that of `silc compile`. It runs the built programs, or those that `SILC` and `SILC_PLACE` name. Without
-`silc_place` this is left out, and without a solver the heuristics are tried alone; then it ends with 77.
+or four stages, by turns with the files and memories of its processor and with such as are large enough. A program that
+has no place by the rules in any period is left out, and another is made. Looked at is that each plan passes, with its
+buses and registers and without; that no period of the rules is lost; and that no bound and no solver refutes a period
+in which the rules have a plan. Of a plan over one stage `silc_place` makes microcode, which puts the rows of `silc
+eval` on `silc sim`; of the plan of the rules it makes that of `silc compile`. It runs the built programs, or those that
+`SILC` and `SILC_PLACE` name. Without `silc_place` this is left out, and without a solver the heuristics are tried
+alone; then it ends with 77.
 """
 from __future__ import annotations
 
