@@ -72,7 +72,7 @@ class Tried:
             if self.place and stages == 1:
                 rows = samples.text_of(rng, samples.rows_of(rng, source.inputs), True)
                 self.run(number, ruled, start, best, is_roomy, rows)
-        except (NoPlan, NoRows) as why:
+        except (NoPlan, NoRows, ValueError) as why:
             self.faults.append(f"program {number} of seed {self.seed}: {why}")
         return True
 

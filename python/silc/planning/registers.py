@@ -153,7 +153,10 @@ class Annealing:
         old = {v: (self.table.unit[v], self.table.cycle[v])}
         self.table.take(v)
         for _ in range(TRIES):
-            unit, cycle = self.place_for(v)
+            found = self.place_for(v)
+            if found is None:
+                continue
+            unit, cycle = found
             try:
                 others = self.table.in_the_way(v, unit, cycle)
             except Unroutable:
@@ -173,23 +176,24 @@ class Annealing:
 
     def fits(self, v: int, unit: int, cycle: int) -> bool:
         """Places a node where another was, in that cycle of the period, if it may stand there."""
-        windows, end = self.table.windows, self.problem.stages * self.period
         unit = unit if unit in self.problem.nodes[v].units else self.problem.nodes[v].units[0]
-        for start in range(cycle % self.period, end, self.period):
-            if windows.first[v] <= start <= min(windows.last[v], end - self.problem.units[unit].latency):
+        first, last = self.table.window(v, unit)
+        for start in range(cycle % self.period, self.problem.stages * self.period, self.period):
+            if first <= start <= last:
                 if not self.table.in_the_way(v, unit, start):
                     self.table.put(v, unit, start)
                     return True
         return False
 
-    def place_for(self, v: int) -> tuple[int, int]:
-        """A place for a node between what it waits for and what waits for it."""
+    def place_for(self, v: int) -> tuple[int, int] | None:
+        """A place for a node between what it waits for and what waits for it, on any of its units; nothing where that
+        one leaves none."""
         table = self.table
         unit = self.rng.choice(self.problem.nodes[v].units)
         latency = self.problem.units[unit].latency
-        first = max([table.windows.first[v], *(table.ends(x) - late for x, late in table.befores[v]
-                                               if x != v and table.unit[x] != FREE)])
-        last = min([table.windows.last[v], self.problem.stages * self.period - latency,
-                    *(table.cycle[x] + late - latency for x, late in table.afters[v]
-                      if x != v and table.unit[x] != FREE)])
-        return unit, self.rng.randint(first, max(first, last))
+        first, last = table.window(v, unit)
+        first = max([first, *(table.ends(x) - late for x, late in table.befores[v]
+                              if x != v and table.unit[x] != FREE)])
+        last = min([last, *(table.cycle[x] + late - latency for x, late in table.afters[v]
+                            if x != v and table.unit[x] != FREE)])
+        return (unit, self.rng.randint(first, last)) if first <= last else None

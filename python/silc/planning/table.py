@@ -7,7 +7,7 @@ from typing import NamedTuple
 
 from silc.planning.places import Places
 from silc.planning.problem import Port, Problem
-from silc.planning.windows import Windows
+from silc.planning.windows import Windows, span_on
 
 FREE = -1
 
@@ -144,14 +144,18 @@ class Table:
                 for x in self.holders(v, unit, file, turn):
                     cost += weight[x]
             costs.append(cost)
-        first, last = self.windows.first[v], min(self.windows.last[v],
-                                                 self.problem.stages * period - hardware.latency)
+        first, last = self.window(v, unit)
         steps = self.steps(v, hardware.latency, first, last)
         made, late = [], 0
         for cycle in range(first, last + 1):
             late += steps[cycle - first]
             made.append(Choice(costs[cycle % period] + late, unit, cycle))
         return made
+
+    def window(self, v: int, unit: int) -> tuple[int, int]:
+        """The first and the last cycle in which a node may begin on a unit."""
+        first, last = span_on(self.problem, self.period, v, unit)
+        return max(first, self.windows.first[v]), min(last, self.windows.last[v])
 
     def steps(self, v: int, latency: int, first: int, last: int) -> list[int]:
         """By how much the weight of the neighbours that are in the way changes from cycle to cycle."""
