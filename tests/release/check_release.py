@@ -29,7 +29,7 @@ WANTED = ("silc", "RELEASE", "README.md", *(f"crates/{name}/out/{name}" for name
           "docs/pictures/smooth.svg", "completions/silc.bash", "completions/_silc", "editor/lsp/silc-lsp",
           "hardware/silc_parts.v", "examples/biquads/biquads.sil", "examples/pipeline")
 UNWANTED = ("tools/build", "tools/release", "tools/trusted", "tools/antt/modules.py", "tests/all", "crates.txt",
-            "examples/run", "crates/low/src/lib.rt", "docs/junk.txt")
+            "examples/run", "examples/plans", "crates/low/src/lib.rt", "docs/junk.txt")
 
 
 class Room:
