@@ -1,5 +1,6 @@
 """Where things are that the package does not hold: the proved programs `silc`, `silc_show` and `silc_place`, and the
-checkout with its files. This is the one place that says so. Commands that start often import it, so it imports little."""
+checkout with its files. This is the one place that says so. Commands that start often import it, so it imports
+little."""
 import os
 import sys
 
