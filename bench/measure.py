@@ -18,7 +18,7 @@ ROOT = Path(__file__).resolve().parent.parent
 # Programs that are built elsewhere are named by these variables; then none is built.
 PROGRAM = Path(programs.SHOW.place())
 SILC = Path(programs.SILC.place())
-VARIABLES = {"silc_show": "SILC_SHOW", "silc_main": "SILC"}
+VARIABLES = {"silc_show": "SILC_SHOW", "silc_main": "SILC", "silc_place": "SILC_PLACE"}
 # The microcode of y = x + 1.
 INCREMENT = ROOT / "tests" / "increment" / "add-8-1.mic"
 COUNTED = re.compile(rb"Collected : (\d+)")

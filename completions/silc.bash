@@ -1,7 +1,7 @@
 # Completion of `silc` for bash: source this file, or put it into a folder of bash-completion under the name `silc`.
 
 # made by tools/completions
-_silc_words='run eval compile sim schedule list demo stages pipe frame net explain check draw design ranges values noise explore plan link rows batch assemble rom vcd verilog cosimulate cost synthesize board fuzz show build help'
+_silc_words='run eval compile sim schedule list demo stages pipe frame net place same explain check draw design ranges values noise explore plan link rows batch assemble rom vcd verilog cosimulate cost synthesize board fuzz show build help'
 _silc_forms='run *.sil *.toml * *
 eval *.sil * *
 compile *.sil *.toml *
@@ -41,7 +41,7 @@ values *.sil * - ...
 noise *.sil *
 noise *.sil
 explore *.sil *
-plan - - *.sil *.toml
+plan - * *.sil *.toml
 plan - ...
 link *.sil - *
 link - *
@@ -66,6 +66,8 @@ synthesize *.mic
 synthesize *.toml
 board - *.mic /
 fuzz sources|datapaths|microcode|samples|damaged|all - -
+place *.sil *.toml * *
+same *.sil *.mic
 show tokens|tree|text|names|elements|types|graph *.sil
 show origins *.sil *.toml
 show values *.sil *
@@ -85,7 +87,7 @@ design --attenuation=- --band=- --dither=- --edge=- --force --form=df1|df2t|latt
 ranges --all --element=- --force --json --library=/ --picture=* --seconds=- --worst --worst-input=* --wraps=-
 values --json --library=/
 noise --against=* --force --impulse=- --library=/ --picture=* --zero-input=-
-explore --against=* --area=ice40|xilinx|ecp5 --best=- --clock=- --dsp --force --jobs=- --json --library=/ --out=- --pool --samples=* --sshlogin=- --stages=-
+explore --against=* --area=ice40|xilinx|ecp5 --best=- --best-plans=- --clock=- --dsp --force --jobs=- --json --library=/ --out=- --pool --samples=* --sshlogin=- --stages=-
 plan --datapath=* --force --period=- --registers --roomy --seconds=- --seed=- --solver=- --stages=- --table
 link --check=*.sil --force --library=/ --pages --test --where=-
 rows --bits=16|24|32 --columns=- --force

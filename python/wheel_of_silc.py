@@ -27,7 +27,7 @@ def project() -> dict[str, Any]:
 
 def programs() -> dict[str, Path]:
     """The proved programs that are built, by their places in the package."""
-    built = {name: TOP / "crates" / name / "out" / name for name in ("silc_main", "silc_show")}
+    built = {name: TOP / "crates" / name / "out" / name for name in ("silc_main", "silc_show", "silc_place")}
     return {f"silc/bin/{name}": file for name, file in built.items() if file.is_file()}
 
 

@@ -1,6 +1,6 @@
 #!/usr/bin/env python3
 """Whether tools/build and ./silc build a program exactly where that is to be done and was asked for: in a repository of
-three crates, with a toolchain that is played by a script and counts its builds.
+a few crates, with a toolchain that is played by a script and counts its builds.
 
 usage: tests/check_build.py
 """
@@ -28,6 +28,8 @@ run) echo run >>"{kit}/runs"
 esac
 """
 LONG_AGO = time.time() - 10**6
+# The programs that ./silc build makes.
+PROGRAMS = ("silc_main", "silc_show", "silc_place", "silc_same")
 
 
 class Room:
@@ -38,14 +40,14 @@ class Room:
         # Whether each call of ./silc is to build what is old, and what the last one said.
         self.is_asked, self.said = False, ""
         self.kit.mkdir()
-        self.source, self.show, self.low = (self.top / "crates" / name / "src" / file for name, file in
-                                            (("silc_main", "main.rt"), ("silc_show", "main.rt"), ("low", "lib.rt")))
-        for file, text in ((self.source, "first"), (self.show, "layer"), (self.low, "low")):
+        sources = [self.top / "crates" / name / "src" / "main.rt" for name in PROGRAMS]
+        self.source, self.low = sources[0], self.top / "crates" / "low" / "src" / "lib.rt"
+        for file, text in zip([*sources, self.low], ["first", "layer", "plan", "microcode", "low"]):
             file.parent.mkdir(parents=True)
             file.write_text(text)
         for name in ("specs", "proofs"):
             (self.low.parent.parent / name).mkdir()
-        (self.top / "crates.txt").write_text("low:\nsilc_main: low\nsilc_show:\n")
+        (self.top / "crates.txt").write_text("low:\nsilc_main: low\nsilc_show:\nsilc_place:\nsilc_same:\n")
         (self.top / "HANDLES").write_text("Handles allowed: none.\n")
         (self.top / "tools").mkdir()
         for name in ("tools/build", "silc"):
@@ -89,10 +91,13 @@ def check_unasked(room: Room) -> None:
     silc = room.top / "silc"
     room.expect_refusal("nothing is built, and nothing was asked for", "2 crates are to be proved and built",
                         " min or so")
-    room.expect("what is asked for", "", 2, silc, "build")
+    room.expect("a program of its own is not built", "", 0, silc, "same", "a", "b", status=69)
+    room.expect("what is asked for", "", len(PROGRAMS), silc, "build")
     room.expect("once more", "", 0, silc, "build")
     room.expect("it is built", "kit-1 first list b", 0)
     room.expect("a layer", "kit-1 layer a b", 0, silc, "show", "a", "b")
+    room.expect("a plan", "kit-1 plan a b c", 0, silc, "place", "a", "b", "c")
+    room.expect("microcode", "kit-1 microcode a b", 0, silc, "same", "a", "b")
     room.source.touch()
     room.expect("a source is touched and holds the same", "kit-1 first list b", 0)
     room.source.write_text("other")
@@ -105,7 +110,7 @@ def check_unasked(room: Room) -> None:
     room.expect("a release builds nothing", "", 0, silc, "build", status=69)
     (room.top / "RELEASE").unlink()
     room.source.write_text("first")
-    for name in ("silc_main", "silc_show"):
+    for name in PROGRAMS:
         shutil.rmtree(room.top / "crates" / name / "out")
 
 

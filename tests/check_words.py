@@ -24,8 +24,11 @@ PLAYED = '#!/bin/sh\nprintf "%s:" "${0##*/}" "$@"; cat; echo to stderr >&2; exit
 # Tools for who changes the repository, which are no words.
 UNSAID = {"alike", "build", "calling", "completions", "crates", "layout", "proved", "release", "remake", "trusted",
           "unreached", "wrong-bodies"}
+# The words that are programs of their own, those with proved answers first.
+ANSWERED = {"place": "silc_place", "same": "silc_same"}
+PROGRAMS = {**ANSWERED, "show": "silc_show"}
 # The words of the script itself.
-OWN = {"show", "build", "help"}
+OWN = {*PROGRAMS, "build", "help"}
 
 
 def commands() -> set[str]:
@@ -42,7 +45,7 @@ class Room:
 
     def __init__(self, folder: Path) -> None:
         self.top = folder / "top folder"
-        for name in ("silc_main", "silc_show"):
+        for name in ("silc_main", *PROGRAMS.values()):
             self.play(self.top / "crates" / name / "out" / name)
         for name in tools():
             self.play(self.top / "tools" / name)
@@ -62,8 +65,8 @@ class Room:
 
 def handed_faults(room: Room) -> Iterator[str]:
     """Each word goes where it belongs, and what comes back is what was answered."""
-    for word in sorted(commands() | tools() | {"show"}):
-        program, *lead = ([word] if word in tools() else ["silc_show"] if word == "show" else ["silc_main", word])
+    for word in sorted(commands() | tools() | PROGRAMS.keys()):
+        program, *lead = [word] if word in tools() else [PROGRAMS[word]] if word in PROGRAMS else ["silc_main", word]
         done = room.run(word, "a b", "*")
         expected = "".join(f"{part}:" for part in (program, *lead, "a b", "*")) + "read"
         if (done.returncode, done.stdout, done.stderr) != (7, expected, "to stderr\n"):
@@ -78,17 +81,20 @@ def help_faults(room: Room) -> Iterator[str]:
     shown = room.run("help")
     heads = re.split(r"^(?=\w.*:\n)", shown.stdout, flags=re.M)
     listed = [set(re.findall(r"^  ([a-z]+) ", part, re.M)) for part in heads]
-    proved = set().union(*(words for part, words in zip(heads, listed) if "which is proved" in part.split("\n")[0]))
-    others = set().union(*(words for part, words in zip(heads, listed) if "not proved" in part.split("\n")[0]))
+    proved, others, answered = (
+        set().union(*(words for part, words in zip(heads, listed) if said in part.split("\n")[0]))
+        for said in ("which is proved", "not proved", "what each says is proved"))
     if proved != commands():
         yield f"the proved commands of `silc help` are {sorted(proved)}, and the program's are {sorted(commands())}"
+    if answered != ANSWERED.keys():
+        yield f"the programs of `silc help` are {sorted(answered)}, and are {sorted(ANSWERED)}"
     if others != tools() | {"show"}:
         yield f"the tools of `silc help` are {sorted(others)}, and those of tools/ are {sorted(tools())} and show"
     for words, status, stream in ((["-h"], 0, "stdout"), ([], 2, "stderr"), (["help", "help"], 0, "stdout")):
         done = room.run(*words)
         if done.returncode != status or getattr(done, stream) != shown.stdout:
             yield f"{words}: {done.returncode} {done.stdout!r} {done.stderr!r}"
-    for word in sorted(commands()):
+    for word in sorted(commands() | ANSWERED.keys()):
         done = room.run("help", word)
         if done.returncode or not done.stdout.startswith(f"usage: silc {word} "):
             yield f"help {word}: {done.returncode} {done.stdout!r}"
@@ -96,6 +102,24 @@ def help_faults(room: Room) -> Iterator[str]:
         done = room.run("help", word)
         if (done.returncode, done.stdout) != (0, f"{word}:--help:readto stderr\n"):
             yield f"help {word}: {done.returncode} {done.stdout!r}"
+
+
+def placed_faults(room: Room) -> Iterator[str]:
+    """OUT of `place` is there whole or as it was, and is no input by another name."""
+    program, out = room.top / "crates" / "silc_place" / "out" / "silc_place", room.top / "out.mic"
+    for status, left in ((0, "made"), (16, "as it was")):
+        out.write_text("as it was")
+        program.write_text(f'#!/bin/sh\n[ "$1 $2 $3" = "a.sil dp plan" ] && [ "$4" != out.mic ] && printf made >"$4"\n'
+                           f"exit {status}\n")
+        done = room.run("place", "a.sil", "dp", "plan", out.name)
+        if (done.returncode, out.read_text()) != (status, left):
+            yield f"place that ends with {status}: {done.returncode} {out.read_text()!r} {done.stderr!r}"
+    (room.top / "link").symlink_to("out.mic")
+    done = room.run("place", "a.sil", "dp", "out.mic", "link")
+    if done.returncode != 2 or "by another name" not in done.stderr:
+        yield f"place into its plan by another name: {done.returncode} {done.stderr!r}"
+    for left in room.top.glob(".silc.*"):
+        yield f"place leaves {left.name}"
 
 
 def near_faults(room: Room) -> Iterator[str]:
@@ -114,9 +138,10 @@ def near_faults(room: Room) -> Iterator[str]:
 
 def lacking_faults(room: Room) -> Iterator[str]:
     """Where a program is not there, tools run, and what needs it says so."""
-    (room.top / "crates" / "silc_main" / "out" / "silc_main").unlink()
-    (room.top / "crates" / "silc_show" / "out" / "silc_show").unlink()
-    for word, status in (("run", 69), ("show", 69), ("draw", 7), ("help", 0), ("build", 69), ("help build", 69)):
+    for name in ("silc_main", *PROGRAMS.values()):
+        (room.top / "crates" / name / "out" / name).unlink()
+    for word, status in (("run", 69), ("show", 69), ("draw", 7), ("help", 0), ("build", 69), ("help build", 69),
+                         ("place", 69), ("place a b c d", 69), ("same a b", 69), ("help place", 0)):
         done = room.run(*word.split())
         if done.returncode != status or (status == 69 and not done.stderr.startswith("silc: ")):
             yield f"without programs {word} ends with {done.returncode}: {done.stderr!r}"
@@ -125,7 +150,8 @@ def lacking_faults(room: Room) -> Iterator[str]:
 def main() -> int:
     with tempfile.TemporaryDirectory(prefix="silc-words-") as folder:
         room = Room(Path(folder))
-        faults = [fault for check in (handed_faults, help_faults, near_faults, lacking_faults) for fault in check(room)]
+        checks = (handed_faults, help_faults, near_faults, placed_faults, lacking_faults)
+        faults = [fault for check in checks for fault in check(room)]
     if commands() & tools() or (commands() | tools()) & OWN:
         faults.append("a word is a command and a tool")
     for fault in faults:

@@ -1,5 +1,6 @@
-"""Where things are that the package does not hold: the proved programs `silc` and `silc_show`, and the checkout with
-its files. This is the one place that says so. Commands that start often import it, so it imports little."""
+"""Where things are that the package does not hold: the proved programs `silc`, `silc_show` and `silc_place`, and the
+checkout with its files. This is the one place that says so. Commands that start often import it, so it imports
+little."""
 import os
 import sys
 
@@ -86,3 +87,4 @@ def with_package() -> dict[str, str]:
 
 SILC = Program("silc", "SILC", "silc_main")
 SHOW = Program("silc_show", "SILC_SHOW", "silc_show")
+PLACE = Program("silc_place", "SILC_PLACE", "silc_place")

@@ -24,6 +24,7 @@ from pathlib import Path
 from typing import Any, TypeAlias
 
 from silc.exploring.template import Template, text_of
+from silc.programs import PLACE
 
 # A row of a table, by the names of its columns.
 Row: TypeAlias = dict[str, str]
@@ -282,6 +283,28 @@ def best_faults(room: Path, silc: Path, rows: Sequence[Row]) -> Iterator[str]:
         yield f"a row that is not there: {done.returncode} {done.stderr}"
 
 
+def plan_faults(room: Path, silc: Path) -> Iterator[str]:
+    """The better plan of each row of the front is no longer than that of the rules, and its microcode puts the rows of
+    the source."""
+    if not PLACE.is_there():
+        print("explore: better plans are left out: there is no silc_place; tools/build silc_place builds it")
+        return
+    done = tried(room, silc, "--pool", "--best-plans", "1", "--force", out="planned")
+    rows = [line.split() for line in done.stdout.splitlines()[1:]]
+    (room / "rows.txt").write_text("0\n100\n-128\n")
+    subprocess.run([silc, "eval", "source", "rows.txt", "solved.txt"], cwd=room, check=True)
+    if done.returncode or not rows:
+        yield f"--best-plans ends with {done.returncode}: {done.stderr}"
+    for row in rows:
+        made = room / "planned_plans" / row[0]
+        period = tomllib.loads(made.with_suffix(".toml").read_text())["period"]
+        run = subprocess.run([silc, "sim", made.with_suffix(".mic"), "rows.txt", "run.txt"], cwd=room)
+        if run.returncode or (room / "run.txt").read_bytes() != (room / "solved.txt").read_bytes():
+            yield f"the microcode of row {row} puts other rows"
+        if int(row[-2]) != period or period > int(row[1]) or row[-1] not in ("yes", "open"):
+            yield f"row {row} has a plan with period {period}"
+
+
 def fit_faults(room: Path, silc: Path, rows: Sequence[Row]) -> Iterator[str]:
     """Files that are to fit have as many registers as the plan takes, and the best datapath file has a plan with them
     and none with one fewer."""
@@ -522,6 +545,7 @@ def main(words: list[str]) -> int:
         text, done = explored(room, silc, "--pool")
         faults = [*faults_of(text, rows), *picture_faults(room, rows), *resumed_faults(room, silc, text),
                   *copies_faults(), *reason_faults(rows, done.stderr), *best_faults(room, silc, rows),
+                  *plan_faults(room, silc),
                   *fit_faults(room, silc, rows), *unfit_faults(room, silc), *core_faults(room, silc),
                   *length_faults(room, silc), *linked_faults(room, silc), *wrap_faults(room, silc),
                   *dsp_faults(room, silc), *clock_faults(room, silc, rows), *stages_faults(room, silc),

@@ -1,15 +1,17 @@
 #!/usr/bin/env python3
-"""Whether each plan that the search finds for random programs on random processors passes the checker of plans.
+"""Whether each plan that the search finds for random programs on random processors passes the checker of plans, and
+`silc_place` takes it.
 
-usage: tests/plan/check_random.py [--silc PROGRAM] [COUNT [SEED]]
+usage: tests/plan/check_random.py [--silc PROGRAM] [--seconds N] [COUNT [SEED]]
 
-Of COUNT programs, 200 where nothing is said, each is searched over one, two or four stages, by turns with the files and
-memories of its processor and with such as are large enough. A program that has no place by the rules in any period is
-left out, and another is made. Looked at is that each plan passes, with its buses and registers and without (but for
-plans of the rules whose buses are others than the first in the order of the nodes); that no period of the rules is
-lost; that no bound and no solver refutes a period in which the rules have a plan; and that the microcode of a plan over
-one stage puts the rows of `silc eval` on `silc sim`. Without a solver the heuristics are tried alone, and it ends with
-77.
+Of COUNT programs, 200 where nothing is said, each is searched for N seconds, 0.15 where nothing is said, over one, two
+or four stages, by turns with the files and memories of its processor and with such as are large enough. A program that
+has no place by the rules in any period is left out, and another is made. Looked at is that each plan passes, with its
+buses and registers and without; that no period of the rules is lost; and that no bound and no solver refutes a period
+in which the rules have a plan. Of a plan over one stage `silc_place` makes microcode, which puts the rows of `silc
+eval` on `silc sim`; of the plan of the rules it makes that of `silc compile`. It runs the built programs, or those that
+`SILC` and `SILC_PLACE` name. Without `silc_place` this is left out, and without a solver the heuristics are tried
+alone; then it ends with 77.
 """
 from __future__ import annotations
 
@@ -19,9 +21,11 @@ import tomllib
 from collections import Counter
 from pathlib import Path
 from random import Random
+from typing import Any
 
-from machine import NoRows, microcode_of, rows_of
+from machine import NoRows, rows_of
 from silc import programs
+from silc.exploring.template import text_of
 from silc.fuzzing import datapaths, samples, sources
 from silc.planning.check import NoPlan, check
 from silc.planning.places import Places
@@ -38,13 +42,16 @@ STAGES, SECONDS = (1, 2, 1, 4), 0.15
 MOST_NODES = 120
 # A plan of the rules is looked for among the clauses of one program in so many.
 SOLVED = 4
+# After how many programs it says how far it is.
+TOLD = 20
 
 
 class Tried:
     """What was seen of the programs so far."""
 
-    def __init__(self, silc: str, seed: int) -> None:
-        self.silc, self.seed, self.solver = silc, seed, solver_there()
+    def __init__(self, silc: str, seed: int, seconds: float) -> None:
+        self.silc, self.seed, self.seconds, self.solver = silc, seed, seconds, solver_there()
+        self.place = programs.PLACE.place() if programs.PLACE.is_there() else None
         self.seen: Counter[str] = Counter()
         self.faults: list[str] = []
 
@@ -62,17 +69,17 @@ class Tried:
             return False
         try:
             start, best = self.search(number, ruled, is_roomy)
-            if start and best and stages == 1:
+            if self.place and stages == 1:
                 rows = samples.text_of(rng, samples.rows_of(rng, source.inputs), True)
                 self.run(number, ruled, start, best, is_roomy, rows)
-        except (NoPlan, NoRows) as why:
+        except (NoPlan, NoRows, ValueError) as why:
             self.faults.append(f"program {number} of seed {self.seed}: {why}")
         return True
 
     def search(self, number: int, ruled: Ruled, is_roomy: bool) -> tuple[Places | None, Places | None]:
         """Searches, and looks at what comes of it. The plan of the rules and the best one."""
         start = ruled.best()
-        finder = Finder(ruled.problem, start, Wanted(SECONDS, self.solver, number, is_roomy, number % 2 == 0),
+        finder = Finder(ruled.problem, start, Wanted(self.seconds, self.solver, number, is_roomy, number % 2 == 0),
                         lambda text: None)
         finder.run()
         self.seen["programs"] += 1
@@ -91,25 +98,44 @@ class Tried:
             self.seen["where the rules have none"] += 1
         return start, finder.best
 
-    def run(self, number: int, ruled: Ruled, start: Places, best: Places, is_roomy: bool, rows: bytes) -> None:
-        """The plan's microcode puts the rows of the source's solution."""
-        made = fitted(ruled.datapath, best) if is_roomy else ruled.datapath | {"period": best.period}
-        microcode = microcode_of(self.silc, ruled.source, ruled.datapath | {"period": start.period}, best.text(), made)
-        if microcode is None:
-            return
-        solved = ran(self.silc, ["eval", ruled.source, STDIN, STDOUT], rows)
-        if solved.status or rows_of(self.silc, microcode, rows) != solved.out:
-            self.faults.append(f"program {number} of seed {self.seed}: other rows")
-        self.seen["run"] += 1
+    def hardware(self, ruled: Ruled, places: Places, is_roomy: bool) -> dict[str, Any]:
+        """The datapath of a plan."""
+        return fitted(ruled.datapath, places) if is_roomy else ruled.datapath | {"period": places.period}
+
+    def run(self, number: int, ruled: Ruled, start: Places | None, best: Places | None, is_roomy: bool,
+            rows: bytes) -> None:
+        """`silc_place` takes both plans; that of the rules is the one of `silc compile`, and the microcode of the best
+        one puts the rows of the source's solution."""
+        if start and self.placed(ruled, start, is_roomy) != self.compiled(ruled, start, is_roomy):
+            self.faults.append(f"program {number} of seed {self.seed}: the rules' plan has other microcode")
+        if best:
+            microcode = self.placed(ruled, best, is_roomy)
+            solved = ran(self.silc, ["eval", ruled.source, STDIN, STDOUT], rows)
+            if solved.status or rows_of(self.silc, microcode, rows) != solved.out:
+                self.faults.append(f"program {number} of seed {self.seed}: other rows")
+            self.seen["placed and run"] += 1
+
+    def placed(self, ruled: Ruled, places: Places, is_roomy: bool) -> bytes:
+        """The microcode that `silc_place` makes of the units and cycles."""
+        assert self.place
+        datapath = text_of(self.hardware(ruled, places, is_roomy)).encode()
+        answer = ran(self.place, [ruled.source, datapath, places.text().encode(), STDOUT])
+        if answer.status:
+            raise NoRows(f"silc_place: {answer.said}")
+        return answer.out
+
+    def compiled(self, ruled: Ruled, places: Places, is_roomy: bool) -> bytes:
+        answer = ran(self.silc, ["compile", ruled.source, text_of(self.hardware(ruled, places, is_roomy)).encode(),
+                                 STDOUT])
+        if answer.status:
+            raise NoRows(f"compile: {answer.said}")
+        return answer.out
 
     def check(self, ruled: Ruled, places: Places, is_roomy: bool) -> None:
         """The plan passes, as it is and as nodes, cycles and units alone."""
-        made = fitted(ruled.datapath, places) if is_roomy else ruled.datapath | {"period": places.period}
-        text = places.text()
+        made, text = self.hardware(ruled, places, is_roomy), places.text()
         check(text, ruled.nodes, made, ruled.stages)
         self.seen["plans"] += 1
-        if places.has_own_buses:
-            return
         check("".join(" ".join(line.split()[:6]) + "\n" for line in text.splitlines()[1:]), ruled.nodes, made,
               ruled.stages)
 
@@ -131,16 +157,18 @@ class Tried:
 
 
 def main(words: list[str]) -> int:
-    silc = SILC
-    if words[:1] == ["--silc"] and len(words) > 1:
-        silc, words = words[1], words[2:]
+    silc, seconds = SILC, SECONDS
+    while words[:1] in (["--silc"], ["--seconds"]) and len(words) > 1:
+        silc, seconds = (words[1], seconds) if words[0] == "--silc" else (silc, float(words[1]))
+        words = words[2:]
     if len(words) > 2 or not all(word.isdigit() for word in words):
         print(__doc__, file=sys.stderr)
         return 2
     count, seed = [*map(int, words), *(COUNT, SEED)[len(words):]]
-    tried, number = Tried(str(Path(silc).resolve()), seed), 0
+    tried, number = Tried(str(Path(silc).resolve()), seed, seconds), 0
     while tried.seen["programs"] < count:
-        tried.program(number)
+        if tried.program(number) and tried.seen["programs"] % TOLD == 0:
+            print(f"plan: {tried.seen['programs']} of {count} programs", file=sys.stderr, flush=True)
         number += 1
     for fault in tried.faults:
         print(fault)
@@ -148,7 +176,9 @@ def main(words: list[str]) -> int:
     print(f"plan: {told}, {len(tried.faults)} faults")
     if not tried.solver:
         print("check_random: skipped in part: there is no cadical and no minisat (apt-get install cadical)")
-    return 1 if tried.faults else 0 if tried.solver else SKIPPED
+    if not tried.place:
+        print("check_random: skipped in part: there is no silc_place; tools/build silc_place builds it")
+    return 1 if tried.faults else 0 if tried.solver and tried.place else SKIPPED
 
 
 if __name__ == "__main__":

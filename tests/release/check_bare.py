@@ -3,10 +3,10 @@
 
 usage: tests/release/check_bare.py [ROOT]
 
-It packs the built programs, or those that `SILC` and `SILC_SHOW` name, and installs the package in a root that
-debootstrap makes, with Python beside what is essential, or in a copy of the root ROOT that was made so before. It needs
-root, and to make a root the network and some minutes. Without debootstrap, dpkg-deb or the rights it is skipped, and
-ends with 77; without a program 70.
+It packs the built programs, or those that `SILC`, `SILC_SHOW`, `SILC_PLACE` and `SILC_SAME` name, and installs the
+package in a root that debootstrap makes, with Python beside what is essential, or in a copy of the root ROOT that was
+made so before. It needs root, and to make a root the network and some minutes. Without debootstrap, dpkg-deb or the
+rights it is skipped, and ends with 77; without a program 70.
 """
 import os
 import shlex

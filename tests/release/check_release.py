@@ -17,7 +17,7 @@ import tempfile
 import time
 from pathlib import Path
 
-from copies import LINE, ROOT, copy_of, module_of, users
+from copies import LINE, ROOT, VARIABLES, copy_of, module_of, users
 
 SKIPPED = 77
 VERSION = "7.8.9"
@@ -25,12 +25,11 @@ PLAYED = f'#!/bin/sh\necho "silc {VERSION}"\n'
 NAMES = {f"silc-{VERSION}-linux-x86_64.tar.gz", f"silc_{VERSION}_amd64.deb", "SHA256SUMS"}
 TOP = f"silc-{VERSION}"
 # What a user needs, and what is no user's.
-WANTED = ("silc", "RELEASE", "README.md", "crates/silc_main/out/silc_main", "crates/silc_show/out/silc_show",
-          "docs/TUTORIAL.md",
+WANTED = ("silc", "RELEASE", "README.md", *(f"crates/{name}/out/{name}" for name in VARIABLES), "docs/TUTORIAL.md",
           "docs/pictures/smooth.svg", "completions/silc.bash", "completions/_silc", "editor/lsp/silc-lsp",
           "hardware/silc_parts.v", "examples/biquads/biquads.sil", "examples/pipeline")
 UNWANTED = ("tools/build", "tools/release", "tools/trusted", "tools/antt/modules.py", "tests/all", "crates.txt",
-            "examples/run", "crates/low/src/lib.rt", "docs/junk.txt")
+            "examples/run", "examples/plans", "crates/low/src/lib.rt", "docs/junk.txt")
 
 
 class Room:
@@ -41,7 +40,7 @@ class Room:
         script = folder / "script"
         script.write_text(PLAYED)
         script.chmod(0o755)
-        self.programs = {"silc_main": script, "silc_show": script}
+        self.programs = dict.fromkeys(VARIABLES, script)
         copy_of(self.top, self.programs, most=20)
         (self.top / "docs" / "__pycache__").mkdir()
         (self.top / "docs" / "__pycache__" / "junk.pyc").touch()
@@ -72,6 +71,10 @@ def check_refusals(room: Room) -> None:
         (kept / file).rename(room.folder / "away")
         refused(f"without {file}")
         (room.folder / "away").rename(kept / file)
+    for name in VARIABLES:
+        (room.top / "crates" / name / "out" / name).rename(room.folder / "away")
+        refused(f"without {name}", f"{name} is not made from the sources at hand")
+        (room.folder / "away").rename(room.top / "crates" / name / "out" / name)
     source.write_text("other")
     refused("a source that changed")
     source.write_text("low")
@@ -149,11 +152,13 @@ def check_tarball(room: Room) -> None:
         room.expect(held[name].mode == 0o755, f"{name} is no program")
     made_from = (room.top / "crates" / "silc_main" / "out" / "silc_main.made-from").read_text().splitlines()
     for line in (f"silc {VERSION}", f"toolchain: {made_from[0]}", f"sources of silc_main: {made_from[1]}",
-                 f"program silc_show: {hashlib.sha256(PLAYED.encode()).hexdigest()}", "commit: unknown"):
+                 *(f"program {name}: {hashlib.sha256(PLAYED.encode()).hexdigest()}" for name in VARIABLES),
+                 "commit: unknown"):
         room.expect(line in told.splitlines(), f"RELEASE has no line {line!r}: {told!r}")
-    said = subprocess.run([room.folder / "unpacked" / TOP / "silc", "--version"], env=users(room.folder),
-                          capture_output=True, text=True)
-    room.expect(said.stdout == f"silc {VERSION}\n", f"what is unpacked says {said.stdout!r} {said.stderr!r}")
+    for words in (["--version"], ["place", "--version"], ["same", "a", "b"], ["show", "a"]):
+        said = subprocess.run([room.folder / "unpacked" / TOP / "silc", *words], env=users(room.folder),
+                              capture_output=True, text=True)
+        room.expect(said.stdout == f"silc {VERSION}\n", f"what is unpacked says {said.stdout!r} {said.stderr!r}")
 
 
 def check_package(room: Room) -> None:

@@ -4,8 +4,9 @@ commands of the page run in an empty HOME, with neither the toolchain nor this r
 
 usage: tests/release/check_session.py
 
-It packs the built programs, or those that `SILC` and `SILC_SHOW` name, with what this repository has. The exit status
-is 70 where a program is not built, and 77 without dpkg-deb.
+It packs the built programs, or those that `SILC`, `SILC_SHOW`, `SILC_PLACE` and `SILC_SAME` name, with what this
+repository has; the two last are given the page's plan and microcode. The exit status is 70 where a program is not
+built, and 77 without dpkg-deb.
 """
 import shutil
 import subprocess
@@ -52,6 +53,20 @@ def session_faults(top: Path, room: Path) -> Iterator[str]:
     outputs, last = carry_out(blocks, top, users(room))
     drawn = {PICTURE: (last / PICTURE).read_text() if (last / PICTURE).is_file() else ""}
     yield from faults_of(page, shown, outputs, drawn)
+    yield from placed_faults(top, last, room)
+
+
+def placed_faults(top: Path, folder: Path, room: Path) -> Iterator[str]:
+    """What the programs for others' plans and microcode say of the page's own."""
+    for words in (["place", "smooth.sil", "small.toml", "smooth.schedule", "placed.mic"],
+                  ["same", "smooth.sil", "placed.mic"]):
+        done = subprocess.run([top / "silc", *words], cwd=folder, env=users(room), stdin=subprocess.DEVNULL,
+                              capture_output=True, text=True)
+        if (done.returncode, done.stdout, done.stderr) != (0, "", ""):
+            yield f"{words} ends with {done.returncode}: {done.stdout!r} {done.stderr!r}"
+            return
+    if (folder / "placed.mic").read_bytes() != (folder / "smooth.mic").read_bytes():
+        yield "the microcode of the page's plan is another than that of the page"
 
 
 def trace_faults(top: Path) -> Iterator[str]:

@@ -14,6 +14,8 @@ ROOT = Path(__file__).resolve().parent.parent.parent
 # The folders with many files, and those of their files that are not left out.
 LARGE, WANTED = {"docs", "examples", "tests"}, {"TUTORIAL.md", "smooth.svg", "biquads.sil", "pipeline"}
 LINE = "a line of the toolchain"
+# The programs of a release, and the variable that names another of each.
+VARIABLES = {"silc_main": "SILC", "silc_show": "SILC_SHOW", "silc_place": "SILC_PLACE", "silc_same": "SILC_SAME"}
 
 
 def module_of(script: Path) -> Any:
@@ -56,9 +58,9 @@ def mark(top: Path, names: Iterable[str]) -> None:
 
 
 def built() -> tuple[dict[str, Path], list[Path]]:
-    """The programs that are built, or those that `SILC` and `SILC_SHOW` name; which of them are not there."""
+    """The programs that are built, or those that the variables name; which of them are not there."""
     programs = {name: Path(os.environ.get(variable) or ROOT / "crates" / name / "out" / name).resolve()
-                for name, variable in (("silc_main", "SILC"), ("silc_show", "SILC_SHOW"))}
+                for name, variable in VARIABLES.items()}
     return programs, [program for program in programs.values() if not os.access(program, os.X_OK)]
 
 

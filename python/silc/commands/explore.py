@@ -2,7 +2,7 @@
 
 usage: tools/explore [--out NAME] [--force] [--best ROW] [--jobs N] [--sshlogin LOGIN] [--pool]
                      [--json] [--stages RANGE] [--samples S --against R] [--area FAMILY [--dsp] [--clock RATE]]
-                     [--library FOLDER] SRC TEMPLATE
+                     [--best-plans N] [--library FOLDER] SRC TEMPLATE
 
 TEMPLATE is a datapath file with ranges in the place of numbers: {1, 2} or {32..256 step 8}. {N: 8, 16} is a range with
 a name, and {N} elsewhere has the same number. The size {fit} of a file is the least with which the rest has a plan;
@@ -46,6 +46,12 @@ an ice40 up5k has; the others have some always. With --clock RATE, samples a sec
 the period, and a row whose core is too slow, or does not fit the part, is marked. NAME_clock.svg is the picture: the
 clock of each core over its period, and the line that it has to reach.
 
+With --best-plans N the plan of each row of the front is searched on for N seconds, as tools/plan does it, over the same
+units, buses, files and memories. Beside the row stands the least period that is found, and whether it is known to be
+the least. silc_place makes the microcode of the plan; with the plan and its datapath it is written into the folder
+NAME_plans, under the number of the row. It goes neither with --stages, since silc_place makes no microcode over stages,
+nor with --area, which is of the plans of the rules.
+
 With --json all rows come on standard output as JSON in the place of the front (docs/PYTHON.md).
 
 No file replaces an input. A table of another template or source stays, and so do other files that no tool made, but for
@@ -54,7 +60,7 @@ No file replaces an input. A table of another template or source stays, and so d
 GNU parallel runs silc, --jobs at a time on each machine, and by --sshlogin (more than one of them, as parallel has it)
 on other machines. With --pool, or without GNU parallel, threads of this script do it. It builds nothing: it runs the
 program that is built, or the one that `SILC` names in the environment, and with --samples `silc_show` too, or what
-`SILC_SHOW` names.
+`SILC_SHOW` names, and with --best-plans `silc_place`, or what `SILC_PLACE` names.
 """
 import argparse
 import json
@@ -75,11 +81,12 @@ from silc.designing.programs import Unrun
 from silc.exploring import runs
 from silc.exploring.bits import inputs_of
 from silc.exploring.exploration import Exploration
+from silc.exploring.planned import NotPlanned, Planned
 from silc.exploring.reasons import Reasons
 from silc.exploring.sources import BAD_SOURCE, Judgement, LinkedTemplate, PlainSource
 from silc.exploring.template import ITEMS, Choice, Template, fitted, numbers_of as numbers_in, text_of
-from silc.exploring.trades import (CLOCK, COSTS, MARK, NEEDED, STAGES, Area, Table, Trade, mark_front,
-                                   registers_by_file, trade_of)
+from silc.exploring.trades import (CLOCK, COSTS, LEAST, MARK, NEEDED, PLANNED_PERIOD, STAGES, Area, Table, Trade,
+                                   mark_front, registers_by_file, trade_of)
 from silc.hardware.fpga import MISFIT
 from silc.hardware.words import Range
 from silc.linking.blocks import Library
@@ -87,13 +94,15 @@ from silc.linking.places import File, Unlinked, has_head
 from silc.made_files import MadeFiles, NotMade, add_force
 from silc.pictures.plan import STAGES as COUNTS_OF_STAGES, plan_of
 from silc.pictures.tradeoff import draw_clock, draw_noise, draw_tradeoff
-from silc.programs import SILC, is_program
+from silc.programs import PLACE, SILC, NoProgram, is_program
 
 # The statuses of silc for a plan, and for a datapath that is none or has no place for a node.
 PLANNED, REFUSED = 0, (5, 6, 7, 8, 9)
 SECONDS_BETWEEN = 5
 STOPPED = 130
 FIRST = "first"
+# The ending of the folder with better plans.
+PLANS = "_plans"
 
 
 class Unexplored(Exception):
@@ -318,6 +327,31 @@ def add_areas(room: Path, options: Namespace, space: Space, front: list[Trade]) 
             + (f"; row {front.index(waiting[name]) + 1}: {area.misfit}" if area.misfit else ""))
 
 
+def fitting(room: Path, space: Space, trade: Trade) -> tuple[str, dict[str, Any]]:
+    """The source and the datapath of a row, with files that fit its plan."""
+    source, datapath = space.files(trade.choice)
+    name = space.name(FIRST, trade.choice)
+    put_files(room, name, source, datapath)
+    plan = plan_of(runs.run(room, name, space.command)[1], datapath)
+    return source, fitted(datapath, registers_by_file(plan))
+
+
+def add_plans(room: Path, options: Namespace, space: Space, front: list[Trade]) -> dict[str, str | bytes]:
+    """Searches for a better plan of each trade on the front. What is made of them, by the names of the files."""
+    made: dict[str, str | bytes] = {}
+    for number, trade in enumerate(front, 1):
+        source, datapath = fitting(room, space, trade)
+        try:
+            planned = Planned(SILC.place(), PLACE.found(), source.encode("latin-1"), datapath,
+                              space.inputs(trade.choice), options.best_plans)
+        except (NotPlanned, NoProgram) as why:
+            raise Unexplored(f"--best-plans, row {number}: {why}") from why
+        trade.planned, trade.is_least = planned.period, planned.is_least
+        made |= planned.files(str(number))
+        say(f"{number} of {len(front)} rows are searched; row {number}: period {planned.period}, {trade.period} before")
+    return made
+
+
 def area_columns(front: list[Trade], has_clock: bool) -> list[str]:
     """The columns of what cores take; with a clock, those of it and of the mark."""
     kinds = dict.fromkeys(kind for trade in front if trade.area for kind in trade.area.cells)
@@ -334,6 +368,10 @@ def rows_of(front: list[Trade], ranges: Iterable[str], has_clock: bool) -> list[
     columns = area_columns(front, has_clock)
     areas: list[list[Any]] = [columns]
     areas += [[trade.area.cell(column) if trade.area else "" for column in columns] for trade in front]
+    if any(trade.planned is not None for trade in front):
+        areas[0] = [*columns, PLANNED_PERIOD, LEAST]
+        areas[1:] = [[*area, trade.planned, "yes" if trade.is_least else "open"]
+                     for area, trade in zip(areas[1:], front)]
     return [row + area for row, area in zip(rows, areas)]
 
 
@@ -359,6 +397,12 @@ class Outputs:
                     self.files.look_at(name + ending)
         except NotMade as why:
             raise Unexplored(f"{why}; --out names others") from why
+
+    def put_folder(self, made: dict[str, str | bytes]) -> None:
+        try:
+            self.files.write_folder(self.name + PLANS, made)
+        except NotMade as why:
+            raise Unexplored(str(why)) from why
 
     def put(self, ending: str, text: str) -> None:
         try:
@@ -406,11 +450,8 @@ def write_best(room: Path, options: Namespace, outputs: Outputs, space: Space, f
     if options.best > len(front):
         raise Unexplored(f"there is no row {options.best} on the front, which has {len(front)}")
     trade = front[options.best - 1]
-    source, datapath = space.files(trade.choice)
-    name = space.name(FIRST, trade.choice)
-    put_files(room, name, source, datapath)
-    plan = plan_of(runs.run(room, name, space.command)[1], datapath)
-    outputs.put(".toml", text_of(fitted(datapath, registers_by_file(plan))))
+    _, datapath = fitting(room, space, trade)
+    outputs.put(".toml", text_of(datapath))
     costs = dict(zip(COSTS, trade.costs())) | {name: trade.choice[name] for name in (STAGES,) if name in trade.choice}
     say(f"{outputs.name}.toml has the datapath of row {options.best}: "
         + ", ".join(f"{cost} {value}" for cost, value in costs.items()))
@@ -434,6 +475,8 @@ def make(options: argparse.Namespace) -> int:
         outputs.put(".csv", table.text(trades))
         if options.area:
             add_areas(Path(folder), options, space, front)
+        if options.best_plans and front:
+            outputs.put_folder(add_plans(Path(folder), options, space, front))
         outputs.put(".svg", draw_tradeoff(trades) + "\n")
         if judgement:
             outputs.put("_noise.svg", draw_noise(trades) + "\n")
@@ -481,6 +524,7 @@ def options_of(words: list[str]) -> argparse.Namespace:
     parser.add_argument("--area", choices=("ice40", "xilinx", "ecp5"))
     parser.add_argument("--dsp", action="store_true")
     parser.add_argument("--clock", metavar="RATE", type=rate_word)
+    parser.add_argument("--best-plans", metavar="N", type=positive)
     parser.add_argument("--stages", metavar="RANGE", type=stages_of, default=[])
     parser.add_argument("--samples", metavar="S")
     parser.add_argument("--against", metavar="R")
@@ -490,6 +534,10 @@ def options_of(words: list[str]) -> argparse.Namespace:
         parser.error("--samples and --against go together")
     if options.area and options.stages:
         parser.error("--area is of microcode, and plans over stages have none")
+    if options.best_plans and options.stages:
+        parser.error("--best-plans is of microcode, and plans over stages have none")
+    if options.best_plans and options.area:
+        parser.error("--area is of the plans of the rules, and does not go with --best-plans")
     if options.dsp and options.area != "ice40":
         parser.error("--dsp is for --area" + (" ice40; the others have multipliers always" if options.area else ""))
     if options.clock and options.area != "ice40":
@@ -504,13 +552,15 @@ def main(words: list[str]) -> int:
             raise Unexplored("there is no yosys; apt-get install yosys")
         if options.clock and not shutil.which("nextpnr-ice40"):
             raise Unexplored("there is no nextpnr-ice40; apt-get install nextpnr-ice40")
+        if options.best_plans:
+            PLACE.found()
         if not options.pool and not runs.is_there():
             if options.sshlogin:
                 raise Unexplored("other machines need GNU parallel (apt-get install parallel)")
             say("there is no GNU parallel (apt-get install parallel), so threads of this script run silc")
             options.pool = True
         return make(options)
-    except Unexplored as why:
+    except (Unexplored, NoProgram) as why:
         say(why)
         return 1
     except OSError as fault:

@@ -35,8 +35,10 @@ def trade_as_json(trade: Trade) -> dict[str, Any]:
     """A combination: the number of each range, its costs, and what it is answered."""
     measures = ("registers", "taken", "cells", "cycles", "noise", "wraps")
     choice = {name: number if isinstance(number, int) else float(number) for name, number in trade.choice.items()}
+    better = {} if trade.planned is None else {"best_period": trade.planned, "least": trade.is_least}
     return {"choice": choice, **{cost: getattr(trade, cost) for cost in COSTS},
-            **{name: getattr(trade, name) for name in measures}, "answer": trade.answer, "front": trade.is_on_front}
+            **{name: getattr(trade, name) for name in measures}, "answer": trade.answer, "front": trade.is_on_front,
+            **better}
 
 
 def explored(source: Source, template: str | os.PathLike[str], jobs: int | None) -> Exploration:

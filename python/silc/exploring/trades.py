@@ -27,6 +27,8 @@ JUDGED = ("noise", "wraps")
 FITS, ON_FRONT = "fits", "yes"
 # The columns of a clock beside what a core takes, and how those rows are marked that do not reach it or have no place.
 CLOCK, NEEDED, MARK = "MHz", "needed MHz", "clock"
+# The columns of a better plan.
+PLANNED_PERIOD, LEAST = "best period", "least"
 TOO_SLOW, MISFITS = "too slow", "does not fit"
 OTHERWISE = "name another one by --out, or write over it by --force"
 
@@ -73,6 +75,9 @@ class Trade:
     noise: float | None = None
     wraps: int | None = None
     area: Area | None = None
+    # The period of a better plan, where one was searched for, and whether it is known to be the least.
+    planned: int | None = None
+    is_least: bool = False
 
     def fits(self) -> bool:
         return self.answer == FITS

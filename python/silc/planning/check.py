@@ -2,7 +2,8 @@
 
 A plan is lines `node V cycle T unit NAME`, behind a head line or without one, in any order. What else a line has, as
 `silc schedule` prints it, is judged too: the node itself, its buses and its registers. Where no line has buses, each
-transfer gets the first that is free, in the order of the nodes, and each copy its register by first fit.
+transfer gets the first that is free, by falling height of the nodes and then by their numbers, and each copy its
+register by first fit.
 """
 from __future__ import annotations
 
@@ -191,11 +192,21 @@ class Checking:
     def ways(self, unit: str, file: str) -> list[str]:
         return [bus["name"] for bus in self.datapath["bus"] if unit in bus["from"] and file in bus["to"]]
 
+    def by_height(self) -> list[Place]:
+        """The nodes in the order in which they take buses. Operands of the same sample are there, so a node that waits
+        for another begins later."""
+        heights = [0] * len(self.place)
+        for place in sorted(self.place, key=lambda place: -place.cycle):
+            waiting = [heights[reader] for reader, port in self.given[place.node].readers
+                       if self.given[reader].operands[port][1] == 0]
+            heights[place.node] = self.latency(place.node) + max([0, *waiting])
+        return sorted(self.place, key=lambda place: (-heights[place.node], place.node))
+
     def check_transfers(self) -> None:
         """Each result goes over a free route to each file that it is read from, and comes there alone."""
         written: dict[tuple[str, int], int] = {}
         driven: dict[tuple[str, int], int] = {}
-        for place in self.place:
+        for place in self.by_height():
             files, turn = self.files_of(place.node), self.written(place.node) % self.period
             said = {file: bus for file, bus, _ in place.to}
             if self.has_buses and (sorted(said) != sorted(files) or len(said) < len(place.to)):

@@ -31,26 +31,35 @@ class Places:
     units: list[int]
     cycles: list[int]
     buses: dict[tuple[int, Port], int] = field(default_factory=dict)
-    # Whether some of these are not the first that are free in the order of the nodes.
-    has_own_buses: bool = False
 
     def written(self, v: int) -> int:
         """The cycle in which the result of a node is there."""
         return self.cycles[v] + self.problem.units[self.units[v]].latency - 1
 
+    def heights(self) -> list[int]:
+        """Of each node how many cycles pass from its issue to the end of the last operation that waits for it in the
+        same sample."""
+        made = [0] * len(self.problem.nodes)
+        for v in sorted(range(len(made)), key=self.cycles.__getitem__, reverse=True):
+            after = [made[reader] for reader, port in self.problem.nodes[v].readers
+                     if not self.problem.nodes[reader].reads[port][1]]
+            made[v] = self.problem.units[self.units[v]].latency + max(after, default=0)
+        return made
+
     def route(self) -> None:
-        """Gives each transfer the first bus that is free, in the order of the nodes; `Unfit` where there is none."""
+        """Gives each transfer the first bus that is free, as silc_place does: by falling height of the nodes, then by
+        their numbers. `Unfit` where there is none."""
         taken: dict[tuple[int, int], int] = {}
-        self.buses = {}
-        for node in self.problem.nodes:
-            cycle = self.written(node.number) % self.period
-            for file in self.files_of(node.number):
-                ways = self.problem.routes.get((self.units[node.number], file), [])
-                bus = next((bus for bus in ways if taken.get((bus, cycle), node.number) == node.number), None)
+        self.buses, heights = {}, self.heights()
+        for v in sorted(range(len(heights)), key=lambda v: (-heights[v], v)):
+            cycle = self.written(v) % self.period
+            for file in self.files_of(v):
+                ways = self.problem.routes.get((self.units[v], file), [])
+                bus = next((bus for bus in ways if taken.get((bus, cycle), v) == v), None)
                 if bus is None:
-                    raise Unfit(f"no bus is free for node {node.number}")
-                taken[bus, cycle] = node.number
-                self.buses[node.number, file] = bus
+                    raise Unfit(f"no bus is free for node {v}")
+                taken[bus, cycle] = v
+                self.buses[v, file] = bus
 
     def files_of(self, v: int) -> list[Port]:
         """Where a node's result goes, in order."""

@@ -127,6 +127,11 @@ class Problem:
         return [min(self.units[unit].latency for unit in node.units) for node in self.nodes]
 
     @cached_property
+    def longest(self) -> list[int]:
+        """The greatest latency of each node over its units."""
+        return [max(self.units[unit].latency for unit in node.units) for node in self.nodes]
+
+    @cached_property
     def gives(self) -> list[bool]:
         return [CALLED[node.op].gives for node in self.nodes]
 

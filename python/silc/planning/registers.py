@@ -12,7 +12,7 @@ from silc.hardware.words import Range
 from silc.pictures.plan import plan_of
 from silc.planning.places import Places, Unfit
 from silc.planning.problem import COPIES, Port, Problem
-from silc.planning.table import FREE, Table, Unroutable
+from silc.planning.table import FREE, Buses, Table, Unroutable
 from silc.planning.windows import windows_of
 
 # What a plan is judged by: the registers that its files lack, how long its microprogram is, and its bits.
@@ -92,8 +92,9 @@ class Annealing:
         self.problem, self.period, self.inputs = start.problem, start.period, inputs
         self.rng, self.is_roomy = rng, is_roomy
         self.table = Table(start.problem, start.period, windows_of(start.problem, start.period))
-        for v in range(len(start.problem.nodes)):
-            self.table.put(v, start.units[v], start.cycles[v])
+        self.table.load(start)
+        # The buses that the nodes had which are being moved.
+        self.buses: Buses = {}
         self.pressure = Pressure(start.problem, start.period, inputs, is_roomy)
         for v in range(len(start.problem.nodes)):
             self.pressure.set(v, self.table)
@@ -142,18 +143,29 @@ class Annealing:
             self.pressure.set(x, self.table)
 
     def back(self, moved: dict[int, tuple[int, int]]) -> None:
+        """Puts nodes where they were, over the buses that they had."""
         for x in moved:
             if self.table.unit[x] != FREE:
                 self.table.take(x)
         for x, (unit, cycle) in moved.items():
-            self.table.put(x, unit, cycle)
+            self.table.put(x, unit, cycle, self.buses)
+
+    def taken(self, v: int) -> tuple[int, int]:
+        """Takes a node from its place, and remembers its buses."""
+        self.buses |= self.table.buses_at(v)
+        place = self.table.unit[v], self.table.cycle[v]
+        self.table.take(v)
+        return place
 
     def moved(self, v: int) -> dict[int, tuple[int, int]]:
         """Moves a node to a place in which one other is in its way at most. The old places of those that moved."""
-        old = {v: (self.table.unit[v], self.table.cycle[v])}
-        self.table.take(v)
+        self.buses = {}
+        old = {v: self.taken(v)}
         for _ in range(TRIES):
-            unit, cycle = self.place_for(v)
+            found = self.place_for(v)
+            if found is None:
+                continue
+            unit, cycle = found
             try:
                 others = self.table.in_the_way(v, unit, cycle)
             except Unroutable:
@@ -161,8 +173,7 @@ class Annealing:
             if (unit, cycle) == old[v] or len(others) > 1:
                 continue
             for other in others:
-                old[other] = self.table.unit[other], self.table.cycle[other]
-                self.table.take(other)
+                old[other] = self.taken(other)
             if not self.table.in_the_way(v, unit, cycle):
                 self.table.put(v, unit, cycle)
                 if all(self.fits(other, *old[v]) for other in others):
@@ -173,23 +184,24 @@ class Annealing:
 
     def fits(self, v: int, unit: int, cycle: int) -> bool:
         """Places a node where another was, in that cycle of the period, if it may stand there."""
-        windows, end = self.table.windows, self.problem.stages * self.period
         unit = unit if unit in self.problem.nodes[v].units else self.problem.nodes[v].units[0]
-        for start in range(cycle % self.period, end, self.period):
-            if windows.first[v] <= start <= min(windows.last[v], end - self.problem.units[unit].latency):
+        first, last = self.table.window(v, unit)
+        for start in range(cycle % self.period, self.problem.stages * self.period, self.period):
+            if first <= start <= last:
                 if not self.table.in_the_way(v, unit, start):
                     self.table.put(v, unit, start)
                     return True
         return False
 
-    def place_for(self, v: int) -> tuple[int, int]:
-        """A place for a node between what it waits for and what waits for it."""
+    def place_for(self, v: int) -> tuple[int, int] | None:
+        """A place for a node between what it waits for and what waits for it, on any of its units; nothing where that
+        one leaves none."""
         table = self.table
         unit = self.rng.choice(self.problem.nodes[v].units)
         latency = self.problem.units[unit].latency
-        first = max([table.windows.first[v], *(table.ends(x) - late for x, late in table.befores[v]
-                                               if x != v and table.unit[x] != FREE)])
-        last = min([table.windows.last[v], self.problem.stages * self.period - latency,
-                    *(table.cycle[x] + late - latency for x, late in table.afters[v]
-                      if x != v and table.unit[x] != FREE)])
-        return unit, self.rng.randint(first, max(first, last))
+        first, last = table.window(v, unit)
+        first = max([first, *(table.ends(x) - late for x, late in table.befores[v]
+                              if x != v and table.unit[x] != FREE)])
+        last = min([last, *(table.cycle[x] + late - latency for x, late in table.afters[v]
+                            if x != v and table.unit[x] != FREE)])
+        return (unit, self.rng.randint(first, last)) if first <= last else None

@@ -6,8 +6,8 @@ from typing import Any
 
 from silc.exploring.template import text_of
 from silc.pictures.plan import Plan
-from silc.planning.places import Places, Unfit
-from silc.planning.problem import Port, Problem
+from silc.planning.places import Places
+from silc.planning.problem import Problem
 from silc.planning.windows import LONGEST, Bounds
 from silc.running import ran
 
@@ -96,18 +96,10 @@ class Ruled:
 
 
 def places_of(problem: Problem, ruled: Plan, period: int) -> Places:
-    """The places of a plan by the rules, with the first buses that are free or else with its own."""
+    """The places of a plan by the rules, which take the first buses that are free in the same order."""
     places = Places(problem, period, [problem.numbers[node.unit] for node in ruled.nodes],
                     [node.cycle for node in ruled.nodes])
-    try:
-        places.route()
-    except Unfit:
-        for node in ruled.nodes:
-            for transfer in node.transfers:
-                unit, _, port = transfer.file.rpartition(".")
-                file = Port(problem.numbers[unit], int(port))
-                places.buses[node.number, file] = problem.buses.index(transfer.bus)
-        places.has_own_buses = True
+    places.route()
     return places
 
 

@@ -10,7 +10,7 @@ from pathlib import Path
 
 from silc.planning.places import Places
 from silc.planning.problem import Port, Problem
-from silc.planning.windows import Windows, windows_of
+from silc.planning.windows import Windows, span_on, windows_of
 
 FOUND, REFUTED = 10, 20
 PAIRS = 5
@@ -109,6 +109,10 @@ class Encoding:
         self.clauses.add(*made.values())
         if len(units) > 1:
             self.clauses.at_most_one(list(made.values()))
+        for unit, on in made.items():
+            first, last = span_on(self.problem, self.period, v, unit)
+            self.clauses.add(-on, -self.by(v, first - 1))
+            self.clauses.add(-on, self.by(v, last))
         return made
 
     def turns_of(self, v: int) -> dict[int, int]:

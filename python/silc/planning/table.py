@@ -3,13 +3,15 @@ the period."""
 from __future__ import annotations
 
 from collections.abc import Iterator
-from typing import NamedTuple
+from typing import NamedTuple, TypeAlias
 
 from silc.planning.places import Places
 from silc.planning.problem import Port, Problem
-from silc.planning.windows import Windows
+from silc.planning.windows import Windows, span_on
 
 FREE = -1
+# The bus over which a node goes into a file.
+Buses: TypeAlias = dict[tuple[int, Port], int]
 
 
 class Choice(NamedTuple):
@@ -144,14 +146,18 @@ class Table:
                 for x in self.holders(v, unit, file, turn):
                     cost += weight[x]
             costs.append(cost)
-        first, last = self.windows.first[v], min(self.windows.last[v],
-                                                 self.problem.stages * period - hardware.latency)
+        first, last = self.window(v, unit)
         steps = self.steps(v, hardware.latency, first, last)
         made, late = [], 0
         for cycle in range(first, last + 1):
             late += steps[cycle - first]
             made.append(Choice(costs[cycle % period] + late, unit, cycle))
         return made
+
+    def window(self, v: int, unit: int) -> tuple[int, int]:
+        """The first and the last cycle in which a node may begin on a unit."""
+        first, last = span_on(self.problem, self.period, v, unit)
+        return max(first, self.windows.first[v]), min(last, self.windows.last[v])
 
     def steps(self, v: int, latency: int, first: int, last: int) -> list[int]:
         """By how much the weight of the neighbours that are in the way changes from cycle to cycle."""
@@ -166,25 +172,44 @@ class Table:
                 steps[min(max(self.ends(before) - late - first, 0), top)] -= self.weight[before]
         return steps
 
-    def put(self, v: int, unit: int, cycle: int) -> None:
-        """Places a node where nothing is in its way."""
+    def load(self, places: Places) -> None:
+        """Places all nodes as a plan does, over its buses."""
+        self.unit, self.cycle, self.known = list(places.units), list(places.cycles), list(places.units)
+        for v, unit in enumerate(self.unit):
+            for place in range(self.cycle[v], self.cycle[v] + self.problem.units[unit].gap):
+                self.issued[unit][place % self.period] = v
+        for v, node in enumerate(self.problem.nodes):
+            for reader, port in node.readers:
+                self.drive(v, Port(self.unit[reader], port), places.buses)
+
+    def buses_at(self, v: int) -> Buses:
+        """The buses of what goes from a node and into its files."""
+        made = {(v, file): bus for file, (bus, _) in self.over[v].items()}
+        made |= {(read, file): self.over[read][file][0] for read, file in self.reads(v, self.unit[v])
+                 if file in self.over[read]}
+        return made
+
+    def put(self, v: int, unit: int, cycle: int, buses: Buses | None = None) -> None:
+        """Places a node where nothing is in its way, over these buses or the first that are free."""
         self.unit[v], self.cycle[v], self.known[v] = unit, cycle, unit
         for place in range(cycle, cycle + self.problem.units[unit].gap):
             self.issued[unit][place % self.period] = v
         for reader, port in self.problem.nodes[v].readers:
             if self.known[reader] != FREE:
-                self.drive(v, Port(self.known[reader], port))
+                self.drive(v, Port(self.known[reader], port), buses)
         for read, file in self.reads(v, unit):
             if read != v:
-                self.drive(read, file)
+                self.drive(read, file, buses)
 
-    def drive(self, v: int, file: Port) -> None:
+    def drive(self, v: int, file: Port, buses: Buses | None = None) -> None:
         """One more placed reader of a node at a file."""
         if file in self.over[v]:
             self.over[v][file][1] += 1
             return
         turn = self.turn(v)
-        bus = next(bus for bus in self.problem.routes[self.unit[v], file] if self.driven[bus][turn] in (FREE, v))
+        bus = (buses or {}).get((v, file), FREE)
+        if bus == FREE:
+            bus = next(bus for bus in self.problem.routes[self.unit[v], file] if self.driven[bus][turn] in (FREE, v))
         self.over[v][file] = [bus, 1]
         self.driven[bus][turn] = self.filled[file][turn] = v
 

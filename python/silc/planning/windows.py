@@ -22,8 +22,8 @@ class TooShort(Exception):
 def windows_of(problem: Problem, period: int) -> Windows:
     """The windows of a period, or `TooShort`."""
     count, latency, end = len(problem.nodes), problem.latency, problem.stages * period
-    first = [end - period - latency[v] + 1 if node.op == "output" else 0 for v, node in enumerate(problem.nodes)]
-    first = [max(0, cycle) for cycle in first]
+    first = [max(0, end - period - problem.longest[v] + 1) if node.op == "output" else 0
+             for v, node in enumerate(problem.nodes)]
     last = [min(end - latency[v], period - 1) if node.op == "input" else end - latency[v]
             for v, node in enumerate(problem.nodes)]
     waits = [(wait.first, wait.then, latency[wait.first] - wait.delay * period) for wait in problem.waits]
@@ -43,6 +43,14 @@ def windows_of(problem: Problem, period: int) -> Windows:
             raise TooShort(f"critical path: node {v} and what waits for it take more than {period} cycles"
                            + (f" in each of {problem.stages} stages" if problem.stages > 1 else ""))
     return Windows(first, last)
+
+
+def span_on(problem: Problem, period: int, v: int, unit: int) -> tuple[int, int]:
+    """The first and the last cycle in which a node may begin on a unit, by the stages alone: it ends in them, an input
+    begins in the first one, and an output ends in the last one."""
+    op, latency, end = problem.nodes[v].op, problem.units[unit].latency, problem.stages * period
+    first = max(0, end - period - latency + 1) if op == "output" else 0
+    return first, min(end - latency, period - 1) if op == "input" else end - latency
 
 
 class Demand(NamedTuple):
