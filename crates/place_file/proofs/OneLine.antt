@@ -19,7 +19,11 @@ one_number k l word m n x y = x.is ∙ sym y.is
 
 module _ (d : Datapath) (said : Said) where
   -- a line that says a place has no wrong word
-  pub good_not_bad : (v : ℕ) (place : Place) → IsPlaceLine d said v place → (cause : LineCause) → IsBadLine d said cause → ⊥
+  pub good_not_bad : (v : ℕ) (place : Place)
+      → IsPlaceLine d said v place
+      → (cause : LineCause)
+      → IsBadLine d said cause
+      → ⊥
   good_not_bad v place good Form (inl bad) = bad.1 good.cycle_label
   good_not_bad v place good Form (inr bad) = bad.1 good.unit_label
   good_not_bad v place good Number (inl bad) = bad (v, good.node)

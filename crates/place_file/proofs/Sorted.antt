@@ -64,7 +64,8 @@ module _ (d : Datapath) (text : List ℕ) (entries : List Entry) (keys : List �
   -- the line of the entry of key v
   gives : (v : ℕ)
       → v < count
-      → (i : ℕ) × ((entry_by entries keys v).line ≡ i + 1)
+      → (i : ℕ)
+      × ((entry_by entries keys v).line ≡ i + 1)
       × Gives d text i (entry_by entries keys v).node (entry_by entries keys v).place
   gives v there =
       let x = ks.each v there in
@@ -221,7 +222,9 @@ module _ (d : Datapath) (text : List ℕ) (entries : List Entry) (keys : List �
   }
 
 -- the first bad line is a fault
-pub bad_fault : (d : Datapath) (text : List ℕ) (fault : GivenFault) → IsFirstBad d text fault → IsGivenFault d text fault
+pub bad_fault : (d : Datapath) (text : List ℕ) (fault : GivenFault)
+    → IsFirstBad d text fault
+    → IsGivenFault d text fault
 bad_fault d text (Line line Twice) h = absurd h.bad
 bad_fault d text (Line line Form) h = h
 bad_fault d text (Line line Number) h = h

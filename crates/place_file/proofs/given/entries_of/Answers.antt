@@ -5,7 +5,8 @@ use Rattle.place_file.specs.Private.Words.{lines_left, IsUnread}
 use Rattle.place_file.specs.Private.Entries.{AreEntries, IsFirstBad}
 use Rattle.place_file.specs.declared.fault.GivenFault.TheVariants.{Memory}
 use Rattle.place_file.proofs.Words.{lines_split, lines_few}
-use Rattle.place_file.proofs.Reading.{line_there, line_is, rest_is, none_more, one_more, first_bad, read_some, read_none}
+use Rattle.place_file.proofs.Reading.{line_there, line_is, rest_is, none_more, one_more, first_bad, read_some}
+use Rattle.place_file.proofs.Reading.{read_none}
 use Rattle.place_file.proofs.Reading.{all_read}
 use Rattle.place_file.proofs.given.entries_of.Goals as goal
 
@@ -68,11 +69,13 @@ loop-left-preserved c =
     let is = lines_split c.in-Some.rest.now bytes c.split_part.result.1 c.split_part.ensures
     ∙ sym (ap lines_left c.in-Some.is) ∙ c.loop-left.invariant.0 in
     let there = line_there (lines_of text) i bytes left is in
-    let read = read_none d (said_by bytes) (i + 1) c.in_ok-entry.field-0 c.in_default-2.is c.in_ok-entry.ensures.entry in (
+    let read =
+    read_none d (said_by bytes) (i + 1) c.in_ok-entry.field-0 c.in_default-2.is c.in_ok-entry.ensures.entry in (
       rest_is (lines_of text) i bytes left is,
       omega (arith, there),
       none_more d text i c.loop-left.entries c.loop-left.invariant.2
-          (subst (λ (line : List ℕ). IsNodeLine (said_by line) → ⊥) (sym (line_is (lines_of text) i bytes left is)) read),
+          (subst (λ (line : List ℕ). IsNodeLine (said_by line) → ⊥) (sym (line_is (lines_of text) i bytes left is))
+          read),
     )
 
 pub returns-clause-entries : goal.returns-clause-entries

@@ -2,7 +2,8 @@ use Rattle.std.proofs.Common.{◌≡◌, Err, arith, rules, subst, sym}
 use Rattle.place_file.specs.Private.Entries.{AreKeys}
 use Rattle.place_file.proofs.Words.{lines_few}
 use Rattle.place_file.proofs.Reading.{entries_few}
-use Rattle.place_file.proofs.Told.{bad_why, fails_found, fails_refused, told_given, told_fault, told_found, told_refused}
+use Rattle.place_file.proofs.Told.{bad_why, fails_found, fails_refused, told_given, told_fault, told_found}
+use Rattle.place_file.proofs.Told.{told_refused}
 use Rattle.place_file.proofs.given.places_in.Goals as goal
 
 pub returns-in_err-entries-clause-found : goal.returns-in_err-entries-clause-found
@@ -21,7 +22,8 @@ returns-in_err-entries-clause-refused c =
 
 pub keys_of-requires : goal.keys_of-requires
 keys_of-requires c =
-    let few = entries_few c.args.datapath.now c.args.text.now _ c.in_ok-entries.entries c.in_ok-entries.ensures.entries in
+    let few =
+    entries_few c.args.datapath.now c.args.text.now _ c.in_ok-entries.entries c.in_ok-entries.ensures.entries in
     omega (arith, few, lines_few c.args.text.now, c.requires.short)
 
 pub returns-clause-given : goal.returns-clause-given
