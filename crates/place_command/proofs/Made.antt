@@ -1,6 +1,6 @@
 -- Microcode of a plan with places that a text gives is that of the files, and carries the solution of the source.
-use Rattle.std.proofs.Common.{◌≡◌, ◌≢◌, ◌∙◌, ap, List, ℕ, map, [], ◌∷◌, Result, Ok, Err, IfOk}
-use Rattle.desk_core.specs.View.{Name, Content, Files, View}
+use Rattle.std.proofs.Common.{◌≡◌, ◌≢◌, ◌∙◌, ap, map, [], ◌∷◌, Result, Ok, Err, IfOk}
+use Rattle.desk_core.specs.View.{Name, Content, View}
 use Rattle.desk_core.specs.Desk.{IfSpecified, WhereSpecified, content_of}
 use Rattle.desk_core.specs.Whole.{IsReadThrough, IsWrittenWhole}
 use Rattle.desk_core.proofs.WholeLemmas.{through_from}

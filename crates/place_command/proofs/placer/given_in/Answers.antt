@@ -1,4 +1,4 @@
-use Rattle.std.proofs.Common.{◌≡◌, ◌∙◌, subst, List, ℕ}
+use Rattle.std.proofs.Common.{◌∙◌, subst, List, ℕ}
 use Rattle.place_file.specs.Given.{GivesPlaces}
 use Rattle.silc_files.specs.Reading.{IsInput}
 use Rattle.place_command.proofs.placer.given_in.Goals as goal
