@@ -28,5 +28,5 @@ returns-then-not-is_drive-clause-err c all =
     subst (All (IsDrive c.args.image.now c.args.cycle))
     (sym (c.deref-enable-items.ensures ∙ ap (λ (w : Word). w.enables) c.word_in.ensures)) all in
     let is : IsTrue c.is_drive.result =
-        c.is_drive.ensures.1 (items c.loop-enable.enable-index no_enable (omega arith)) in
+    c.is_drive.ensures.1 (items c.loop-enable.enable-index no_enable (omega arith)) in
     grind (arith, is, c.if-not-is_drive.true)

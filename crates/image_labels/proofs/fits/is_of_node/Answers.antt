@@ -21,7 +21,8 @@ returns-then-does_at c =
         now = now;
         operands = subst reads c.sample_at-now.ensures (c.reads_node.ensures.0 is);
       },
-      λ (of : IsOfNode c.args.graph.now c.args.image.now c.args.certificate.now c.args.cycle c.args.issue.now c.args.node
+      λ
+          (of : IsOfNode c.args.graph.now c.args.image.now c.args.certificate.now c.args.cycle c.args.issue.now c.args.node
           c.args.sample).
           c.reads_node.ensures.1 (subst reads (sym c.sample_at-now.ensures) of.operands),
     )

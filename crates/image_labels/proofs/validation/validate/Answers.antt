@@ -11,7 +11,8 @@ returns c =
     c.in_ok-check_cycles.ensures.ok c.in_ok-check_registers.ensures.ok c.in_ok-check_cells.ensures.ok
     c.in_ok-check_rows.ensures.ok in
     record {
-      runs = labelled_runs c.args.graph.now c.args.image.now c.args.certificate.now c.requires.graph c.requires.image is;
+      runs =
+          labelled_runs c.args.graph.now c.args.image.now c.args.certificate.now c.requires.graph c.requires.image is;
       labelled = is;
       refused = tt;
     }
