@@ -1,7 +1,6 @@
 pub mod Frames
 pub mod NodeWords
 pub mod Rules
-pub mod Copies
 pub mod Turns
 pub mod Entries
 pub mod Issues

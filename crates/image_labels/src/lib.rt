@@ -2,7 +2,6 @@
 //! graph's solution, whoever made it.
 #![tactic(auto)]
 
-mod copies;
 mod cycles;
 mod fits;
 mod hardware;
