@@ -1,6 +1,6 @@
 -- The rules of labels hold in each solution of a graph.
 use Rattle.std.proofs.Common.{◌≡◌, ℕ, ◌+◌, ◌-◌, ◌<◌, ◌≤◌, ◌==◌, ⊎_elim, refl, sym, ap, ◌∙◌, arith, subst, length, List}
-use Rattle.std.proofs.Common.{ℤ, pos, negsuc, ◌+ℤ◌, ◌*ℤ◌, Bool, true, false, not, ◌&&◌, ◌||◌, Option, Some, None, find}
+use Rattle.std.proofs.Common.{ℤ, pos, negsuc, Bool, true, false, not, ◌&&◌, ◌||◌, Option, Some, None, find}
 use Rattle.std.specs.Prelude.{◌-ℤ◌}
 use Rattle.std.specs.Bool.{Decides}
 use Rattle.std.specs.Ordering.{int_eq}

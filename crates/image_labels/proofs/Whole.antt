@@ -1,5 +1,5 @@
 -- All checks together say that the image is labelled.
-use Rattle.std.proofs.Common.{◌≡◌, ℕ, ◌*◌, ◌<◌, sym, ◌∙◌, arith, [], length, subst, Result, Ok, Err, OnErr}
+use Rattle.std.proofs.Common.{◌≡◌, ℕ, ◌*◌, ◌<◌, ◌∙◌, arith, [], length, subst, Result, Ok, Err, OnErr}
 use Rattle.signal_graph.specs.declared.graph.Graph.{Graph}
 use Rattle.operations.proofs.Ports.{few_ports}
 use Rattle.micro_image.specs.declared.image.Image.{Image}

@@ -9,7 +9,7 @@ use Rattle.signal_graph.specs.declared.graph.Graph.{Graph}
 use Rattle.signal_graph.specs.declared.graph.Node.{Node}
 use Rattle.plan_soundness.specs.Samples.{past}
 use Rattle.image_labels.specs.declared.label.Label.{Label}
-use Rattle.image_labels.specs.declared.label.Label.TheVariants.{Unknown, Signal, Address, Constant}
+use Rattle.image_labels.specs.declared.label.Label.TheVariants.{Signal, Constant}
 
 -- an operation that gives the same where its two operands are exchanged
 abbrev pub IsCommutative : Op → Type 0

@@ -1,4 +1,4 @@
-use Rattle.std.proofs.Common.{◌<◌, ℕ, below_more}
+use Rattle.std.proofs.Common.{ℕ, below_more}
 use Rattle.image_labels.specs.Private.Checked.{IsRowPut}
 use Rattle.image_labels.proofs.rows.check_rows.Goals as goal
 

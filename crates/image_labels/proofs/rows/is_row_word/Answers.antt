@@ -1,4 +1,4 @@
-use Rattle.std.proofs.Common.{◌≡◌, ◌<◌, ◌*◌, ◌∙◌, ℕ, arith, below_more, length, refl, IsTrue}
+use Rattle.std.proofs.Common.{◌≡◌, ◌*◌, ◌∙◌, ℕ, arith, below_more, refl, IsTrue}
 use Rattle.image_labels.specs.Labels.{turn_of}
 use Rattle.image_labels.specs.Private.Checked.{PutsInSample}
 use Rattle.image_labels.proofs.rows.is_row_word.Goals as goal

@@ -1,4 +1,4 @@
-use Rattle.std.proofs.Common.{◌<◌, ℕ, arith, below_more, IsTrue}
+use Rattle.std.proofs.Common.{ℕ, arith, below_more, IsTrue}
 use Rattle.image_labels.specs.Private.Checked.{PutsAt}
 use Rattle.image_labels.proofs.rows.puts_in.Goals as goal
 
