@@ -1,5 +1,5 @@
 -- A labelled image: its labels fit the graph, and its words have no conflict by themselves.
-use Rattle.std.specs.Prelude.{◌≡◌, ℕ, ◌+◌, ◌-◌, ◌/◌, ◌%◌, ◌<◌, ◌==◌, ◌⊎◌, true, [], length, ℤ, All, count_by}
+use Rattle.std.specs.Prelude.{◌≡◌, ℕ, ◌+◌, ◌-◌, ◌/◌, ◌%◌, ◌<◌, ◌≤◌, ◌==◌, ◌⊎◌, true, [], length, ℤ, All, count_by}
 use Rattle.std.specs.Prelude.{Some, None, find, IsSome}
 use Rattle.fix_word.specs.declared.operation.Op.TheVariants as op
 use Rattle.operations.specs.Operations.{operands}
@@ -24,7 +24,7 @@ use Rattle.image_labels.specs.declared.label.Label.{Label}
 use Rattle.image_labels.specs.declared.label.Label.TheVariants.{Unknown, Signal, Address}
 use Rattle.image_labels.specs.declared.label.Certificate.{Certificate}
 use Rattle.image_labels.specs.Labels.{turn_of, word_in, delay_on, issued_in, ended_in, issue_label, register_label}
-use Rattle.image_labels.specs.Labels.{operand_label, cell_label}
+use Rattle.image_labels.specs.Labels.{operand_label, cell_label, stored_label, settled_at}
 
 module _ (image : Image) where
   -- the number of the sample of a turn in which its cycle c is
@@ -87,6 +87,18 @@ module _ (image : Image) (certificate : Certificate) where
       × (x < length (unit_of (microprogram_of image) issue.unit).cells)
       × (operand_label image certificate c issue 0
       ≡ Address (length (unit_of (microprogram_of image) issue.unit).cells) x)
+
+  -- what ends on unit u in cycle c stores into no cell that is settled by then
+  abbrev pub LeavesSettled : (u c : ℕ) → Type 0
+  LeavesSettled u c =
+      (x : ℕ)
+      → settled_at certificate u x ≤ c
+      → (before : Label)
+      → stored_label image certificate (c - delay_on image u) x (ended_in image c u) before ≡ before
+
+  -- the cells of unit u are settled from the cycles on that the certificate has, in a turn of so many cycles
+  abbrev pub IsSettled : (turn u : ℕ) → Type 0
+  IsSettled turn u = (c : ℕ) → c < turn → LeavesSettled u c
 
 module _ (g : Graph) (image : Image) (certificate : Certificate) where
   -- the issue of cycle c does what node v does in its sample, and reads that node's operands

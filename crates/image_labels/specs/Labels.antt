@@ -90,3 +90,7 @@ cell_label image certificate u x zero = nth certificate.cells (u * 65536 + x) Un
 cell_label image certificate u x (suc c) =
     stored_label image certificate (c - delay_on image u) x (ended_in image c u)
     (cell_label image certificate u x c)
+
+-- the cycle in which a cell has what it holds at the end of a turn, as the certificate has it
+abbrev pub settled_at : Certificate → (u x : ℕ) → ℕ
+settled_at certificate u x = nth certificate.settled (u * 65536 + x) 0

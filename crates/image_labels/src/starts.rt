@@ -1,18 +1,24 @@
 //! Whether what registers and cells hold comes round with each turn.
-ghost use Rattle.std.specs.Prelude.{◌≡◌, ◌<◌, ◌≤◌, ◌+◌, ℕ, length, ℤ, IsTrue, OnOk};
+ghost use Rattle.std.specs.Prelude.{◌≡◌, ◌<◌, ◌≤◌, ◌+◌, ℕ, length, ℤ, IsTrue, OnOk, Some, None};
 ghost use Rattle.signal_graph.specs.Rules.{word_before as word_before_in};
 ghost use Rattle.signal_graph.specs.GraphSolves.{node_of};
 ghost use Rattle.micro_image.specs.Fields.{unit_of, microprogram_of};
 ghost use Rattle.micro_image.specs.Log.{Register, Cell, initial};
 ghost use Rattle.micro_image.specs.Valid.{IsValid};
-ghost use Rattle.image_labels.specs.Labels.{register_label as label_of_register, cell_label as label_of_cell};
-ghost use Rattle.image_labels.specs.Labelled.{IsWordBefore, IsRegisterStart, IsCellStart};
+ghost use Rattle.image_labels.specs.declared.label.Label.{Label as LabelOf};
+ghost use Rattle.image_labels.specs.Labels.{register_label as label_of_register, cell_label as label_of_cell, stored_label, settled_at};
+ghost use Rattle.image_labels.specs.Labelled.{IsWordBefore, IsRegisterStart, IsCellStart, LeavesSettled, IsSettled};
 
-use crate::hardware::{cell_in, cells_on, initial_cell, initial_register, word_before};
+use crate::hardware::{
+    cell_in, cells_on, delay_on, ended_in, initial_cell, initial_register, word_before,
+};
 use crate::label::{Certificate, Label};
-use crate::labels::{cell_label, first_cell, first_register, is_signal, register_label};
+use crate::labels::{
+    cell_label, first_cell, first_register, is_signal, operand_label, register_label, settled_in,
+};
 use crate::mismatch::Mismatch;
-use micro_image::Image;
+use fix_word::Op;
+use micro_image::{Image, Issue};
 use signal_graph::Graph;
 
 /// Whether a word is that of a node before the run.
@@ -65,6 +71,80 @@ fn is_register_start(
     }
 }
 
+/// The cell that an issue stores into though it is settled by the cycle in which the issue ends.
+fn spoilt_by(
+    image: &Image,
+    certificate: &Certificate,
+    unit: u32,
+    ends: u16,
+    cycle: u16,
+    issue: &Issue,
+) -> Option<u32>
+    requires { cycle ≤ length image.now.words }
+    ensures { result ≡ None → (x : ℕ) → settled_at certificate.now unit x ≤ ends → (before : LabelOf)
+        → stored_label image.now certificate.now cycle x (Some issue.now) before ≡ before }
+{
+    match issue.op {
+        Op::Store => match operand_label(image, certificate, cycle, issue, 0) {
+            Label::Address(_, cell) => {
+                if ends < settled_in(certificate, unit, cell) {
+                    None
+                } else {
+                    Some(cell)
+                }
+            }
+            _ => None,
+        },
+        _ => None,
+    }
+}
+
+/// The cell that is stored into in a cycle though it is settled by then.
+fn spoilt_in(image: &Image, certificate: &Certificate, unit: u32, cycle: u16) -> Option<u32>
+    requires { cycle < length image.now.words }
+    ensures { result ≡ None → LeavesSettled image.now certificate.now unit cycle }
+{
+    match ended_in(image, cycle, unit) {
+        Some(issue) => {
+            let issued = cycle.saturating_sub(u16::from(delay_on(image, unit)));
+            spoilt_by(image, certificate, unit, cycle, issued, issue)
+        }
+        None => None,
+    }
+}
+
+/// Checks from which cycles on the cells of a unit are settled.
+fn check_settled(
+    image: &Image,
+    certificate: &Certificate,
+    unit: u32,
+    turn: u16,
+) -> Result<(), Mismatch>
+    requires { turn ≡ length image.now.words }
+    ensures { OnOk result (IsSettled image.now certificate.now turn unit) }
+{
+    for cycle in 0..turn {
+        if let Some(cell) = spoilt_in(image, certificate, unit, cycle) {
+            return Err(Mismatch::Cell(unit, cell));
+        }
+    }
+    Ok(())
+}
+
+/// The label of a cell at the end of a turn.
+fn last_cell(image: &Image, certificate: &Certificate, unit: u32, cell: u32, turn: u16) -> Label
+    requires turn { turn ≡ length image.now.words }
+    requires settled { IsSettled image.now certificate.now turn unit }
+    ensures { result ≡ label_of_cell image.now certificate.now unit cell turn }
+{
+    let settled = settled_in(certificate, unit, cell);
+    if settled < turn {
+        cell_label(image, certificate, unit, cell, settled)
+    } else {
+        cell_label(image, certificate, unit, cell, turn)
+    }
+}
+
 /// Whether a cell comes round.
 fn is_cell_start(
     graph: &Graph,
@@ -77,6 +157,7 @@ fn is_cell_start(
 ) -> bool
     requires turn { turn ≡ length image.now.words }
     requires cell { cell < cells }
+    requires settled { IsSettled image.now certificate.now turn unit }
     ensures { IsTrue result
         → IsCellStart graph.now image.now certificate.now turn cells unit cell }
 {
@@ -86,7 +167,7 @@ fn is_cell_start(
             let last = cell_in(cells, u64::from(cell), u16::from(image.unroll)) as u32;
             is_before(graph, node, sample, initial_cell(image, unit, cell))
                 && is_signal(
-                    cell_label(image, certificate, unit, last, turn),
+                    last_cell(image, certificate, unit, last, turn),
                     node,
                     later(sample, image.unroll),
                 )
@@ -166,7 +247,8 @@ fn check_ram(
     cells: u32,
     turn: u16,
 ) -> Result<(), Mismatch>
-    requires { turn ≡ length image.now.words }
+    requires turn { turn ≡ length image.now.words }
+    requires settled { IsSettled image.now certificate.now turn unit }
     ensures { OnOk result ((x : ℕ)
         → x < cells
         → IsCellStart graph.now image.now certificate.now turn cells unit x) }
@@ -197,6 +279,7 @@ pub fn check_cells(
 {
     for unit in 0..32u32 {
         let cells = cells_on(image, unit) as u32;
+        check_settled(image, certificate, unit, turn)?;
         check_ram(graph, image, certificate, unit, cells, turn)?;
     }
     Ok(())
