@@ -86,3 +86,4 @@ def with_package() -> dict[str, str]:
 
 SILC = Program("silc", "SILC", "silc_main")
 SHOW = Program("silc_show", "SILC_SHOW", "silc_show")
+SAME = Program("silc_same", "SILC_SAME", "silc_same")
