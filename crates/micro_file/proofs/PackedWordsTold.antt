@@ -184,7 +184,7 @@ module _ (image : Image) (few : HasFewWords image) (have : AllHave image) (buses
   word_takes_told :
       Is bit_values
       (each (λ front unit. each (packed.file_takes image unit) front 0 (length (files_of image unit))) [] 0
-       (length image.units)) (word_takes_at image)
+      (length image.units)) (word_takes_at image)
   unfolding word_takes_at
   word_takes_told =
       tells_each bit_values

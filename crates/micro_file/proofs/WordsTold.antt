@@ -225,19 +225,19 @@ module _ (image : Image) (few : HasFewWords image) (have : AllHave image) where
 
     found_all : (left : List ℕ) (r : Reading ℕ)
         → (r
-            >>= λ n.
-                found left (slice_get image.units n.0)
-                >>= λ unit.
-                    byte_at n.1 >>= λ p. found n.1 (slice_get unit.files p.0) >>= λ file. from_port left n.0 p file)
-            ≡ (r >>= λ n. found left (slice_get image.units n.0) >>= λ unit. from_unit left n unit)
+        >>= λ n.
+        found left (slice_get image.units n.0)
+        >>= λ unit.
+        byte_at n.1 >>= λ p. found n.1 (slice_get unit.files p.0) >>= λ file. from_port left n.0 p file)
+        ≡ (r >>= λ n. found left (slice_get image.units n.0) >>= λ unit. from_unit left n unit)
     found_all left (Err m) = refl
     found_all left (Ok n) = by (slice_get image.units n.0)
       where
         by : (o : Option UnitDesc)
             → (found left o
-                >>= λ unit.
-                    byte_at n.1 >>= λ p. found n.1 (slice_get unit.files p.0) >>= λ file. from_port left n.0 p file)
-                ≡ (found left o >>= λ unit. from_unit left n unit)
+            >>= λ unit.
+            byte_at n.1 >>= λ p. found n.1 (slice_get unit.files p.0) >>= λ file. from_port left n.0 p file)
+            ≡ (found left o >>= λ unit. from_unit left n unit)
         by None = refl
         by (Some unit) = from_found left n unit
 

@@ -1,6 +1,6 @@
 -- A machine before its first cycle over a stream, and how the parts of `sim` make up its answer.
 use Rattle.std.proofs.Common.{◌≡◌, refl, sym, ap, subst, ◌∙◌, arith, inl, inr, ⊎_elim, ◌+◌, ◌*◌, ◌<◌, ◌^◌, ◌%◌, []}
-use Rattle.std.proofs.Common.{List, ◌∷◌, length}
+use Rattle.std.proofs.Common.{List, ◌∷◌, length, ℕ, ◌≤◌, rules}
 use Rattle.std.proofs.Math.Nat.{zero-mod}
 use Rattle.std.specs.List.{range_with_len}
 use Rattle.lists.specs.Rows.{Rows}
@@ -8,13 +8,17 @@ use Rattle.cycle_sim.specs.declared.microcode.Microcode.{Microcode}
 use Rattle.cycle_sim.specs.Machine.{Snapshot, state_of}
 use Rattle.cycle_sim.specs.Microcode.{micro_of, inputs_of, code_of}
 use Rattle.desk_core.specs.View.{Name, Content, View}
-use Rattle.desk_core.specs.Desk.{FaultsNeverFall, IsUnchanged, IsPut, content_of}
+use Rattle.desk_core.specs.Desk.{FaultsNeverFall, WhereSpecified, IsUnchanged, IsPut, content_of}
 use Rattle.desk_core.proofs.DeskLemmas.{rose_earlier, never_fall_trans}
 use Rattle.micro_image.specs.declared.conflict.Conflict.{Conflict as ConflictValue}
 use Rattle.micro_image.specs.Conflict.{IsClearBelow}
 use Rattle.micro_image.specs.declared.image.Image.{Image}
 use Rattle.micro_image.specs.Fields.{Microprogram, microprogram_of}
 use Rattle.micro_image.specs.Run.{State, Stands, IsRunOut, latches, spread}
+use Rattle.desk_core.specs.Whole.{IsReadThrough}
+use Rattle.micro_file.specs.declared.fault.FormFault.{FormFault}
+use Rattle.micro_file.specs.declared.fault.FormFault.TheVariants as form
+use Rattle.micro_file.specs.Faults.{placed, IsFormFault}
 use Rattle.micro_file.proofs.FirstFault.{spelled_no_fault}
 use Rattle.micro_image.specs.Spells.{Spells}
 use Rattle.micro_image.proofs.Lists.{map-same}
@@ -32,11 +36,13 @@ use Rattle.silc_files.specs.Reading.{OnlyReads}
 use Rattle.silc_files.proofs.Endings.{unchanged_still, specified_still, rejected_still, finished_still}
 use Rattle.sample_commands.specs.Samples.{AreSamples, IsEndedEarly}
 use Rattle.sample_commands.specs.Sim.{HasRun, IsSimUnread, IsSimStopped, IsSimulated, IsSimError, HasSomeImage}
+use Rattle.sample_commands.specs.Sim.{IsImageFault, IsOfMicrocode}
 use Rattle.sample_commands.specs.StreamEnds.{status_of}
 use Rattle.sample_commands.specs.Loaded.{IsFresh, IsNoMachine}
 use Rattle.sample_commands.specs.Private.Running.{IsLoaded, IsLoadError}
 use Rattle.sample_commands.specs.Streaming.{AreRunOver, IsOpened, IsNotOpened, RunsFiles}
 use Rattle.sample_commands.specs.Streaming.{IsNotRunOver}
+use Rattle.statuses.specs.declared.status.ImageFault.TheVariants as image_fault
 use Rattle.statuses.specs.declared.status.SampleFault.TheVariants as sample_fault
 use Rattle.statuses.specs.declared.status.Status.{Status}
 use Rattle.statuses.specs.declared.status.Status.TheVariants.{Done, Memory, Desk}
@@ -53,6 +59,40 @@ pub only_memory : (content : Content) (image : Image)
     → error ≡ Memory
 only_memory content image spells error =
     ⊎_elim (λ m. m) (λ bad. absurd (spelled_no_fault content image bad.0 spells bad.2))
+
+-- the fault of a file is never that no memory was left
+never_memory : (size : ℕ) (misread : _) → placed size misread ≡ form.Memory → ⊥
+never_memory size misread e = search rules
+
+of_microcode : (content : Content) (fault : FormFault)
+    → IsFormFault content fault
+    → IsOfMicrocode (image_fault.File fault)
+of_microcode content form.Memory h = never_memory (length content) h.misread (sym h.place)
+of_microcode content form.Magic h = tt
+of_microcode content form.Version h = tt
+of_microcode content (form.Short at) h = tt
+of_microcode content (form.Field at) h = tt
+of_microcode content (form.Trailing at) h = tt
+
+-- why no machine was made of the bytes of MIC, which was read through
+pub not_loaded : (mic : Name) (old new : View) (bytes : Content) (error : Status)
+    → IsReadThrough mic microcode_limit old new
+    → length bytes ≤ microcode_limit
+    → WhereSpecified old (λ files. bytes ≡ content_of (files mic))
+    → IsNoMachine bytes error
+    → IsLoadError mic old new error
+not_loaded mic old new bytes error read within content = ⊎_elim (λ m. inl m)
+    (λ bad. inr (inr (
+      image_fault.File bad.0,
+      bad.1,
+      of_microcode bytes bad.0 bad.2,
+      record {
+        read = read;
+        why = λ files known.
+            subst (λ (file : Content). IsImageFault file (image_fault.File bad.0)) (content files known)
+            (within, bad.2);
+      },
+    )))
 
 -- a fresh machine, and what it is over rows
 module _ (machine : Snapshot) (fresh : IsFresh machine) where
