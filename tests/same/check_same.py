@@ -179,6 +179,52 @@ def check_plan(folder: Path) -> None:
     expect(folder, [source, "placed", "path"], 0, "")
 
 
+# y = x + 1 by a difference of -1, which puts the same rows in 8 bits, and is not seen to.
+BY_DIFFERENCE = """
+input 0 width 8
+unit 0 in latency 1 gap 1
+unit 1 rom latency 1 gap 1
+unit 2 alu latency 1 gap 1 files 1 1
+unit 3 out latency 1 gap 1 files 1
+period 4 unroll 1 inputs 1 outputs 1 units 4 buses 1
+word 0
+issue 0 input 0
+drive 0 0
+take 2.0 bus 0 reg 0
+word 1
+issue 1 const -1
+drive 1 0
+take 2.1 bus 0 reg 0
+word 2
+issue 2 sub fmt 0 trunc 8 regs 0 0
+drive 2 0
+take 3.0 bus 0 reg 0
+word 3
+issue 3 output 0 regs 0
+"""
+
+
+def check_tool(folder: Path) -> None:
+    """What `tools/same` says of the three kinds of microcode."""
+    def say(listing: str, status: int, *lines: str) -> None:
+        (folder / "mic").write_bytes(micro_file.bytes_of(image_of_listing(listing), 2))
+        done = subprocess.run([ROOT / "tools" / "same", "src", "mic", "--rows", "20", "--seeds", "2", "--samples", "kept"],
+                              cwd=folder, stdin=subprocess.DEVNULL, capture_output=True, text=True)
+        said = done.stderr.splitlines()
+        if (done.returncode, len(said), done.stdout) != (status, len(lines), "") or \
+                not all(line.startswith(f"same: mic: {start}") for line, start in zip(said, lines)):
+            raise Wrong(f"tools/same ends with {done.returncode}: {done.stderr!r}")
+
+    (folder / "src").write_text("func main(x : fix<8,0>) y : fix<8,0> = begin y = x + 1; end;")
+    by_sum = BY_DIFFERENCE.replace("const -1", "const 1").replace("sub", "add")
+    say(by_sum, 0)
+    say(BY_DIFFERENCE, 3, "not shown: cycle 3: ", "not shown, and no row differs on 8 streams of 20 rows")
+    say(by_sum.replace("drive 1 0", "drive 0 0\ndrive 1 0"), 1, "not shown: ", "wrong: at zeros, conflict at cycle 1: ")
+    say(by_sum.replace("const 1", "const 2"), 1, "not shown: ", "wrong: at zeros, row 0 is 2, and 1 by src")
+    if (folder / "kept").read_text() != 20 * "0\n":
+        raise Wrong("the rows that are kept are others than zeros")
+
+
 def expect(folder: Path, words: list[str | Path], status: int, line: str) -> None:
     said = ended(folder, SAME, *words)
     if said != (status, line):
@@ -221,6 +267,7 @@ def checks(silc: Path, changes: int, told: Counter[str]) -> Iterator[tuple[str, 
         yield str(datapath.relative_to(ROOT)), \
             partial(check_example, silc=silc, source=source, datapath=datapath, changes=changes, told=told)
     yield "docs/validation", check_by_hand
+    yield "tools/same", check_tool
     if os.access(PLACE, os.X_OK):
         yield "a plan by search", check_plan
     yield "the microcode of other examples", partial(check_others, silc=silc, pairs=examples())
