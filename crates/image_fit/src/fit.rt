@@ -10,10 +10,9 @@ use crate::unfit::Unfit;
 use crate::units::check_units;
 use crate::words::check_words;
 use datapath::Datapath;
-use lists::List;
 use micro_image::Image;
 
-fn check_inputs(inputs: &List<u8>, bits: u8) -> Result<(), Unfit>
+fn check_inputs(inputs: &[u8], bits: u8) -> Result<(), Unfit>
     ensures { OnOk result (All (λ width. width ≤ bits) inputs.now) }
 {
     for (input, width) in inputs.iter().enumerate() {

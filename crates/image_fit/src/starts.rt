@@ -1,8 +1,9 @@
 //! Whether the words that an image starts with are no wider than those of a datapath.
 
-ghost use Rattle.std.specs.Prelude.{IsTrue, OnOk};
+ghost use Rattle.std.specs.Prelude.{◌<◌, length, pos, IsTrue, OnOk};
 ghost use Rattle.std.specs.List.{All};
 ghost use Rattle.fix_word.specs.Words.{IsWord, IsWidth};
+ghost use Rattle.micro_image.specs.Fields.{nth};
 ghost use Rattle.image_fit.specs.Fits.{StartsWithin};
 
 use crate::unfit::Unfit;
@@ -18,12 +19,20 @@ pub fn is_within(word: i64, bits: u8) -> bool
     wrap(i128::from(word), bits) == word
 }
 
+fn is_word_within(words: &List<i64>, at: usize, bits: u8) -> bool
+    requires width { IsWidth bits }
+    requires there { at < length words.now }
+    ensures { IsTrue result → IsWord bits (nth words.now at (pos 0)) }
+{
+    is_within(words[at], bits)
+}
+
 fn are_within(words: &List<i64>, bits: u8) -> bool
     requires { IsWidth bits }
     ensures { IsTrue result → All (IsWord bits) words.now }
 {
-    for word in words.iter() {
-        if !is_within(*word, bits) {
+    for at in 0..words.len() {
+        if !is_word_within(words, at, bits) {
             return false;
         }
     }
@@ -51,7 +60,7 @@ fn starts_within(unit: &UnitDesc, bits: u8) -> bool
 }
 
 /// Checks what the units start with.
-pub fn check_starts(units: &List<UnitDesc>, bits: u8) -> Result<(), Unfit>
+pub fn check_starts(units: &[UnitDesc], bits: u8) -> Result<(), Unfit>
     requires { IsWidth bits }
     ensures { OnOk result (All (StartsWithin bits) units.now) }
 {

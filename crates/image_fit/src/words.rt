@@ -9,7 +9,6 @@ use crate::starts::is_within;
 use crate::unfit::Unfit;
 use datapath::{Datapath, PortRef};
 use fix_word::Op;
-use lists::List;
 use micro_image::{Enable, Issue, Take, Word};
 
 fn is_issue_within(issue: &Issue, bits: u8) -> bool
@@ -105,7 +104,7 @@ fn check_word(path: &Datapath, word: &Word, number: usize) -> Result<(), Unfit>
 }
 
 /// Checks the microwords.
-pub fn check_words(path: &Datapath, words: &List<Word>) -> Result<(), Unfit>
+pub fn check_words(path: &Datapath, words: &[Word]) -> Result<(), Unfit>
     requires { IsWidth path.now.word }
     ensures { OnOk result (All (IsWordOn path.now) words.now) }
 {

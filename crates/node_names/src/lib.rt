@@ -7,6 +7,4 @@ mod signals;
 mod text;
 
 pub use names::{NodeNames, node_names};
-pub use owners::{Owner, owners_of};
-pub use signals::{count_of, declaration};
 pub use text::{put, put_number};

@@ -185,8 +185,13 @@ impl NodeNames {
         match node.op {
             Op::Const => put_number(text, "", node.arg),
             Op::Output => self.put_output_node(text, number),
-            _ if depth == 0 => put(text, ".."),
-            _ => self.put_operation(text, node, depth - 1, is_part),
+            _ => {
+                if depth == 0 {
+                    put(text, "..")
+                } else {
+                    self.put_operation(text, node, depth - 1, is_part)
+                }
+            }
         }
     }
 

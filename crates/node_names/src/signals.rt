@@ -6,7 +6,7 @@ use silage_syntax::{Decl, Func, Program, Top};
 use std::alloc::AllocError;
 
 /// The declaration at a position, in the order of the function's elements.
-pub fn declaration(func: &Func, position: u32) -> Option<&Decl> {
+fn declaration(func: &Func, position: u32) -> Option<&Decl> {
     let mut position = position as usize;
     for decls in [&func.params, &func.results, &func.locals] {
         if let Some(decl) = decls.get(position) {
@@ -18,7 +18,7 @@ pub fn declaration(func: &Func, position: u32) -> Option<&Decl> {
 }
 
 /// Which of its function's instances, from 1, the instance with this number is.
-pub fn count_of(instances: &[Instance], number: u32, func: u32) -> u32 {
+fn count_of(instances: &[Instance], number: u32, func: u32) -> u32 {
     let mut count = 0u32;
     let mut at = 0u32;
     for instance in instances {

@@ -3,5 +3,5 @@ use Rattle.std.specs.List.{All}
 use Rattle.fix_word.specs.Words.{IsWord}
 use Rattle.image_fit.proofs.starts.are_within.Given as goal
 
-abbrev pub invariant-loop-word : goal.invariant-loop-word
-invariant-loop-word l = All (IsWord l.bits) (take l.word-index l.word-items)
+abbrev pub invariant-loop-at : goal.invariant-loop-at
+invariant-loop-at l = All (IsWord l.bits) (take l.at l.words)
