@@ -4,7 +4,6 @@ use Rattle.std.specs.Prelude.{◌≡◌, ℕ, ◌<◌, ◌≤◌, length, slice_
 use Rattle.std.specs.List.{All}
 use Rattle.fix_word.specs.Words.{IsWord}
 use Rattle.fix_word.specs.declared.operation.Op.TheVariants.{Const}
-use Rattle.operations.specs.declared.units.PortRef.{PortRef}
 use Rattle.datapath.specs.declared.types.Bus.{Bus}
 use Rattle.datapath.specs.declared.types.Datapath.{Datapath}
 use Rattle.plan_core.specs.Hardware.{no_bus}
