@@ -11,4 +11,5 @@ loop-at-preserved c =
     (c.is_word_within.ensures c.if-not-is_word_within.false)
 
 pub returns : goal.returns
-returns c h = subst (All (IsWord c.args.bits)) (take_all c.loop-at.at c.args.words.now (omega arith)) c.loop-at.invariant
+returns c h =
+    subst (All (IsWord c.args.bits)) (take_all c.loop-at.at c.args.words.now (omega arith)) c.loop-at.invariant

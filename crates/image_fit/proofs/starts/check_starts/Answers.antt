@@ -7,9 +7,11 @@ use Rattle.image_fit.proofs.starts.check_starts.Goals as goal
 
 pub loop-number-preserved : goal.loop-number-preserved
 loop-number-preserved c =
-    All-more (StartsWithin c.args.bits) c.args.units.now c.loop-number.number c.index-units-number.result (omega arith) c.loop-number.invariant
+    All-more (StartsWithin c.args.bits) c.args.units.now c.loop-number.number c.index-units-number.result (omega arith)
+    c.loop-number.invariant
     (subst (StartsWithin c.args.bits) c.index-units-number.is (c.starts_within.ensures c.if-not-starts_within.false))
 
 pub returns : goal.returns
 returns c =
-    subst (All (StartsWithin c.args.bits)) (take_all c.loop-number.number c.args.units.now (omega arith)) c.loop-number.invariant
+    subst (All (StartsWithin c.args.bits)) (take_all c.loop-number.number c.args.units.now (omega arith))
+    c.loop-number.invariant

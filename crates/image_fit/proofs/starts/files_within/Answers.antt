@@ -7,7 +7,8 @@ use Rattle.image_fit.proofs.starts.files_within.Goals as goal
 
 pub loop-file-preserved : goal.loop-file-preserved
 loop-file-preserved c =
-    All-more (All (IsWord c.args.bits)) c.deref-file-items.result.now c.loop-file.file-index c.file-item.result (omega arith) c.loop-file.invariant
+    All-more (All (IsWord c.args.bits)) c.deref-file-items.result.now c.loop-file.file-index c.file-item.result
+    (omega arith) c.loop-file.invariant
     (subst (All (IsWord c.args.bits)) c.file-item.is (c.are_within.ensures c.if-not-are_within.false))
 
 pub returns : goal.returns

@@ -11,10 +11,12 @@ no_enable = record { unit = 0; bus = 0 }
 
 pub loop-enable-preserved : goal.loop-enable-preserved
 loop-enable-preserved c =
-    All-more (IsDriveOn c.args.path.now) c.deref-enable-items.result.now c.loop-enable.enable-index no_enable (omega arith) c.loop-enable.invariant
+    All-more (IsDriveOn c.args.path.now) c.deref-enable-items.result.now c.loop-enable.enable-index no_enable
+    (omega arith) c.loop-enable.invariant
     (c.is_drive_on.ensures c.if-not-is_drive_on.false)
 
 pub returns : goal.returns
 returns c =
-    subst (All (IsDriveOn c.args.path.now)) (take_all c.loop-enable.enable-index c.deref-enable-items.result.now (omega arith)
+    subst (All (IsDriveOn c.args.path.now))
+    (take_all c.loop-enable.enable-index c.deref-enable-items.result.now (omega arith)
     ∙ c.deref-enable-items.ensures) c.loop-enable.invariant

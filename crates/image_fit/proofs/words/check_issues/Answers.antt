@@ -7,10 +7,12 @@ use Rattle.image_fit.proofs.words.check_issues.Goals as goal
 
 pub loop-issue-preserved : goal.loop-issue-preserved
 loop-issue-preserved c =
-    All-more (IsIssueWithin c.args.bits) c.deref-issue-items.result.now c.loop-issue.issue-index c.issue-item.result (omega arith) c.loop-issue.invariant
+    All-more (IsIssueWithin c.args.bits) c.deref-issue-items.result.now c.loop-issue.issue-index c.issue-item.result
+    (omega arith) c.loop-issue.invariant
     (subst (IsIssueWithin c.args.bits) c.issue-item.is (c.is_issue_within.ensures c.if-not-is_issue_within.false))
 
 pub returns : goal.returns
 returns c =
-    subst (All (IsIssueWithin c.args.bits)) (take_all c.loop-issue.issue-index c.deref-issue-items.result.now (omega arith)
+    subst (All (IsIssueWithin c.args.bits))
+    (take_all c.loop-issue.issue-index c.deref-issue-items.result.now (omega arith)
     ∙ c.deref-issue-items.ensures) c.loop-issue.invariant

@@ -11,7 +11,8 @@ no_take = record { port = record { unit = 0; port = 0 }; bus = 0; reg = 0 }
 
 pub loop-take-preserved : goal.loop-take-preserved
 loop-take-preserved c =
-    All-more (IsTakeOn c.args.path.now) c.deref-take-items.result.now c.loop-take.take-index no_take (omega arith) c.loop-take.invariant
+    All-more (IsTakeOn c.args.path.now) c.deref-take-items.result.now c.loop-take.take-index no_take (omega arith)
+    c.loop-take.invariant
     (c.is_take_on.ensures c.if-not-is_take_on.false)
 
 pub returns : goal.returns
