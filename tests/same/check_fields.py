@@ -1,17 +1,19 @@
 #!/usr/bin/env python3
 """Whether microcode with one field changed passes `silc_same` though it puts other rows.
 
-usage: tests/same/check_fields.py [--changes N] [--all N] [--rows N] [--jobs N] [--seed WORD]
+usage: tests/same/check_fields.py [--changes N] [--all N] [--rows N] [--jobs N] [--seed WORD] [--judges-all]
 
-The microcode that `silc compile` makes of each example on each of its datapaths is changed in one field, N times each, 4
-where no number is given; with --all N there are N changes in all, as many of each. A field is a number of a unit, a
+The microcode that `silc compile` makes of each example on each of its datapaths is changed in one field, N times each,
+4 where no number is given; with --all N there are N changes in all, as many of each. A field is a number of a unit, a
 word that a register or cell starts with, an operation, its format, argument or registers, the unit or the bus of a
 drive, a number of a take, or a whole issue, drive or take that is left out, moved to another word or added. One that
-`silc_same` shows to run the source has to put the rows of `silc eval`, without a conflict, on zeros, impulses, steps and
-random words, N rows of each, 160 where no number is given. The same seed makes the same changes. It says how far it is.
+`silc_same` shows to run the source has to put the rows of `silc eval`, without a conflict, on zeros, impulses, steps
+and random words, N rows of each, 160 where no number is given. The same seed makes the same changes. It says how far
+it is.
 
-The last lines say how many changes are refused, and of how many of these the rows differ too; how many pass; and 'N
-passed, M failed', of the examples, 25 changes of one at most counting as one. Where `silc` or `silc_same` is not built, it is skipped with 77.
+The last lines say how many changes are refused, with --judges-all of how many of these the rows differ too, and how
+many pass; and 'N passed, M failed', of the examples, of which 25 changes count as one. Where `silc` or `silc_same` is
+not built, it is skipped with 77.
 """
 import argparse
 import copy

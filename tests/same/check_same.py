@@ -169,8 +169,8 @@ def check_by_hand(folder: Path) -> None:
 def check_plan(folder: Path) -> None:
     """The plan that a search finds for the filter by hand."""
     source, path = BY_HAND / "peaking.sil", BY_HAND / "two_multipliers.toml"
-    found = subprocess.run([ROOT / "tools" / "plan", source, path, "--seconds", "3", "-o", "plan", "--datapath", "path"],
-                           cwd=folder, stdin=subprocess.DEVNULL, capture_output=True, text=True)
+    words = [ROOT / "tools" / "plan", source, path, "--seconds", "3", "-o", "plan", "--datapath", "path"]
+    found = subprocess.run(words, cwd=folder, stdin=subprocess.DEVNULL, capture_output=True, text=True)
     if found.returncode:
         raise Wrong(f"tools/plan: {found.stderr}")
     status, line = ended(folder, PLACE, source, "path", "plan", "placed")
@@ -208,8 +208,8 @@ def check_tool(folder: Path) -> None:
     """What `tools/same` says of the three kinds of microcode."""
     def say(listing: str, status: int, *lines: str) -> None:
         (folder / "mic").write_bytes(micro_file.bytes_of(image_of_listing(listing), 2))
-        done = subprocess.run([ROOT / "tools" / "same", "src", "mic", "--rows", "20", "--seeds", "2", "--samples", "kept"],
-                              cwd=folder, stdin=subprocess.DEVNULL, capture_output=True, text=True)
+        words = [ROOT / "tools" / "same", "src", "mic", "--rows", "20", "--seeds", "2", "--samples", "kept"]
+        done = subprocess.run(words, cwd=folder, stdin=subprocess.DEVNULL, capture_output=True, text=True)
         said = done.stderr.splitlines()
         if (done.returncode, len(said), done.stdout) != (status, len(lines), "") or \
                 not all(line.startswith(f"same: mic: {start}") for line, start in zip(said, lines)):
