@@ -208,11 +208,13 @@ impl NodeNames {
             put(text, operation_name(node.op))?;
         }
         put(text, marks.before)?;
-        let mut mark = "";
+        let mut is_first = true;
         for edge in node.edges.iter() {
-            put(text, mark)?;
+            if !is_first {
+                put(text, marks.between)?;
+            }
+            is_first = false;
             self.put_operand(text, *edge, depth)?;
-            mark = marks.between;
         }
         put(text, marks.behind)
     }
