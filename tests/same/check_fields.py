@@ -270,6 +270,13 @@ def checked(options: Namespace) -> Iterator[tuple[Pair, Told, str | None]]:
             yield part, *done.result()
 
 
+def counts(told: Told, options: Namespace) -> str:
+    """How many changes ended in which way."""
+    differ = f", of which {told['differ']} put other rows," if options.judges_all else ""
+    return f"of {told['refused'] + told['pass']} files with one field changed {told['refused']} are refused{differ} " \
+        f"and {told['pass']} put the same rows"
+
+
 def options_of(words: list[str]) -> Namespace:
     parser = argparse.ArgumentParser(prog="check_fields", description=__doc__,
                                      formatter_class=argparse.RawDescriptionHelpFormatter)
@@ -299,10 +306,8 @@ def main(words: list[str]) -> int:
             passed += 1
         if time.monotonic() - last > SECONDS_BETWEEN:
             last = time.monotonic()
-            print(f"check_fields: {told['refused'] + told['pass']} changes so far", file=sys.stderr, flush=True)
-    print(f"of {told['refused'] + told['pass']} files with one field changed {told['refused']} are refused"
-          + (f", of which {told['differ']} put other rows," if options.judges_all else "")
-          + f" and {told['pass']} put the same rows")
+            print(f"check_fields: {counts(told, options)}, so far", file=sys.stderr, flush=True)
+    print(counts(told, options))
     print(f"{passed} passed, {failed} failed")
     return 1 if failed or not passed else 0
 
