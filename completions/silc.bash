@@ -1,7 +1,7 @@
 # Completion of `silc` for bash: source this file, or put it into a folder of bash-completion under the name `silc`.
 
 # made by tools/completions
-_silc_words='run eval compile sim schedule list demo stages pipe frame net place same explain check draw design ranges values noise explore plan link rows batch assemble rom vcd verilog cosimulate cost synthesize board fuzz show build help'
+_silc_words='run eval compile sim schedule list demo stages pipe frame net place same explain check draw design ranges values noise explore plan link rows batch assemble compare rom vcd verilog cosimulate cost synthesize board fuzz show build help'
 _silc_forms='run *.sil *.toml * *
 eval *.sil * *
 compile *.sil *.toml *
@@ -53,6 +53,7 @@ batch *.sil / *
 batch *.mic / *
 batch *.toml / *
 assemble *.listing *
+compare *.sil *.mic *.toml
 rom *.mic
 vcd *.mic *.toml * * - -
 verilog *.mic /
@@ -93,6 +94,7 @@ link --check=*.sil --force --library=/ --pages --test --where=-
 rows --bits=16|24|32 --columns=- --force
 batch --force --jobs=- --sshlogin=-
 assemble --force --listing=*.mic --version=1|2
+compare --force --rows=- --samples=* --seeds=-
 rom --c --force --intel --map --name=- --out=* --readmemh
 vcd --force
 verilog --datapath=*.toml --force --full --large --name=- --stages=-

@@ -88,3 +88,4 @@ def with_package() -> dict[str, str]:
 SILC = Program("silc", "SILC", "silc_main")
 SHOW = Program("silc_show", "SILC_SHOW", "silc_show")
 PLACE = Program("silc_place", "SILC_PLACE", "silc_place")
+SAME = Program("silc_same", "SILC_SAME", "silc_same")

@@ -3,7 +3,10 @@
 
 usage: tests/same/check_same.py [--silc PROGRAM] [--changes N]
 
-The microcode that `silc compile` makes of each example on each of its datapaths passes, in both versions of the file.
+The microcode that `silc compile` makes of each example on each of its datapaths passes, in both versions of the file,
+and is for that datapath; on datapaths with one number changed it is refused in a line that says which. The filter by
+hand of docs/VALIDATION.md passes, and with its mistake is refused in the words of the page; the plan that `tools/plan`
+finds for it becomes microcode that passes, where `silc_place` is built.
 Of each of them N files with one bit changed are tried, 20 where no number is given: one that is still some microcode is
 refused in a line that says `not shown`, or puts the rows of the example on its samples. Microcode of another example is
 refused, and so is a source or a file that is none, each in its line. Of the listings that are written by hand, each
@@ -31,7 +34,24 @@ HERE = Path(__file__).resolve().parent
 ROOT = HERE.parent.parent
 SILC = ROOT / "crates" / "silc_main" / "out" / "silc_main"
 SAME = Path(os.environ.get("SILC_SAME") or ROOT / "crates" / "silc_same" / "out" / "silc_same")
+PLACE = Path(os.environ.get("SILC_PLACE") or ROOT / "crates" / "silc_place" / "out" / "silc_place")
+BY_HAND = ROOT / "docs" / "validation"
 CHANGES, ROWS, SKIPPED = 20, 200, 77
+# Edits of a datapath file, each with what `silc_same` says of the microcode for that file as it was.
+OTHER_DATAPATHS = [
+    ("period = 8", "period = 9", "a sample has 8 cycles, and 9 on the datapath"),
+    ("word = 16", "word = 15", "a word of the datapath has 15 bits, and input word 0 has 16"),
+    ("latency = 2", "latency = 3", "unit 2 has latency 2, and 3 on the datapath"),
+    ("gap = 4", "gap = 3", "unit 3 has gap 4, and 3 on the datapath"),
+    ("files = [3, 2]", "files = [3, 3]", "the register files of unit 4 have other sizes than on the datapath"),
+    ('from = ["alu"]', 'from = ["fast"]', "word 3: unit 4 can't drive bus 3 on the datapath"),
+    ('to = ["alu.0", "alu.1"]', 'to = ["alu.1"]', "word 4: port 4.0 can't take from bus 2 on the datapath"),
+    ('to = ["fast.1", "slow.1"]', 'to = ["slow.1"]', "word 0: port 2.1 can't take from bus 0 on the datapath"),
+]
+# The mistake of docs/VALIDATION.md: lines of the listing, and those of the first try.
+MISTAKES = [("take 4.0 bus 2 reg 2", "take 4.0 bus 2 reg 0"),
+            ("issue 4 sub fmt 0 trunc 16 regs 2 0", "issue 4 sub fmt 0 trunc 16 regs 0 0")]
+MISTAKEN = "not shown: cycle 7: port 0 of unit 4 alu has s[0] of this sample, where s[1] reads 7322*x of this sample"
 
 
 class Wrong(Exception):
@@ -109,7 +129,7 @@ def check_example(folder: Path, silc: Path, source: Path, datapath: Path, change
     image = micro_file.image_of((folder / "packed").read_bytes())
     (folder / "bytes").write_bytes(micro_file.bytes_of(image, 1))
     for microcode in ("packed", "bytes"):
-        status, line = ended(folder, SAME, source, microcode)
+        status, line = ended(folder, SAME, source, microcode, datapath)
         if status or line:
             raise Wrong(f"{microcode}: {line}")
     if (source.parent / "samples.txt").exists():
@@ -133,6 +153,92 @@ def check_listing(folder: Path, listing: Path, shown: bool) -> None:
         raise Wrong("it is not shown" if shown else "it passes")
 
 
+def check_by_hand(folder: Path) -> None:
+    """The filter by hand, on its datapath and on others, and with its mistake."""
+    source, listing = BY_HAND / "peaking.sil", (BY_HAND / "peaking.listing").read_text()
+    path = (BY_HAND / "two_multipliers.toml").read_text()
+    (folder / "path").write_text(path)
+    for version in micro_file.VERSIONS:
+        (folder / "hand").write_bytes(micro_file.bytes_of(image_of_listing(listing), version))
+        expect(folder, [source, "hand", "path"], 0, "")
+    for old, new, line in OTHER_DATAPATHS:
+        (folder / "path").write_text(path.replace(old, new, 1))
+        expect(folder, [source, "hand", "path"], 1, f"silc_same: hand: not of the datapath: {line}\n")
+    (folder / "path").write_text("period = 0")
+    expect(folder, [source, "hand", "path"], 1, "silc_same: path: datapath top: out of range\n")
+    for old, new in MISTAKES:
+        if listing.count(f"\n{old}\n") != 1:
+            raise Wrong(f"{old} does not stand once in the listing")
+        listing = listing.replace(f"\n{old}\n", f"\n{new}\n")
+    (folder / "hand").write_bytes(micro_file.bytes_of(image_of_listing(listing), 2))
+    expect(folder, [source, "hand"], 1, f"silc_same: hand: {MISTAKEN}\n")
+
+
+def check_plan(folder: Path) -> None:
+    """The plan that a search finds for the filter by hand."""
+    source, path = BY_HAND / "peaking.sil", BY_HAND / "two_multipliers.toml"
+    words = [ROOT / "tools" / "plan", source, path, "--seconds", "3", "-o", "plan", "--datapath", "path"]
+    found = subprocess.run(words, cwd=folder, stdin=subprocess.DEVNULL, capture_output=True, text=True)
+    if found.returncode:
+        raise Wrong(f"tools/plan: {found.stderr}")
+    status, line = ended(folder, PLACE, source, "path", "plan", "placed")
+    if status:
+        raise Wrong(f"silc_place: {line}")
+    expect(folder, [source, "placed", "path"], 0, "")
+
+
+# y = x + 1 by a difference of -1, which puts the same rows in 8 bits, and is not seen to.
+BY_DIFFERENCE = """
+input 0 width 8
+unit 0 in latency 1 gap 1
+unit 1 rom latency 1 gap 1
+unit 2 alu latency 1 gap 1 files 1 1
+unit 3 out latency 1 gap 1 files 1
+period 4 unroll 1 inputs 1 outputs 1 units 4 buses 1
+word 0
+issue 0 input 0
+drive 0 0
+take 2.0 bus 0 reg 0
+word 1
+issue 1 const -1
+drive 1 0
+take 2.1 bus 0 reg 0
+word 2
+issue 2 sub fmt 0 trunc 8 regs 0 0
+drive 2 0
+take 3.0 bus 0 reg 0
+word 3
+issue 3 output 0 regs 0
+"""
+
+
+def check_tool(folder: Path) -> None:
+    """What `tools/compare` says of the three kinds of microcode."""
+    def say(listing: str, status: int, *lines: str) -> None:
+        (folder / "mic").write_bytes(micro_file.bytes_of(image_of_listing(listing), 2))
+        words = [ROOT / "tools" / "compare", "src", "mic", "--rows", "20", "--seeds", "2", "--samples", "kept"]
+        done = subprocess.run(words, cwd=folder, stdin=subprocess.DEVNULL, capture_output=True, text=True)
+        said = done.stderr.splitlines()
+        if (done.returncode, len(said), done.stdout) != (status, len(lines), "") or \
+                not all(line.startswith(f"compare: mic: {start}") for line, start in zip(said, lines)):
+            raise Wrong(f"tools/compare ends with {done.returncode}: {done.stderr!r}")
+
+    (folder / "src").write_text("func main(x : fix<8,0>) y : fix<8,0> = begin y = x + 1; end;")
+    by_sum = BY_DIFFERENCE.replace("const -1", "const 1").replace("sub", "add")
+    say(by_sum, 0)
+    say(BY_DIFFERENCE, 3, "not shown: cycle 3: ", "not shown, and no row differs on 8 streams of 20 rows")
+    say(by_sum.replace("drive 1 0", "drive 0 0\ndrive 1 0"), 1, "not shown: ", "wrong: at zeros, conflict at cycle 1: ")
+    say(by_sum.replace("const 1", "const 2"), 1, "not shown: ", "wrong: at zeros, row 0 is 2, and 1 by src")
+    if (folder / "kept").read_text() != 20 * "0\n":
+        raise Wrong("the rows that are kept are others than zeros")
+
+
+def expect(folder: Path, words: list[str | Path], status: int, line: str) -> None:
+    said = ended(folder, SAME, *words)
+    if said != (status, line):
+        raise Wrong(f"silc_same ends with {said}, and not with {(status, line)}")
+
+
 def check_line(folder: Path, words: list[str], status: int, line: str) -> None:
     (folder / "good").write_text("func main(x : fix<8,0>) y : fix<8,0> = begin y = x + 1; end;")
     (folder / "bad").write_text("func main(x : fix<8,0>) y : fix<8,0> =\nbegin y = z; end;")
@@ -144,13 +250,14 @@ def check_line(folder: Path, words: list[str], status: int, line: str) -> None:
 
 def lines() -> Iterator[tuple[list[str], int, str]]:
     """Words, and how `silc_same` ends with them."""
-    for count in (0, 1, 3):
-        yield ["good", "short", "more"][:count], 2, "usage: silc_same SRC MIC"
+    for count in (0, 1, 4):
+        yield ["good", "short", "more", "most"][:count], 2, "usage: silc_same SRC MIC [DP]"
     yield ["bad", "short"], 1, "silc_same: bad: line 2: unknown name"
     yield ["good", "short"], 1, "silc_same: short: short at 4"
     yield ["good", "bad"], 1, "silc_same: bad: bad magic"
     yield ["absent", "short"], 1, "silc_same: absent can't be read"
     yield ["good", "absent"], 1, "silc_same: absent can't be read"
+    yield ["good", "short", "absent"], 1, "silc_same: absent can't be read"
 
 
 def examples() -> list[tuple[Path, Path]]:
@@ -170,6 +277,10 @@ def checks(silc: Path, changes: int, told: Counter[str]) -> Iterator[tuple[str, 
     for source, datapath in examples():
         yield str(datapath.relative_to(ROOT)), \
             partial(check_example, silc=silc, source=source, datapath=datapath, changes=changes, told=told)
+    yield "docs/validation", check_by_hand
+    yield "tools/compare", check_tool
+    if os.access(PLACE, os.X_OK):
+        yield "a plan by search", check_plan
     yield "the microcode of other examples", partial(check_others, silc=silc, pairs=examples())
 
 

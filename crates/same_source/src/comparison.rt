@@ -19,7 +19,7 @@ use source_faults::FrontError;
 use std::alloc::{AllocError, Global};
 
 /// The most bytes of microcode.
-const MICROCODE_LIMIT: usize = 1 << 26;
+pub(crate) const MICROCODE_LIMIT: usize = 1 << 26;
 
 /// The program of a source, with its graph.
 fn program_of(alloc: Global, source: &[u8]) -> Result<Accepted, Refusal>
