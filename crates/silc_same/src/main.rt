@@ -66,7 +66,8 @@ fn not_shown(
 /// Ends well where it is shown that the microcode of a file runs the source of another.
 fn check_source(
     alloc: Global,
-    [source, microcode]: [&str; 2],
+    source: &str,
+    microcode: &str,
     source_bytes: &[u8],
     microcode_bytes: &[u8],
 ) -> Result<()> {
@@ -89,7 +90,8 @@ fn check_source(
 /// Ends well where the microcode of a file is for the datapath of another.
 fn check_datapath(
     alloc: Global,
-    [microcode, path]: [&str; 2],
+    microcode: &str,
+    path: &str,
     microcode_bytes: &[u8],
     path_bytes: &[u8],
 ) -> Result<()> {
@@ -106,7 +108,8 @@ fn compare<R: Files + AllocGlobal>(rt: &R, source: &str, microcode: &str) -> Res
     let microcode_bytes = read(rt, microcode)?;
     check_source(
         rt.alloc(),
-        [source, microcode],
+        source,
+        microcode,
         &source_bytes,
         &microcode_bytes,
     )
@@ -123,8 +126,8 @@ fn compare_on<R: Files + AllocGlobal>(
     let microcode_bytes = read(rt, microcode)?;
     let path_bytes = read(rt, path)?;
     let alloc = rt.alloc();
-    check_source(alloc, [source, microcode], &source_bytes, &microcode_bytes)?;
-    check_datapath(alloc, [microcode, path], &microcode_bytes, &path_bytes)
+    check_source(alloc, source, microcode, &source_bytes, &microcode_bytes)?;
+    check_datapath(alloc, microcode, path, &microcode_bytes, &path_bytes)
 }
 
 /// Compares the files that the words name. `false`: they name no two or three.
