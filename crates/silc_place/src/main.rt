@@ -3,7 +3,6 @@
 
 use host_desk::HostDesk;
 use place_command::{PlaceEnding, code, place, report};
-use place_stages_command::{PipeEnding, code as pipe_code, place_pipe, report as report_pipe};
 use statuses::Status;
 use std::env;
 use std::io::{self, ErrorKind};
@@ -13,15 +12,12 @@ const HELP: &str =
     "silc_place compiles SRC for the datapath DP with the units and cycles that PLAN gives.
 
 usage: silc_place SRC DP PLAN OUT    writes the microcode of that plan to OUT
-       silc_place pipe SRC DP PLAN S SAMPLES OUT
-                                     runs the plan over S stages, 1 to 4, over the rows of SAMPLES into OUT
        silc_place --help | --version
 
 PLAN is what 'silc schedule SRC DP' prints, or any text that has for each node a line as
 node 3 cycle 5 unit alu
 with more behind it or not. Lines that do not begin with 'node' give no place. What wrote PLAN is not
-trusted: where OUT is written, it is the solution of SRC, and each node stands where PLAN says. The PLAN
-of 'pipe' is what 'silc stages SRC DP S' prints, or the like, and OUT has the rows of 'silc pipe'.
+trusted: where OUT is written, it is the solution of SRC, and each node stands where PLAN says.
 
 The exit code is that of 'silc compile SRC DP OUT', and 16 where PLAN gives no plan. An error is reported
 in one line on standard error, and no OUT is made then, except where it can't be written.";
@@ -55,47 +51,8 @@ fn unread(error: &io::Error) -> Status {
     }
 }
 
-/// The number of stages that a word is.
-fn stages_of(word: &str) -> Option<u8> {
-    match word {
-        "1" => Some(1),
-        "2" => Some(2),
-        "3" => Some(3),
-        "4" => Some(4),
-        _ => None,
-    }
-}
-
-/// Runs a plan over stages over samples. An output that is an input is none.
-fn carry_out_pipe(rt: HostRuntime, words: &[String]) -> ExitCode {
-    let alloc = rt.alloc();
-    let mut desk = HostDesk::new(rt);
-    let ending = match words {
-        [source, datapath, plan, stages, samples, output]
-            if output != source && output != datapath && output != plan && output != samples => {
-            match stages_of(stages) {
-                Some(stages) => {
-                    match place_pipe(alloc, &mut desk, source, datapath, plan, stages, samples, output) {
-                        Ok(_) => return ExitCode::SUCCESS,
-                        Err(ending) => ending,
-                    }
-                }
-                None => PipeEnding::from(Status::Words),
-            }
-        }
-        _ => PipeEnding::from(Status::Words),
-    };
-    report_pipe(&mut desk, &ending);
-    ExitCode::from(pipe_code(&ending))
-}
-
 /// Carries out the command that the words are. An output that is an input is none.
 fn carry_out(rt: HostRuntime, words: &[String]) -> ExitCode {
-    if let [word, rest @ ..] = words {
-        if word.as_str() == "pipe" {
-            return carry_out_pipe(rt, rest);
-        }
-    }
     let alloc = rt.alloc();
     let mut desk = HostDesk::new(rt);
     let ending = match words {
