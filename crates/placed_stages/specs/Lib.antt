@@ -1,0 +1,4 @@
+pub mod StagePlaces
+pub mod StageCauses
+pub mod StageFaults
+pub mod Private

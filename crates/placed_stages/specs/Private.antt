@@ -1,0 +1,5 @@
+pub mod Errors
+pub mod Units
+pub mod Placing
+pub mod Stages
+pub mod Answers
