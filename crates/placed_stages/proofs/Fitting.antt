@@ -1,5 +1,6 @@
 -- Whether an operation fits at one cycle, around the period.
-use Rattle.std.proofs.Common.{◌≡◌, ℕ, ◌+◌, ◌*◌, ◌≤◌, ◌↔◌, ◌∙◌, sym, ap, subst, arith, Bool, IsTrue, List, Option, Some, None}
+use Rattle.std.proofs.Common.{◌≡◌, ℕ, ◌+◌, ◌*◌, ◌≤◌, ◌↔◌, ◌∙◌, sym, ap, subst, arith, Bool, IsTrue, List, Option, Some}
+use Rattle.std.proofs.Common.{None}
 use Rattle.std.specs.Option.{is_some}
 use Rattle.std.proofs.lemmas.Bool.{true≢false}
 use Rattle.operations.specs.declared.units.PortRef.{PortRef}

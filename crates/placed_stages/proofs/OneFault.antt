@@ -1,5 +1,6 @@
 -- Places over several stages come to one plan or to one fault, and not both.
-use Rattle.std.proofs.Common.{◌≡◌, ◌⊎◌, ◌∙◌, inl, inr, ⊎_elim, refl, sym, ap, subst, arith, ℕ, ◌+◌, ◌*◌, ◌<◌, ◌≤◌, List, []}
+use Rattle.std.proofs.Common.{◌≡◌, ◌⊎◌, ◌∙◌, inl, inr, ⊎_elim, refl, sym, ap, subst, arith, ℕ, ◌+◌, ◌*◌, ◌<◌, ◌≤◌, List}
+use Rattle.std.proofs.Common.{[]}
 use Rattle.std.proofs.Common.{length, ext_get_or}
 use Rattle.operations.specs.declared.units.PortRef.{PortRef}
 use Rattle.datapath.specs.Allowed.{IsDatapath}
@@ -100,7 +101,10 @@ module _ (g : Graph) (d : Datapath) (stages : ℕ) (places : List Place) (allowe
         ap (λ (l : Lowered). record { lowered = l; units = b.units }) same
         ∙ ap (λ (us : List ℕ). record { lowered = a.lowered; units = us }) units
 
-    same_schedule : (s z : Schedule) → IsStageScheduleAt places stages d a s → IsStageScheduleAt places stages d a z → s ≡ z
+    same_schedule : (s z : Schedule)
+        → IsStageScheduleAt places stages d a s
+        → IsStageScheduleAt places stages d a z
+        → s ≡ z
     same_schedule s z x y =
         one_schedule_over IsAway IsSame end (AtPlaceAround places d a) d a (live_of d allowed) (alike a)
         (operand_in d a problem) s z x y
@@ -172,7 +176,10 @@ module _ (g : Graph) (d : Datapath) (stages : ℕ) (places : List Place) (allowe
     busy_not s height v t can cause =
         cause.busy (record { again = can.allows.again; free = can.fits.unit })
 
-    blocked_not : (s : Schedule) (height : ℕ → ℕ) (v t : ℕ) → Can s height v t → IsBlockedAround stages d a s height v t → ⊥
+    blocked_not : (s : Schedule) (height : ℕ → ℕ) (v t : ℕ)
+        → Can s height v t
+        → IsBlockedAround stages d a s height v t
+        → ⊥
     blocked_not s height v t can cause =
         cause.blocked (λ port to. record { file = can.fits.files port to; bus = can.fits.buses port to })
 
@@ -214,7 +221,8 @@ module _ (g : Graph) (d : Datapath) (stages : ℕ) (places : List Place) (allowe
     cycle_refuted Cause cannot v h =
         let same = same_assigned p.assigned is.placed.lowered is.units h.assigned h.is_lowered h.units in
         refuted p.assigned is.placed.lowered is.units Cause cannot v
-        (subst (λ (a : Assigned). IsFirstUnplacedOver places stages d a Cause v) same h.unplaced) p.schedule is.placed.schedule
+        (subst (λ (a : Assigned). IsFirstUnplacedOver places stages d a Cause v) same h.unplaced) p.schedule
+        is.placed.schedule
 
     pub plan_or_not : (fault : StagePlaceFault) → IsStagePlaceFault g d stages places fault → ⊥
     plan_or_not (Unstored f) h = lowered_or_not 0 stages g d p.assigned.lowered is.placed.lowered f h
@@ -230,12 +238,14 @@ module _ (g : Graph) (d : Datapath) (stages : ℕ) (places : List Place) (allowe
     plan_or_not (Late v) h = cycle_refuted (IsLate stages) (late_not p.assigned is.placed.lowered is.units) v h
     plan_or_not (Past v) h = cycle_refuted (IsPastStages stages) (past_not p.assigned is.placed.lowered is.units) v h
     plan_or_not (Busy v) h = cycle_refuted (IsBusyAround stages) (busy_not p.assigned is.placed.lowered is.units) v h
-    plan_or_not (Blocked v) h = cycle_refuted (IsBlockedAround stages) (blocked_not p.assigned is.placed.lowered is.units) v h
+    plan_or_not (Blocked v) h =
+        cycle_refuted (IsBlockedAround stages) (blocked_not p.assigned is.placed.lowered is.units) v h
     plan_or_not (Unstaged v) h =
         let same = same_assigned p.assigned is.placed.lowered is.units h.assigned h.is_lowered h.units in
         let there = subst (λ (a : Assigned). v < length a.lowered.nodes) same h.unstaged.there in
         h.unstaged.out
-        (staged_there p.assigned is.placed.lowered is.units p.schedule is.placed.schedule h.assigned h.is_lowered h.units
+        (staged_there p.assigned is.placed.lowered is.units p.schedule is.placed.schedule h.assigned h.is_lowered
+        h.units
         h.schedule h.is_schedule v (is.placed.in_stages v there))
     plan_or_not (FileFull unit port v) h =
         let same = same_assigned p.assigned is.placed.lowered is.units h.assigned h.is_lowered h.units in
@@ -274,7 +284,8 @@ module _ (g : Graph) (d : Datapath) (stages : ℕ) (places : List Place) (allowe
       let regs = one_fit d.period q.unroll q.arcs order p.registers.regs q.registers.regs
       (subst (λ (n : ℕ). IsFirstFit d.period n q.arcs p.registers.regs) unroll fit) y.placed.registers in
       plan_from p q assigned schedule arcs (ap (λ (rs : List (List ℕ)). record { regs = rs }) regs) unroll
-      (x.placed.stages_are ∙ sym y.placed.stages_are) (x.placed.inputs ∙ sym y.placed.inputs) (x.placed.outs ∙ sym y.placed.outs)
+      (x.placed.stages_are ∙ sym y.placed.stages_are) (x.placed.inputs ∙ sym y.placed.inputs)
+      (x.placed.outs ∙ sym y.placed.outs)
 
   -- There is one fault at most.
 
@@ -567,7 +578,9 @@ module _ (g : Graph) (d : Datapath) (stages : ℕ) (places : List Place) (allowe
           subst (λ (slot : Slot). slot.cycle + latency_of d a w ≤ t)
           (agree w (operand_earlier d a live y.height y.heights v q w (inside v q w r.reads) r)) (operands q w r)
 
-      free_too : (t : ℕ) → IsFreeAround stages d a x.schedule x.height v t → IsFreeAround stages d a y.schedule y.height v t
+      free_too : (t : ℕ)
+          → IsFreeAround stages d a x.schedule x.height v t
+          → IsFreeAround stages d a y.schedule y.height v t
       free_too t is = record {
         again = is.again;
         free = λ slot taken.
@@ -591,57 +604,88 @@ module _ (g : Graph) (d : Datapath) (stages : ℕ) (places : List Place) (allowe
       at_one : IsFirstUnplacedOver places stages d a D v
       at_one = subst (λ (n : ℕ). IsFirstUnplacedOver places stages d a D n) (sym one_node) y
 
-    late_past : (v u : ℕ) → IsFirstUnplacedOver places stages d a (IsLate stages) v → IsFirstUnplacedOver places stages d a (IsPastStages stages) u → ⊥
+    late_past : (v u : ℕ)
+        → IsFirstUnplacedOver places stages d a (IsLate stages) v
+        → IsFirstUnplacedOver places stages d a (IsPastStages stages) u
+        → ⊥
     late_past v u x y =
         let z = at_one (IsLate stages) (IsPastStages stages) (late_not a low on) (past_not a low on) v u x y in
         x.cause (operands_too (IsPastStages stages) (IsLate stages) v z x (place_of places v).cycle z.cause.operands)
 
-    late_busy : (v u : ℕ) → IsFirstUnplacedOver places stages d a (IsLate stages) v → IsFirstUnplacedOver places stages d a (IsBusyAround stages) u → ⊥
+    late_busy : (v u : ℕ)
+        → IsFirstUnplacedOver places stages d a (IsLate stages) v
+        → IsFirstUnplacedOver places stages d a (IsBusyAround stages) u
+        → ⊥
     late_busy v u x y =
         let z = at_one (IsLate stages) (IsBusyAround stages) (late_not a low on) (busy_not a low on) v u x y in
         x.cause (operands_too (IsBusyAround stages) (IsLate stages) v z x (place_of places v).cycle z.cause.operands)
 
-    late_blocked : (v u : ℕ) → IsFirstUnplacedOver places stages d a (IsLate stages) v → IsFirstUnplacedOver places stages d a (IsBlockedAround stages) u → ⊥
+    late_blocked : (v u : ℕ)
+        → IsFirstUnplacedOver places stages d a (IsLate stages) v
+        → IsFirstUnplacedOver places stages d a (IsBlockedAround stages) u
+        → ⊥
     late_blocked v u x y =
         let z = at_one (IsLate stages) (IsBlockedAround stages) (late_not a low on) (blocked_not a low on) v u x y in
         x.cause (operands_too (IsBlockedAround stages) (IsLate stages) v z x (place_of places v).cycle z.cause.operands)
 
-    past_busy : (v u : ℕ) → IsFirstUnplacedOver places stages d a (IsPastStages stages) v → IsFirstUnplacedOver places stages d a (IsBusyAround stages) u → ⊥
+    past_busy : (v u : ℕ)
+        → IsFirstUnplacedOver places stages d a (IsPastStages stages) v
+        → IsFirstUnplacedOver places stages d a (IsBusyAround stages) u
+        → ⊥
     past_busy v u x y =
         let z = at_one (IsPastStages stages) (IsBusyAround stages) (past_not a low on) (busy_not a low on) v u x y in
         absurd (omega (arith, x.cause.past, z.cause.ends))
 
-    past_blocked : (v u : ℕ) → IsFirstUnplacedOver places stages d a (IsPastStages stages) v → IsFirstUnplacedOver places stages d a (IsBlockedAround stages) u → ⊥
+    past_blocked : (v u : ℕ)
+        → IsFirstUnplacedOver places stages d a (IsPastStages stages) v
+        → IsFirstUnplacedOver places stages d a (IsBlockedAround stages) u
+        → ⊥
     past_blocked v u x y =
-        let z = at_one (IsPastStages stages) (IsBlockedAround stages) (past_not a low on) (blocked_not a low on) v u x y in
+        let z =
+        at_one (IsPastStages stages) (IsBlockedAround stages) (past_not a low on) (blocked_not a low on) v u x y in
         absurd (omega (arith, x.cause.past, z.cause.ends))
 
-    busy_blocked : (v u : ℕ) → IsFirstUnplacedOver places stages d a (IsBusyAround stages) v → IsFirstUnplacedOver places stages d a (IsBlockedAround stages) u → ⊥
+    busy_blocked : (v u : ℕ)
+        → IsFirstUnplacedOver places stages d a (IsBusyAround stages) v
+        → IsFirstUnplacedOver places stages d a (IsBlockedAround stages) u
+        → ⊥
     busy_blocked v u x y =
-        let z = at_one (IsBusyAround stages) (IsBlockedAround stages) (busy_not a low on) (blocked_not a low on) v u x y in
-        x.cause.busy (free_too (IsBlockedAround stages) (IsBusyAround stages) v z x (place_of places v).cycle z.cause.free)
+        let z =
+        at_one (IsBusyAround stages) (IsBlockedAround stages) (busy_not a low on) (blocked_not a low on) v u x y in
+        x.cause.busy
+        (free_too (IsBlockedAround stages) (IsBusyAround stages) v z x (place_of places v).cycle z.cause.free)
 
     one_stop : (f h : StagePlaceFault) (v u : ℕ) → IsStop a v f → IsStop a u h → f ≡ h
     one_stop f h v u (inl c) (inl k) =
-        c.1 ∙ ap Late (one_node (IsLate stages) (IsLate stages) (late_not a low on) (late_not a low on) v u c.0 k.0) ∙ sym k.1
+        c.1 ∙ ap Late (one_node (IsLate stages) (IsLate stages) (late_not a low on) (late_not a low on) v u c.0 k.0)
+        ∙ sym k.1
     one_stop f h v u (inl c) (inr (inl k)) = absurd (late_past v u c.0 k.0)
     one_stop f h v u (inl c) (inr (inr (inl k))) = absurd (late_busy v u c.0 k.0)
     one_stop f h v u (inl c) (inr (inr (inr k))) = absurd (late_blocked v u c.0 k.0)
     one_stop f h v u (inr (inl c)) (inl k) = absurd (late_past u v k.0 c.0)
     one_stop f h v u (inr (inl c)) (inr (inl k)) =
-        c.1 ∙ ap Past (one_node (IsPastStages stages) (IsPastStages stages) (past_not a low on) (past_not a low on) v u c.0 k.0) ∙ sym k.1
+        c.1
+        ∙ ap Past
+        (one_node (IsPastStages stages) (IsPastStages stages) (past_not a low on) (past_not a low on) v u c.0 k.0)
+        ∙ sym k.1
     one_stop f h v u (inr (inl c)) (inr (inr (inl k))) = absurd (past_busy v u c.0 k.0)
     one_stop f h v u (inr (inl c)) (inr (inr (inr k))) = absurd (past_blocked v u c.0 k.0)
     one_stop f h v u (inr (inr (inl c))) (inl k) = absurd (late_busy u v k.0 c.0)
     one_stop f h v u (inr (inr (inl c))) (inr (inl k)) = absurd (past_busy u v k.0 c.0)
     one_stop f h v u (inr (inr (inl c))) (inr (inr (inl k))) =
-        c.1 ∙ ap Busy (one_node (IsBusyAround stages) (IsBusyAround stages) (busy_not a low on) (busy_not a low on) v u c.0 k.0) ∙ sym k.1
+        c.1
+        ∙ ap Busy
+        (one_node (IsBusyAround stages) (IsBusyAround stages) (busy_not a low on) (busy_not a low on) v u c.0 k.0)
+        ∙ sym k.1
     one_stop f h v u (inr (inr (inl c))) (inr (inr (inr k))) = absurd (busy_blocked v u c.0 k.0)
     one_stop f h v u (inr (inr (inr c))) (inl k) = absurd (late_blocked u v k.0 c.0)
     one_stop f h v u (inr (inr (inr c))) (inr (inl k)) = absurd (past_blocked u v k.0 c.0)
     one_stop f h v u (inr (inr (inr c))) (inr (inr (inl k))) = absurd (busy_blocked u v k.0 c.0)
     one_stop f h v u (inr (inr (inr c))) (inr (inr (inr k))) =
-        c.1 ∙ ap Blocked (one_node (IsBlockedAround stages) (IsBlockedAround stages) (blocked_not a low on) (blocked_not a low on) v u c.0 k.0)
+        c.1
+        ∙ ap Blocked
+        (one_node (IsBlockedAround stages) (IsBlockedAround stages) (blocked_not a low on) (blocked_not a low on) v
+        u c.0 k.0)
         ∙ sym k.1
 
     stop_not : (f : StagePlaceFault) (v : ℕ) → IsStop a v f → (s : Schedule) → IsStageScheduleAt places stages d a s → ⊥
@@ -656,8 +700,8 @@ module _ (g : Graph) (d : Datapath) (stages : ℕ) (places : List Place) (allowe
       one_stop y.assigned y.is_lowered y.units f h x.v y.v
       (subst (λ (a : Assigned). IsStop a x.v f) same x.cause) y.cause
 
-  module _ (f : StagePlaceFault) (x : IsOfCycles f) (b : Assigned) (low : Low b.lowered) (on : AreOnGivenUnits places d b)
-      (s : Schedule) (is : IsStageScheduleAt places stages d b s) where
+  module _ (f : StagePlaceFault) (x : IsOfCycles f) (b : Assigned) (low : Low b.lowered)
+      (on : AreOnGivenUnits places d b) (s : Schedule) (is : IsStageScheduleAt places stages d b s) where
     scheduled_or_stopped : ⊥
     scheduled_or_stopped =
         let same = same_assigned b low on x.assigned x.is_lowered x.units in
@@ -665,7 +709,8 @@ module _ (g : Graph) (d : Datapath) (stages : ℕ) (places : List Place) (allowe
 
   cycles_not : (f h : StagePlaceFault) → IsOfCycles f → AfterCycles h → ⊥
   cycles_not f h x (inl y) =
-      scheduled_or_stopped f x y.staged.assigned y.staged.is_lowered y.staged.units y.staged.schedule y.staged.is_schedule
+      scheduled_or_stopped f x y.staged.assigned y.staged.is_lowered y.staged.units y.staged.schedule
+      y.staged.is_schedule
   cycles_not f h x (inr y) =
       scheduled_or_stopped f x y.kept.assigned y.kept.is_lowered y.kept.units y.kept.schedule y.kept.is_schedule
 
@@ -757,5 +802,8 @@ module _ (g : Graph) (d : Datapath) (stages : ℕ) (places : List Place) (allowe
       let b = lowered_in f x in absurd (line_not y.0 y.2 b.0 b.1)
   one_by_check f h (inr x) (inr y) = one_after_lines f h x y
 
-  pub one_place_fault : (f h : StagePlaceFault) → IsStagePlaceFault g d stages places f → IsStagePlaceFault g d stages places h → f ≡ h
+  pub one_place_fault : (f h : StagePlaceFault)
+      → IsStagePlaceFault g d stages places f
+      → IsStagePlaceFault g d stages places h
+      → f ≡ h
   one_place_fault f h x y = one_by_check f h (by_check f x) (by_check h y)

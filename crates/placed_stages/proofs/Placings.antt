@@ -1,5 +1,6 @@
 -- The placing of nodes at their places over several stages.
-use Rattle.std.proofs.Common.{◌≡◌, ℕ, ◌+◌, ◌*◌, ◌<◌, ◌≤◌, ◌⊎◌, inl, inr, ⊎_elim, refl, sym, subst, arith, List, [], length}
+use Rattle.std.proofs.Common.{◌≡◌, ℕ, ◌+◌, ◌*◌, ◌<◌, ◌≤◌, ◌⊎◌, inl, inr, ⊎_elim, refl, sym, subst, arith, List, []}
+use Rattle.std.proofs.Common.{length}
 use Rattle.std.proofs.Common.{Contains}
 use Rattle.std.proofs.Math.Nat.{mul-le-mul}
 use Rattle.operations.specs.declared.units.PortRef.{PortRef}
@@ -26,9 +27,11 @@ use Rattle.placed_stages.specs.declared.fault.StagePlaceFault.TheVariants.{Line 
 use Rattle.placed_stages.specs.declared.fault.StagePlaceFault.TheVariants.{WrongUnit, Late, Past, Busy, Blocked}
 use Rattle.placed_stages.specs.declared.fault.StagePlaceFault.TheVariants.{Unstaged, FileFull, Memory}
 use Rattle.placed_stages.specs.StagePlaces.{IsAtPlace, AtPlaceAround, IsStagePlacedAt, IsStageScheduleAt}
-use Rattle.placed_stages.specs.StageCauses.{IsLate, IsPastStages, IsFreeAround, IsBusyAround, IsBlockedAround, HasTransferAround}
+use Rattle.placed_stages.specs.StageCauses.{IsLate, IsPastStages, IsFreeAround, IsBusyAround, IsBlockedAround}
+use Rattle.placed_stages.specs.StageCauses.{HasTransferAround}
 use Rattle.placed_stages.specs.StageFaults.{IsFirstUnplacedOver}
-use Rattle.placed_stages.specs.Private.Placing.{Fits, IsFree, IsObstacle, MayAt, Places, ArePlaced, IsStopped, IsUnplaced}
+use Rattle.placed_stages.specs.Private.Placing.{Fits, IsFree, IsObstacle, MayAt, Places, ArePlaced, IsStopped}
+use Rattle.placed_stages.specs.Private.Placing.{IsUnplaced}
 use Rattle.placed_stages.specs.declared.placing.Placing.{Placing}
 
 none_in : {A : Type 0} (x : A) → Contains [] x → ⊥
@@ -72,7 +75,8 @@ module _ (places : List Place) (staged : Staged) (is : IsSoundStaged staged) whe
       × (Asks (of_slots slots) height v t → MayAt places staged slots v t)
   at_is slots height are v there t = (λ at. at, λ at. at)
 
-  module _ (order : List ℕ) (k : ℕ) (p : Placing) (b : ArePlaced places staged order k p) (within : k < length order) where
+  module _ (order : List ℕ) (k : ℕ) (p : Placing) (b : ArePlaced places staged order k p)
+      (within : k < length order) where
     abbrev v : ℕ
     v = nth order k
 
@@ -87,7 +91,9 @@ module _ (places : List Place) (staged : Staged) (is : IsSoundStaged staged) whe
 
     before : (x : ℕ) → IsEarlier a b.height v x → IsStagePlacedAt places staged.stages d a s b.height x
     before x e =
-        let at = over.earlier_index (IsGapAround d.period) (IsSameAround d.period) end Asks (MayAt places staged) d a is.problem short
+        let at =
+        over.earlier_index (IsGapAround d.period) (IsSameAround d.period) end Asks (MayAt places staged) d a
+        is.problem short
         alike at_is order k p.slots p.table b k within x e in
         subst (IsStagePlacedAt places staged.stages d a s b.height) at.2 (b.each at.0 at.1)
 
@@ -154,9 +160,12 @@ module _ (places : List Place) (staged : Staged) (is : IsSoundStaged staged) whe
     unplaced : (fault : StagePlaceFault) → IsStopped places staged p v fault → IsUnplaced places staged.stages d a fault
     unplaced fault stopped = by fault stopped.obstacle
       where
-        by : (fault : StagePlaceFault) → IsObstacle staged p v t stopped.ports fault → IsUnplaced places staged.stages d a fault
+        by : (fault : StagePlaceFault)
+            → IsObstacle staged p v t stopped.ports fault
+            → IsUnplaced places staged.stages d a fault
         by (Late node) ob =
-            subst (λ (n : ℕ). First (IsLate staged.stages) n) (sym ob.0) (first (IsLate staged.stages) (λ ready. ob.1 ready))
+            subst (λ (n : ℕ). First (IsLate staged.stages) n) (sym ob.0)
+            (first (IsLate staged.stages) (λ ready. ob.1 ready))
         by (Past node) ob =
             subst (λ (n : ℕ). First (IsPastStages staged.stages) n) (sym ob.0)
             (first (IsPastStages staged.stages) (record { operands = ob.1.ready; past = ob.1.past }))

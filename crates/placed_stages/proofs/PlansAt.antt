@@ -1,5 +1,6 @@
 -- What holds of a plan over stages with its places, and of the faults of the passes.
-use Rattle.std.proofs.Common.{◌≡◌, ◌⊎◌, ⊎_elim, ◌∙◌, ◌*◌, inl, inr, refl, sym, ap, subst, arith, ℕ, ◌<◌, ◌≤◌, List, length}
+use Rattle.std.proofs.Common.{◌≡◌, ◌⊎◌, ⊎_elim, ◌∙◌, ◌*◌, inl, inr, refl, sym, ap, subst, arith, ℕ, ◌<◌, ◌≤◌, List}
+use Rattle.std.proofs.Common.{length}
 use Rattle.std.proofs.Common.{Result, Ok, Err}
 use Rattle.std.specs.Prelude.{IsErrAnd}
 use Rattle.std.proofs.lemmas.Result.{err_from_is_err_and}
@@ -60,8 +61,8 @@ use Rattle.placed_stages.proofs.OwnPlaces.{planned_at}
 use Rattle.placed_stages.proofs.OneFault.{plan_or_not, one_plan, one_place_fault}
 
 -- a node is in its stages by any way to tell which load reads the word of which store
-pub in_stages_by : {stages : ℕ} {Loads Others : (v x ago : ℕ) → Type 0} {d : Datapath} {a : Assigned} {s : Schedule}
-    {v : ℕ}
+pub in_stages_by :
+    {stages : ℕ} {Loads Others : (v x ago : ℕ) → Type 0} {d : Datapath} {a : Assigned} {s : Schedule} {v : ℕ}
     → ((x ago : ℕ) → Others v x ago → Loads v x ago)
     → IsInItsStages stages Loads d a s v
     → IsInItsStages stages Others d a s v
@@ -182,11 +183,13 @@ module _ (g : Graph) (d : Datapath) (stages : ℕ) (places : List Place) (allowe
       -- the loads that the code finds behind a store are those of its word
       here : (v : ℕ) → IsStaged stages d a s v → IsInItsStages stages (IsLoadOf low.delays) d a s v
       here v =
-          in_stages_by (λ x ago loads. to_behind g d stages allowed sound some a low (on_right places d a on) v x ago loads)
+          in_stages_by
+          (λ x ago loads. to_behind g d stages allowed sound some a low (on_right places d a on) v x ago loads)
 
       back : (v : ℕ) → IsInItsStages stages (IsLoadOf low.delays) d a s v → IsStaged stages d a s v
       back v =
-          in_stages_by (λ x ago loads. of_behind g d stages allowed sound some a low (on_right places d a on) v x ago loads)
+          in_stages_by
+          (λ x ago loads. of_behind g d stages allowed sound some a low (on_right places d a on) v x ago loads)
 
       pub stage_fails : (f : StagePlaceFault) → IsOutOfStages stages d a s f → Fails f
       stage_fails (Unstaged v) h =

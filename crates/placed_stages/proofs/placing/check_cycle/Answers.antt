@@ -40,7 +40,8 @@ returns-then-not-fits_at-2-clause-fault c =
         free = record {
           again = again;
           fits =
-              fitting_by staged c.requires.staged placing c.requires.table.path c.args.v c.args.cycle _ (search rules) []
+              fitting_by staged c.requires.staged placing c.requires.table.path c.args.v c.args.cycle _ (search rules)
+              []
               c.fits_at.ensures c.unit-unit.ensures.unit (search rules) in_time.ends;
         };
         blocked = λ fits.
