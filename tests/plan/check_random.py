@@ -2,16 +2,16 @@
 """Whether each plan that the search finds for random programs on random processors passes the checker of plans, and
 `silc_place` takes it.
 
-usage: tests/plan/check_random.py [--silc PROGRAM] [--seconds N] [COUNT [SEED]]
+usage: tests/plan/check_random.py [--silc PROGRAM] [--seconds N] [--placed] [COUNT [SEED]]
 
 Of COUNT programs, 200 where nothing is said, each is searched for N seconds, 0.15 where nothing is said, over one, two
 or four stages, by turns with the files and memories of its processor and with such as are large enough. A program that
 has no place by the rules in any period is left out, and another is made. Looked at is that each plan passes, with its
 buses and registers and without; that no period of the rules is lost; and that no bound and no solver refutes a period
 in which the rules have a plan. Of a plan over one stage `silc_place` makes microcode, which puts the rows of `silc
-eval` on `silc sim`; of the plan of the rules it makes that of `silc compile`. It runs the built programs, or those that
-`SILC` and `SILC_PLACE` name. Without `silc_place` this is left out, and without a solver the heuristics are tried
-alone; then it ends with 77.
+eval` on `silc sim`; of the plan of the rules it makes that of `silc compile`. With --placed all are searched over one
+stage. It runs the built programs, or those that `SILC` and `SILC_PLACE` name. Without `silc_place` this is left out,
+and without a solver the heuristics are tried alone; then it ends with 77.
 """
 from __future__ import annotations
 
@@ -49,8 +49,9 @@ TOLD = 20
 class Tried:
     """What was seen of the programs so far."""
 
-    def __init__(self, silc: str, seed: int, seconds: float) -> None:
+    def __init__(self, silc: str, seed: int, seconds: float, stages: tuple[int, ...]) -> None:
         self.silc, self.seed, self.seconds, self.solver = silc, seed, seconds, solver_there()
+        self.stages = stages
         self.place = programs.PLACE.place() if programs.PLACE.is_there() else None
         self.seen: Counter[str] = Counter()
         self.faults: list[str] = []
@@ -60,7 +61,7 @@ class Tried:
         rng = Random(f"plan {self.seed} {number}")
         source = sources.Program(rng, 16).source()
         datapath = tomllib.loads(datapaths.text_of(datapaths.Maker(rng, rng.random() < 0.7).datapath(), rng))
-        stages, is_roomy = STAGES[number % len(STAGES)], rng.random() < 0.5
+        stages, is_roomy = self.stages[number % len(self.stages)], rng.random() < 0.5
         try:
             ruled = Ruled(self.silc, source.text.encode(), datapath, stages, is_roomy)
         except Unplanned:
@@ -73,8 +74,15 @@ class Tried:
                 rows = samples.text_of(rng, samples.rows_of(rng, source.inputs), True)
                 self.run(number, ruled, start, best, is_roomy, rows)
         except (NoPlan, NoRows, ValueError) as why:
-            self.faults.append(f"program {number} of seed {self.seed}: {why}")
+            self.fault(number, str(why))
         return True
+
+    def fault(self, number: int, what: str) -> None:
+        self.faults.append(f"program {number} of seed {self.seed}: {what}")
+        print(self.faults[-1], flush=True)
+
+    def told(self) -> str:
+        return ", ".join(f"{seen} {what}" for what, seen in self.seen.items())
 
     def search(self, number: int, ruled: Ruled, is_roomy: bool) -> tuple[Places | None, Places | None]:
         """Searches, and looks at what comes of it. The plan of the rules and the best one."""
@@ -89,7 +97,7 @@ class Tried:
         if start:
             assert finder.best
             if start.period < finder.known.bound or finder.best.period > start.period:
-                self.faults.append(f"program {number} of seed {self.seed}: period {start.period} of the rules is lost")
+                self.fault(number, f"period {start.period} of the rules is lost")
             self.seen["shorter"] += finder.best.period < start.period
             self.seen["least"] += not finder.known.open(finder.best.period)
             if number % SOLVED == 0 and self.solver:
@@ -107,12 +115,12 @@ class Tried:
         """`silc_place` takes both plans; that of the rules is the one of `silc compile`, and the microcode of the best
         one puts the rows of the source's solution."""
         if start and self.placed(ruled, start, is_roomy) != self.compiled(ruled, start, is_roomy):
-            self.faults.append(f"program {number} of seed {self.seed}: the rules' plan has other microcode")
+            self.fault(number, "the rules' plan has other microcode")
         if best:
             microcode = self.placed(ruled, best, is_roomy)
             solved = ran(self.silc, ["eval", ruled.source, STDIN, STDOUT], rows)
             if solved.status or rows_of(self.silc, microcode, rows) != solved.out:
-                self.faults.append(f"program {number} of seed {self.seed}: other rows")
+                self.fault(number, "other rows")
             self.seen["placed and run"] += 1
 
     def placed(self, ruled: Ruled, places: Places, is_roomy: bool) -> bytes:
@@ -145,35 +153,34 @@ class Tried:
         try:
             solving = Solving(self.solver, Encoding(ruled.problem, start.period))
         except TooShort as why:
-            self.faults.append(f"program {number} of seed {self.seed}: a plan of the rules is refuted: {why}")
+            self.fault(number, f"a plan of the rules is refuted: {why}")
             return
         end = time.monotonic() + 5
         while solving.status() is None and time.monotonic() < end:
             time.sleep(0.002)
         if solving.status() == REFUTED:
-            self.faults.append(f"program {number} of seed {self.seed}: the solver refutes period {start.period}")
+            self.fault(number, f"the solver refutes period {start.period}")
         self.seen["solved"] += solving.status() is not None
         solving.stop()
 
 
 def main(words: list[str]) -> int:
-    silc, seconds = SILC, SECONDS
+    silc, seconds, stages = SILC, SECONDS, STAGES
     while words[:1] in (["--silc"], ["--seconds"]) and len(words) > 1:
         silc, seconds = (words[1], seconds) if words[0] == "--silc" else (silc, float(words[1]))
         words = words[2:]
+    if words[:1] == ["--placed"]:
+        stages, words = (1,), words[1:]
     if len(words) > 2 or not all(word.isdigit() for word in words):
         print(__doc__, file=sys.stderr)
         return 2
     count, seed = [*map(int, words), *(COUNT, SEED)[len(words):]]
-    tried, number = Tried(str(Path(silc).resolve()), seed, seconds), 0
+    tried, number = Tried(str(Path(silc).resolve()), seed, seconds, stages), 0
     while tried.seen["programs"] < count:
         if tried.program(number) and tried.seen["programs"] % TOLD == 0:
-            print(f"plan: {tried.seen['programs']} of {count} programs", file=sys.stderr, flush=True)
+            print(f"plan: {tried.told()}, of {count}", file=sys.stderr, flush=True)
         number += 1
-    for fault in tried.faults:
-        print(fault)
-    told = ", ".join(f"{seen} {what}" for what, seen in tried.seen.items())
-    print(f"plan: {told}, {len(tried.faults)} faults")
+    print(f"plan: {tried.told()}, {len(tried.faults)} faults")
     if not tried.solver:
         print("check_random: skipped in part: there is no cadical and no minisat (apt-get install cadical)")
     if not tried.place:
