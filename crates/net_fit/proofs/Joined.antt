@@ -1,9 +1,10 @@
 -- What processors without a fault of wires have: a wire for each input word, from a word of the same shape.
-use Rattle.std.proofs.Common.{◌≡◌, ◌+◌, ◌==◌, ◌&&◌, ℕ, zero, suc, List, [], ◌∷◌, length, Bool, true, false, Some}
+use Rattle.std.proofs.Common.{◌≡◌, ◌+◌, ◌==◌, ℕ, zero, suc, List, [], ◌∷◌, length, Bool, true, false, Some}
 use Rattle.std.proofs.Common.{refl, sym, ap, ◌∙◌, arith, subst}
 use Rattle.std.specs.Prelude.{slice_get}
 use Rattle.std.specs.List.{AllZip}
 use Rattle.std.proofs.lemmas.Bool.{eqb-true}
+use Rattle.lists.proofs.Bools.{first_true}
 use Rattle.fault_order.specs.Ranked.{FaultSet, FaultRow, IsClear, faults_in, own_fault, ◌before◌}
 use Rattle.fault_order.specs.Rules.{Rules, faults, row_faults, each_from}
 use Rattle.fix_word.specs.declared.types.SigType.{SigType}
@@ -46,10 +47,6 @@ module _ {F : Type 0} where
   at_position G k (y ∷ ys) (suc i) n x at clear is =
       at_position G (k + 1) ys i n x (omega (arith, at))
       (tail_clear (faults (G k y)) (row_faults (each_from G (k + 1) ys)) clear) is
-
-first_true : (a b : Bool) → (a && b) ≡ true → a ≡ true
-first_true true b h = refl
-first_true false b h = h
 
 -- types that are alike have words of one width
 pub alike_width : (a b : SigType) → are_alike a b ≡ true → word_width (Some a) ≡ word_width (Some b)

@@ -1,28 +1,15 @@
 -- A turn keeps the marking.
-use Rattle.std.proofs.Common.{◌≡◌, ◌≢◌, ℕ, ◌+◌, ◌<◌, ◌≤◌, ◌⊎◌, true, false, ◌==◌, List, length, refl}
+use Rattle.std.proofs.Common.{◌≡◌, ◌≢◌, ℕ, ◌+◌, ◌<◌, ◌≤◌, ◌⊎◌, false, List, length, refl}
 use Rattle.std.proofs.Common.{inl, inr, arith, ◌∙◌, subst}
 use Rattle.std.specs.Prelude.{slice_set}
 use Rattle.std.specs.List.{Contains}
-use Rattle.std.proofs.lemmas.Bool.{cases_Bool, cases_lt}
-use Rattle.std.proofs.lemmas.Bool.Decides.{nat_tests}
+use Rattle.std.proofs.lemmas.Bool.{cases_Bool, cases_lt, eq-eqb, ne_eqb}
 use Rattle.std.proofs.lemmas.List.{get_or-set_same, get_or-set_other, length-set}
 use Rattle.lists.proofs.Numbers.{same_or_not}
 use Rattle.net_core.specs.declared.types.Wire.TheVariants.{From}
 use Rattle.net_turns.specs.Turns.{NetShape, Point, start, point_of, feed_of, period_of, next, lacks, after_turn}
 use Rattle.net_turns.specs.Marking.{IsShape, IsPoint, IsQueue, IsMarking}
 use Rattle.net_turns.proofs.Lacking.{has_all}
-
-is_zero : (n : ℕ) → n ≡ 0 → (n == 0) ≡ true
-is_zero n h = grind (arith, nat_tests)
-
-is_positive : (n : ℕ) → 0 < n → (n == 0) ≡ false
-is_positive n h = grind (arith, nat_tests)
-
-is_same : (m n : ℕ) → m ≡ n → (m == n) ≡ true
-is_same m n h = grind (arith, nat_tests)
-
-is_other : (m n : ℕ) → (m ≡ n → ⊥) → (m == n) ≡ false
-is_other m n h = grind (arith, nat_tests)
 
 -- what p has for its next cycle, where it lacks nothing
 pub record Runs (shape : NetShape) (points : List Point) (p : ℕ) : Type 0 where
@@ -68,22 +55,22 @@ next-taken : (shape : NetShape) (p : ℕ) (point : Point)
     → (next (period_of shape p) point).taken ≡ point.ran + 1
 next-taken shape p point at =
     elim (cases_lt 0 point.cycle) [
-      | inl later ↦ rw (is_positive point.cycle later) (at.under_way later)
+      | inl later ↦ rw (ne_eqb point.cycle 0 (λ e. omega (arith, later, e))) (at.under_way later)
       | inr first ↦
           let is_first : point.cycle ≡ 0 = omega arith in
-          rw (is_zero point.cycle is_first) (omega (arith, at.between is_first))
+          rw (eq-eqb point.cycle 0 is_first) (omega (arith, at.between is_first))
     ]
 
 -- the last cycle of a sample, and another
 pub next-ends : (period : ℕ) (point : Point)
     → point.cycle + 1 ≡ period
     → ((next period point).ran ≡ point.ran + 1) × ((next period point).cycle ≡ 0)
-next-ends period point h = rw (is_same (point.cycle + 1) period h) (refl, refl)
+next-ends period point h = rw (eq-eqb (point.cycle + 1) period h) (refl, refl)
 
 pub next-goes : (period : ℕ) (point : Point)
     → (point.cycle + 1 ≡ period → ⊥)
     → ((next period point).ran ≡ point.ran) × ((next period point).cycle ≡ point.cycle + 1)
-next-goes period point h = rw (is_other (point.cycle + 1) period h) (refl, refl)
+next-goes period point h = rw (ne_eqb (point.cycle + 1) period h) (refl, refl)
 
 is_after-from : (shape : NetShape) (p : ℕ) (from to : Point)
     → IsPoint shape p from

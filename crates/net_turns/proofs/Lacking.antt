@@ -1,18 +1,14 @@
 -- What a turn that runs has at the first cycle of a sample.
 use Rattle.std.proofs.Common.{◌≡◌, ℕ, ◌+◌, ◌-◌, ◌<◌, Bool, true, false, ◌&&◌, ◌||◌, ◌==◌, nat_le, List, length}
-use Rattle.std.proofs.Common.{refl, inl, inr, arith, sym, ◌∙◌, zero-add}
+use Rattle.std.proofs.Common.{inl, inr, arith, sym, ◌∙◌, zero-add}
 use Rattle.std.specs.List.{list_any, Contains}
-use Rattle.std.proofs.lemmas.Bool.{false≢true, cases_Bool}
+use Rattle.std.proofs.lemmas.Bool.{false≢true, cases_Bool, or_parts, eq-eqb}
 use Rattle.std.proofs.lemmas.Bool.Decides.{nat_tests}
 use Rattle.std.proofs.lemmas.List.Folds.{list_any_at}
 use Rattle.std.proofs.lemmas.List.FromFn.{length-range_with_len, get_or-range_with_len}
 use Rattle.net_core.specs.declared.types.Wire.TheVariants.{From}
 use Rattle.net_turns.specs.Turns.{NetShape, Point, point_of, feed_of, processors, is_from, reads}
 use Rattle.net_turns.specs.Turns.{is_full, is_dry, lacks_input, lacks_row, lacks_place, lacks}
-
-neither : (a b : Bool) → (a || b) ≡ false → (a ≡ false) × (b ≡ false)
-neither true b h = absurd (cc)
-neither false b h = (refl, h)
 
 not_second : (a b : Bool) → (a && b) ≡ false → a ≡ true → b ≡ false
 not_second true b h is = h
@@ -39,9 +35,6 @@ in_processors shape r h = (
 nat_le-false : (m n : ℕ) → nat_le m n ≡ false → n < m
 nat_le-false m n h = grind (arith, nat_tests)
 
-zero-true : (n : ℕ) → n ≡ 0 → (n == 0) ≡ true
-zero-true n h = grind (arith, nat_tests)
-
 reads_wire : (shape : NetShape) (r p j : ℕ) → Contains (feed_of shape r) (From p j) → reads shape r p ≡ true
 reads_wire shape r p j (k, within, is) = list_any_at (is_from p) (feed_of shape r) k (From p j) within
     (rw is (let same : (p == p) ≡ true = grind (arith, nat_tests) in same))
@@ -56,14 +49,14 @@ pub record HasAll (shape : NetShape) (points : List Point) (p : ℕ) : Type 0 wh
       → (point_of points p).ran < (point_of points r).taken + shape.capacity
 
 some-left : (m n : ℕ) → (m - n == 0) ≡ false → n < m
-some-left m n h = let other : m - n ≡ 0 → ⊥ = (λ e. false≢true (sym h ∙ zero-true (m - n) e)) in omega (arith, other)
+some-left m n h = let other : m - n ≡ 0 → ⊥ = (λ e. false≢true (sym h ∙ eq-eqb (m - n) 0 e)) in omega (arith, other)
 
 module _ (shape : NetShape) (points : List Point) (p : ℕ) where
   has_all-from : (lacks_input shape points p || (lacks_row shape points p || lacks_place shape points p)) ≡ false
       → HasAll shape points p
   has_all-from none =
-      let (input, others) = neither (lacks_input shape points p) _ none in
-      let (row, place) = neither (lacks_row shape points p) (lacks_place shape points p) others in
+      let (input, others) = or_parts (lacks_input shape points p) _ none in
+      let (row, place) = or_parts (lacks_row shape points p) (lacks_place shape points p) others in
       record {
         input = nat_le-false shape.samples (point_of points p).taken input;
         rows = λ q j wire. some-left _ _ (none_passes (is_dry points p) (feed_of shape p) (From q j) row wire);
@@ -79,4 +72,4 @@ module _ (shape : NetShape) (points : List Point) (p : ℕ) where
   pub has_all : lacks shape points p ≡ false → (point_of points p).cycle ≡ 0 → HasAll shape points p
   unfolding lacks
   has_all none first =
-      has_all-from (not_second ((point_of points p).cycle == 0) _ none (zero-true (point_of points p).cycle first))
+      has_all-from (not_second ((point_of points p).cycle == 0) _ none (eq-eqb (point_of points p).cycle 0 first))

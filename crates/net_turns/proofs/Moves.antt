@@ -3,7 +3,7 @@ use Rattle.std.proofs.Common.{◌≡◌, ℕ, zero, suc, ◌+◌, ◌<◌, ◌�
 use Rattle.std.proofs.Common.{List}
 use Rattle.std.proofs.Common.{[], ◌∷◌, length, get_or, refl, inl, inr, arith, sym, ◌∙◌, subst}
 use Rattle.std.specs.List.{All, Contains}
-use Rattle.std.proofs.lemmas.Bool.{cases_Bool, cases_lt, false≢true}
+use Rattle.std.proofs.lemmas.Bool.{cases_Bool, cases_lt, false≢true, and_right, ne_eqb}
 use Rattle.std.proofs.lemmas.Bool.Decides.{nat_tests}
 use Rattle.std.proofs.lemmas.List.{get_or_default}
 use Rattle.std.proofs.lemmas.List.Elements.{All-contains, All-contains_itself}
@@ -92,15 +92,8 @@ first_least f (suc (suc n)) h =
 neither : (a b c : Bool) → a ≡ false → b ≡ false → c ≡ false → (a || (b || c)) ≡ false
 neither a b c ha hb hc = rw (ha, hb, hc) refl
 
-and_false : (a b : Bool) → b ≡ false → (a && b) ≡ false
-and_false true b h = h
-and_false false b h = refl
-
 not_le : (m n : ℕ) → n < m → nat_le m n ≡ false
 not_le m n h = grind (arith, nat_tests)
-
-not_zero : (n : ℕ) → 0 < n → (n == 0) ≡ false
-not_zero n h = grind (arith, nat_tests)
 
 module _ (shape : NetShape) (sound : IsShape shape) (points : List Point) (marking : IsMarking shape points) (p : ℕ)
     (is : IsFirstLeast (λ r. (point_of points r).ran) (length shape.feeds) p)
@@ -119,12 +112,17 @@ module _ (shape : NetShape) (sound : IsShape shape) (points : List Point) (marki
       → is_dry points p wire ≡ false
   not_dry (Input j) there at_first = refl
   not_dry (From q j) there at_first =
-      not_zero (queued points q p)
-      (omega (arith, is.first q (sound.wires p q j is.within there), (marking.each p is.within).between at_first))
+      ne_eqb (queued points q p) 0
+      (λ none. omega (
+        arith,
+        none,
+        is.first q (sound.wires p q j is.within there),
+        (marking.each p is.within).between at_first,
+      ))
 
   not_full : (r : ℕ) → r < length shape.feeds → (reads shape r p && is_full shape points p r) ≡ false
   not_full r within =
-      and_false (reads shape r p) (is_full shape points p r)
+      and_right (reads shape r p) (is_full shape points p r)
       (not_le shape.capacity (queued points p r) (omega (arith, is.least r within, ran-le r within, sound.capacity)))
 
   all_feed : (point_of points p).cycle ≡ 0 → All (λ wire. is_dry points p wire ≡ false) (feed_of shape p)
@@ -153,7 +151,7 @@ module _ (shape : NetShape) (sound : IsShape shape) (points : List Point) (marki
         | inl later ↦
             let other : ((point_of points p).cycle == 0) ≡ false = grind (arith, nat_tests) in
             rw other refl
-        | inr first ↦ and_false ((point_of points p).cycle == 0) _ (nothing (omega arith))
+        | inr first ↦ and_right ((point_of points p).cycle == 0) _ (nothing (omega arith))
       ]
 
 -- a processor that has not run all samples

@@ -11,9 +11,9 @@ alone : (b : Bool) → (b || false) ≡ (false || b)
 alone true = refl
 alone false = refl
 
-assoc : (a b c : Bool) → (a || (b || c)) ≡ ((a || b) || c)
-assoc true b c = refl
-assoc false b c = refl
+pub or_assoc : (a b c : Bool) → (a || (b || c)) ≡ ((a || b) || c)
+or_assoc true b c = refl
+or_assoc false b c = refl
 
 pub some_runs-push : (shape : NetShape) (points : List Point) (ps : List ℕ) (p : ℕ)
     → some_runs shape points (ps ++ p ∷ [])
@@ -21,4 +21,4 @@ pub some_runs-push : (shape : NetShape) (points : List Point) (ps : List ℕ) (p
 some_runs-push shape points [] p = alone (not (lacks shape points p))
 some_runs-push shape points (q ∷ ps) p =
     ap (λ (b : Bool). not (lacks shape points q) || b) (some_runs-push shape (after_turn shape points q) ps p)
-    ∙ assoc (not (lacks shape points q)) (some_runs shape (after_turn shape points q) ps) _
+    ∙ or_assoc (not (lacks shape points q)) (some_runs shape (after_turn shape points q) ps) _
