@@ -1,11 +1,11 @@
 -- What is known of a value that its key may have.
-use Rattle.std.proofs.Common.{◌≡◌, ℕ, zero, suc, ◌+◌, ◌≤◌, ◌<◌, Bool, true, false, ◌&&◌, nat_le, List, [], ◌∷◌, length}
+use Rattle.std.proofs.Common.{◌≡◌, ℕ, zero, suc, ◌+◌, ◌≤◌, ◌<◌, Bool, true, false, nat_le, List, [], ◌∷◌, length}
 use Rattle.std.proofs.Common.{get_or}
 use Rattle.std.proofs.Common.{pos, negsuc, Option, Some, None, Result, Ok, Err, if◌then◌else◌, refl, ap, arith, subst}
 use Rattle.std.proofs.Common.{sym}
 use Rattle.std.specs.Prelude.{MatchOption}
 use Rattle.std.specs.List.{All}
-use Rattle.std.proofs.lemmas.Bool.{cases_Bool}
+use Rattle.std.proofs.lemmas.Bool.{cases_Bool, and_parts}
 use Rattle.std.proofs.lemmas.Bool.Decides.{nat_tests}
 use Rattle.toml.specs.Data.{Data, Items, no_items, item, Members, string, integer, float, boolean, datetime, array}
 use Rattle.toml.specs.Data.{table}
@@ -15,13 +15,9 @@ use Rattle.toml_rows.specs.declared.misfit.Misfit.TheVariants.{WrongKind, Range}
 use Rattle.toml_rows.specs.Rows.{Row, IsValue}
 use Rattle.toml_rows.specs.Values.{Judge, is_within, whole, join, entries, array_of, counted, array_within}
 
-both : (a b : Bool) → (a && b) ≡ true → (a ≡ true) × (b ≡ true)
-both true b h = (refl, h)
-both false b h = absurd (cc)
-
 pub within_is : (least most n : ℕ) → is_within least most n ≡ true → (least ≤ n) × (n ≤ most)
 within_is least most n h =
-    let (low, high) = both (nat_le least n) (nat_le n most) h in
+    let (low, high) = and_parts (nat_le least n) (nat_le n most) h in
     (grind (arith, nat_tests), grind (arith, nat_tests))
 
 if_ok : {A : Type 0} (b : Bool) (x y : A) (e : Misfit)
