@@ -6,7 +6,7 @@ use Rattle.std.proofs.Common.{subst, inl, inr}
 use Rattle.std.proofs.Common.{arith, IsUtf8, append_assoc}
 use Rattle.std.specs.Prelude.{IfOk, IfErr, OnOk}
 use Rattle.std.specs.Str.{is_utf8}
-use Rattle.std.proofs.lemmas.Bool.{cases_Bool, cases_lt}
+use Rattle.std.proofs.lemmas.Bool.{cases_Bool, cases_lt, le-ltb}
 use Rattle.std.proofs.lemmas.Bool.Decides.{nat_tests}
 use Rattle.std.proofs.lemmas.List.{length_push, append-nil}
 use Rattle.std.proofs.lemmas.Str.{IsUtf8-from_is_utf8, is_utf8-from_IsUtf8}
@@ -108,9 +108,6 @@ net_described t net h =
 abbrev document : List ℕ → Option Members
 document bytes = if is_utf8 bytes then parse_document bytes else None
 
-pub not_long : (n : ℕ) → n ≤ 2 ^ 20 → nat_lt (2 ^ 20) n ≡ false
-not_long n h = grind (arith, nat_tests)
-
 document-reads : (bytes : List ℕ) (t : Members) → IsUtf8 bytes → parse_document bytes ≡ Some t → document bytes ≡ Some t
 document-reads bytes t u h = rw (is_utf8-from_IsUtf8 bytes u) h
 
@@ -128,14 +125,14 @@ pub net_of-reads : (bytes : List ℕ) (t : Members) (r : Result NetFile NetFault
     → Gives fault.Memory r (net_in t)
     → Gives fault.Memory r (net_of bytes)
 unfolding net_of
-net_of-reads bytes t r small u h gives = rw (not_long (length bytes) small, document-reads bytes t u h) gives
+net_of-reads bytes t r small u h gives = rw (le-ltb (2 ^ 20) (length bytes) small, document-reads bytes t u h) gives
 
 pub net_of-refused : (bytes : List ℕ)
     → length bytes ≤ 2 ^ 20
     → (IsUtf8 bytes → parse_document bytes ≡ None)
     → net_of bytes ≡ Err fault.NotToml
 unfolding net_of
-net_of-refused bytes small h = rw (not_long (length bytes) small, document-refused bytes h) refl
+net_of-refused bytes small h = rw (le-ltb (2 ^ 20) (length bytes) small, document-refused bytes h) refl
 
 module _ (bytes : List ℕ) (net : NetFile) where
   described : net_of bytes ≡ Ok net → IsNetOf bytes net

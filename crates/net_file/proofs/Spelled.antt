@@ -7,13 +7,14 @@ use Rattle.std.specs.Prelude.{codes, find, Contains}
 use Rattle.std.specs.Fmt.{decimal, digits}
 use Rattle.std.specs.List.{range_with_len}
 use Rattle.std.specs.Str.{bytes_eq}
-use Rattle.std.proofs.lemmas.Bool.{cases_Bool, false≢true}
+use Rattle.std.proofs.lemmas.Bool.{cases_Bool, false≢true, and_parts, and_right, eqb-true, ne_eqb}
 use Rattle.std.proofs.lemmas.Bool.Decides.{nat_tests}
 use Rattle.std.proofs.lemmas.Fmt.{decimal_digit}
 use Rattle.std.proofs.lemmas.List.Elements.{Contains-append_left, Contains-append_right, Contains-append_cases}
 use Rattle.std.proofs.lemmas.List.FromFn.{get_or-map-range_with_len, length-map-range_with_len}
 use Rattle.std.proofs.lemmas.Slice.Eq.{bytes_eq-Decides}
 use Rattle.toml_rows.specs.Values.{is_within}
+use Rattle.toml_rows.proofs.Judged.{within_is}
 use Rattle.net_core.specs.Allowed.{most_words}
 use Rattle.net_core.specs.declared.types.Wire.{Wire}
 use Rattle.net_core.specs.declared.types.Wire.TheVariants.{Input, From}
@@ -41,28 +42,11 @@ decimal_teen k h =
     ∙ ap (λ (l : List (List ℕ)). get_or l k []) teens
     ∙ get_or-map-range_with_len (λ i. 49 ∷ (48 + i) ∷ []) 0 6 k k [] h (omega arith)
 
-both : (a b : Bool) → (a && b) ≡ true → (a ≡ true) × (b ≡ true)
-both true b h = (refl, h)
-both false b h = absurd (cc)
-
-within_is : (least most n : ℕ) → is_within least most n ≡ true → (least ≤ n) × (n ≤ most)
-within_is least most n h = let (low, high) = both (nat_le least n) (nat_le n most) h in
-    (grind (arith, nat_tests), grind (arith, nat_tests))
-
 is_there : (least most n : ℕ) → least ≤ n → n ≤ most → is_within least most n ≡ true
 is_there least most n low high =
     let a : nat_le least n ≡ true = grind (arith, nat_tests) in
     let b : nat_le n most ≡ true = grind (arith, nat_tests) in
     rw (a, b) refl
-
-same_is : (m n : ℕ) → (m == n) ≡ true → m ≡ n
-same_is m n h = grind (arith, nat_tests)
-
-is_same : (m n : ℕ) → m ≡ n → (m == n) ≡ true
-is_same m n h = grind (arith, nat_tests)
-
-not_same : (m n : ℕ) → (m ≡ n → ⊥) → (m == n) ≡ false
-not_same m n h = grind (arith, nat_tests)
 
 -- a test that gives a number gives it where it passes
 if_some : {A : Type 0} (b : Bool) (x y : A) → (if b then Some x else None) ≡ Some y → (b ≡ true) × (x ≡ y)
@@ -89,17 +73,17 @@ number_of (a ∷ []) j h =
     (rw is (sym (decimal_digit j small)), omega arith)
 number_of (a ∷ b ∷ []) j h =
     let (test, same) = if_some (a == 49 && is_within 48 53 b) (b - 38) j h in
-    let (first, second) = both (a == 49) (is_within 48 53 b) test in
+    let (first, second) = and_parts (a == 49) (is_within 48 53 b) test in
     let (low, high) = within_is 48 53 b second in
     let is_b : b ≡ 48 + (b - 48) = omega arith in
     let is_j : j ≡ 10 + (b - 48) = omega arith in (
-      rw (same_is a 49 first, is_j)
+      rw (eqb-true a 49 first, is_j)
           (ap (λ (n : ℕ). 49 ∷ n ∷ []) is_b ∙ sym (decimal_teen (b - 48) (omega arith))),
       omega arith,
     )
 number_of (a ∷ b ∷ c ∷ text) j h =
-    let not_one : (length (a ∷ b ∷ c ∷ text) == 1) ≡ false = not_same _ 1 (λ e. omega (arith, e)) in
-    let not_two : (length (a ∷ b ∷ c ∷ text) == 2) ≡ false = not_same _ 2 (λ e. omega (arith, e)) in
+    let not_one : (length (a ∷ b ∷ c ∷ text) == 1) ≡ false = ne_eqb _ 1 (λ e. omega (arith, e)) in
+    let not_two : (length (a ∷ b ∷ c ∷ text) == 2) ≡ false = ne_eqb _ 2 (λ e. omega (arith, e)) in
     let none : None ≡ Some j = rw (not_one, not_two) at h in
     absurd (cc)
 
@@ -127,17 +111,17 @@ input_is [] h = absurd (cc)
 input_is (a ∷ []) h = absurd (cc)
 input_is (a ∷ b ∷ []) h = absurd (cc)
 input_is (a ∷ b ∷ c ∷ text) h =
-    let (long, tests) = both (nat_le 3 (length (a ∷ b ∷ c ∷ text))) (a == 105 && (b == 110 && c == 46)) h in
-    let (first, others) = both (a == 105) (b == 110 && c == 46) tests in
-    let (second, third) = both (b == 110) (c == 46) others in
-    rw (same_is a 105 first, same_is b 110 second, same_is c 46 third) refl
+    let (long, tests) = and_parts (nat_le 3 (length (a ∷ b ∷ c ∷ text))) (a == 105 && (b == 110 && c == 46)) h in
+    let (first, others) = and_parts (a == 105) (b == 110 && c == 46) tests in
+    let (second, third) = and_parts (b == 110) (c == 46) others in
+    rw (eqb-true a 105 first, eqb-true b 110 second, eqb-true c 46 third) refl
 
 from_is : (text : List ℕ) → is_from text ≡ true → text ≡ get_or text 0 0 ∷ 46 ∷ drop 2 text
 from_is [] h = absurd (cc)
 from_is (a ∷ []) h = absurd (cc)
 from_is (a ∷ b ∷ text) h =
-    let (long, second) = both (nat_le 2 (length (a ∷ b ∷ text))) (b == 46) h in
-    rw (same_is b 46 second) refl
+    let (long, second) = and_parts (nat_le 2 (length (a ∷ b ∷ text))) (b == 46) h in
+    rw (eqb-true b 46 second) refl
 
 -- a wire that is read is written so
 pub spelling_of : (text : List ℕ) (wire : Wire) → spelled text ≡ Some wire → (text ≡ spelling wire) × IsShort wire
@@ -164,10 +148,6 @@ spelling_of text wire h =
             | inr none ↦ (let read : None ≡ Some wire = rw (other, none) at h in absurd (cc))
           ]
     ]
-
-second_false : (a b : Bool) → b ≡ false → (a && b) ≡ false
-second_false true b h = h
-second_false false b h = refl
 
 spelled_input : (text : List ℕ)
     → is_input text ≡ true
@@ -203,10 +183,10 @@ spelled_of (Input j) h =
     ∙ spelled_input (105 ∷ 110 ∷ 46 ∷ decimal j) (rw (long_three 105 110 46 (decimal j)) refl)
     ∙ ap (option_map Input) (number-decimal j h)
 spelled_of (From q j) h =
-    let other : (48 + q == 105) ≡ false = not_same (48 + q) 105 (λ e. omega (arith, h.0, e)) in
+    let other : (48 + q == 105) ≡ false = ne_eqb (48 + q) 105 (λ e. omega (arith, h.0, e)) in
     ap spelled (from_text q j h.0)
     ∙ spelled_from ((48 + q) ∷ 46 ∷ decimal j)
-    (second_false (nat_le 3 (length ((48 + q) ∷ 46 ∷ decimal j)))
+    (and_right (nat_le 3 (length ((48 + q) ∷ 46 ∷ decimal j)))
     (48 + q == 105 && (46 == 110 && get_or ((48 + q) ∷ 46 ∷ decimal j) 2 0 == 46)) (rw other refl))
     (rw (long_two (48 + q) 46 (decimal j)) refl)
     ∙ ap₂ from (digit_at q h.0) (number-decimal j h.1)
