@@ -18,7 +18,7 @@ FILES = ("fir.sil", "two words.sil", "small.toml", "fir.mic", "rows.txt", "click
 EVERYTHING = {*FILES, "folder"}
 # Words, the last of which is being typed, and what is offered for it.
 CASES = [
-    (["co"], {"compile", "cosimulate", "cost"}),
+    (["co"], {"compare", "compile", "cosimulate", "cost"}),
     (["--v"], {"--version"}),
     (["help", "sch"], {"schedule"}),
     (["help", "draw", ""], set()),

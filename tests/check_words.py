@@ -124,7 +124,7 @@ def placed_faults(room: Room) -> Iterator[str]:
 
 def near_faults(room: Room) -> Iterator[str]:
     """A word that is none is refused in a line, which has those that are near it."""
-    for word, near in (("drwa", "draw"), ("scheduel", "schedule"), ("comp", "compile"), ("assembler", "assemble"),
+    for word, near in (("drwa", "draw"), ("scheduel", "schedule"), ("compil", "compile"), ("assembler", "assemble"),
                        ("ex", "explain, explore"), ("evla", "eval"), ("xyzzy", ""), ("--frob", ""),
                        ("draw explain", ""), ("design draw", ""), ("../tools/draw", ""), ("dra\\\\q\\n", "")):
         said = f"; near it: {near}" if near else ""

@@ -6,12 +6,13 @@ usage: tests/same/check_same.py [--silc PROGRAM] [--changes N]
 The microcode that `silc compile` makes of each example on each of its datapaths passes, in both versions of the file,
 and is for that datapath; on datapaths with one number changed it is refused in a line that says which. The filter by
 hand of docs/VALIDATION.md passes, and with its mistake is refused in the words of the page; the plan that `tools/plan`
-finds for it becomes microcode that passes, where `silc_place` is built.
-Of each of them N files with one bit changed are tried, 20 where no number is given: one that is still some microcode is
-refused in a line that says `not shown`, or puts the rows of the example on its samples. Microcode of another example is
-refused, and so is a source or a file that is none, each in its line. Of the listings that are written by hand, each
-beside its source, those of `ways` pass, and those of `refused`, which put other rows, do not. Where `silc` or `silc_same` is not built, it is
-skipped with 77. The last line is 'N passed, M failed'.
+finds for it becomes microcode that passes, where `silc_place` is built. Of the listings that are written by hand, each
+beside its source, those of `ways` pass, and those of `refused`, which put other rows, do not.
+
+Of the microcode of each example N files with one bit changed are tried, 20 where no number is given: one that is still
+some microcode is refused in a line that says `not shown`, or puts the rows of the example on its samples. Microcode of
+another example is refused, and so is a source or a file that is none, each in its line. Where `silc` or `silc_same` is
+not built, it is skipped with 77. The last line is 'N passed, M failed'.
 """
 import os
 import random
