@@ -1,7 +1,7 @@
 """Runs `silc`, and where it refuses says more: the place, what is wrong there, what would be right, and where the rule
 is.
 
-usage: tools/explain [OPTION ..] WORDS..    runs `silc WORDS..`, and explains its refusal on standard error
+usage: tools/explain [OPTION ..] WORDS..    runs `silc WORDS..`, of `place` too, and explains its refusal on standard error
        tools/explain --place LINE [DP]      tells in a line what the place of a conflict is, by the LINE that silc has
                                             said
        tools/explain --page                 prints docs/ERRORS.md, which has every refusal with an example and its cure
@@ -37,11 +37,12 @@ OPTIONS = {DATAPATH: 1, LIBRARY: 1, EDITS: 0, JSON: 0}
 
 
 def run(words: list[str], is_shown: bool = True) -> tuple[int, str]:
-    """Runs `silc` on the words. Gives its exit status and what it wrote to standard error, which goes through where it
+    """Runs the program of a command. Gives its exit status and what it wrote to standard error, which goes through where it
     is shown."""
     read, write = os.pipe()
-    silc = SILC.place()
-    child = os.posix_spawn(silc, [silc, *words], os.environ, file_actions=[
+    from silc.explaining.outputs import called
+    line = called(words)
+    child = os.posix_spawn(line[0], line, os.environ, file_actions=[
         (os.POSIX_SPAWN_DUP2, write, 2), (os.POSIX_SPAWN_CLOSE, read)])
     os.close(write)
     said = b""
@@ -124,7 +125,9 @@ def main(words: list[str]) -> int:
     if fault:
         print(f"explain: {fault}", file=sys.stderr)
         return BAD_WORDS
-    if not is_program(SILC.place()):
-        print(f"explain: there is no program {SILC.place()}; `./silc build` builds it", file=sys.stderr)
+    from silc.explaining.outputs import program_of
+    program = program_of(words)
+    if not is_program(program):
+        print(f"explain: there is no program {program}; `./silc build` builds it", file=sys.stderr)
         return UNBUILT
     return explained(options, words)
