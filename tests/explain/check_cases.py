@@ -95,7 +95,8 @@ def ran(program: Path, words: Sequence[str], room: Path, lead: Sequence[str] = (
     return subprocess.run([*lead, program, *map(named, words)], cwd=room, stdin=subprocess.DEVNULL, capture_output=True,
                           text=True,
                           timeout=SECONDS,
-                          env=os.environ | {"SILC": str(SILC), "SILC_SHOW": str(show), "SILC_PLACE": str(PLACE), "LANG": "C.UTF-8"})
+                          env=os.environ | {"SILC": str(SILC), "SILC_SHOW": str(show), "SILC_PLACE": str(PLACE),
+                                            "LANG": "C.UTF-8"})
 
 
 def told_by_program(words: Sequence[str], room: Path, lead: Sequence[str] = ()) -> subprocess.CompletedProcess[str]:

@@ -1,7 +1,7 @@
 """Runs `silc`, and where it refuses says more: the place, what is wrong there, what would be right, and where the rule
 is.
 
-usage: tools/explain [OPTION ..] WORDS..    runs `silc WORDS..`, of `place` too, and explains its refusal on standard error
+usage: tools/explain [OPTION ..] WORDS..    runs `silc WORDS..`, and explains its refusal on standard error
        tools/explain --place LINE [DP]      tells in a line what the place of a conflict is, by the LINE that silc has
                                             said
        tools/explain --page                 prints docs/ERRORS.md, which has every refusal with an example and its cure
@@ -37,8 +37,8 @@ OPTIONS = {DATAPATH: 1, LIBRARY: 1, EDITS: 0, JSON: 0}
 
 
 def run(words: list[str], is_shown: bool = True) -> tuple[int, str]:
-    """Runs the program of a command. Gives its exit status and what it wrote to standard error, which goes through where it
-    is shown."""
+    """Runs the program of a command. Gives its exit status and what it wrote to standard error, which goes through
+    where it is shown."""
     read, write = os.pipe()
     from silc.explaining.outputs import called
     line = called(words)

@@ -449,8 +449,8 @@ class Placed:
         unit, port = map(int, self.case.values["port"].split("."))
         files = self.hardware.units[unit]["files"]
         name = self.hardware.port(unit, port)
-        report = Report(f"{self.what(self.number)} is read at `{name}`, whose file of {counted(files[port], 'register')} "
-                        f"has none left for it", f"give `{name}` more registers, or let fewer words wait there: issue "
+        report = Report(f"{self.what(self.number)} is read at `{name}`, whose file of "
+                        f"{counted(files[port], 'register')} has none left for it", f"give `{name}` more registers, or let fewer words wait there: issue "
                         f"nodes later, or their readers earlier.", PLACES)
         longer = ([*files[:port], size, *files[port + 1:]]
                   for size in range(files[port] + 1, lacks.MOST_REGISTERS + 1))
