@@ -450,8 +450,9 @@ class Placed:
         files = self.hardware.units[unit]["files"]
         name = self.hardware.port(unit, port)
         report = Report(f"{self.what(self.number)} is read at `{name}`, whose file of "
-                        f"{counted(files[port], 'register')} has none left for it", f"give `{name}` more registers, or let fewer words wait there: issue "
-                        f"nodes later, or their readers earlier.", PLACES)
+                        f"{counted(files[port], 'register')} has none left for it",
+                        f"give `{name}` more registers, or let fewer words wait there: issue nodes later, or their "
+                        f"readers earlier.", PLACES)
         longer = ([*files[:port], size, *files[port + 1:]]
                   for size in range(files[port] + 1, lacks.MOST_REGISTERS + 1))
         return self.with_change(report, (Key("unit", unit, "files", sizes) for sizes in longer))
