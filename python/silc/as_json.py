@@ -7,7 +7,7 @@ import sys
 from typing import Any
 
 from silc.explaining.command import Case
-from silc.explaining.outputs import guarded, named
+from silc.explaining.outputs import called, guarded, named
 from silc.linking.words import Given
 from silc.micro_file import image_of
 from silc.microcode import image_as_json
@@ -27,7 +27,7 @@ def told(command: Given, silc: str, datapath: str | None = None) -> int:
     if refused:
         (status, said), out = refused, ""
     else:
-        done = subprocess.run([silc, *command.placed], stdout=subprocess.PIPE, stderr=subprocess.PIPE, text=True,
+        done = subprocess.run(called(command.placed), stdout=subprocess.PIPE, stderr=subprocess.PIPE, text=True,
                               errors="replace")
         status, said, out = done.returncode, done.stderr, done.stdout
         sys.stderr.write(command.said(said))

@@ -14,8 +14,8 @@ commands of silc that run first; `without_show`, where it is tried as if `silc_s
 case of a refusal that docs/ERRORS.md shows whole. ROOM in the text stands for the folder in which the command runs, and
 a name in the words with `\\x` in it for one with such bytes.
 
-Without a name it compares docs/ERRORS.md too. It runs the built `silc` and `silc_show`, or those that `SILC` and
-`SILC_SHOW` name.
+Without a name it compares docs/ERRORS.md too. It runs the built `silc`, `silc_show` and `silc_place`, or those that
+`SILC`, `SILC_SHOW` and `SILC_PLACE` name. The cases of `place` are left out where `silc_place` is not built.
 """
 import json
 import os
@@ -31,6 +31,8 @@ from pathlib import Path
 from typing import Any, TypeAlias
 
 from silc import programs
+from silc.explaining.outputs import OF_PLACE
+from silc.explaining.refusals import SAID_BY
 from silc.made_files import put_whole
 
 # A case as its file has it.
@@ -42,6 +44,7 @@ CASES = HERE / "cases"
 PAGE = ROOT / "docs" / "ERRORS.md"
 SILC = Path(programs.SILC.place())
 SHOW = Path(programs.SHOW.place())
+PLACE = Path(programs.PLACE.place())
 EXPLAIN = ROOT / "tools" / "explain"
 SAID, EXPECTED = "case.toml", "stderr.txt"
 KEYS = {"words", "code", "cure", "then", "options", "large", "links", "folders", "closed", "kept", "before",
@@ -92,7 +95,13 @@ def ran(program: Path, words: Sequence[str], room: Path, lead: Sequence[str] = (
     return subprocess.run([*lead, program, *map(named, words)], cwd=room, stdin=subprocess.DEVNULL, capture_output=True,
                           text=True,
                           timeout=SECONDS,
-                          env=os.environ | {"SILC": str(SILC), "SILC_SHOW": str(show), "LANG": "C.UTF-8"})
+                          env=os.environ | {"SILC": str(SILC), "SILC_SHOW": str(show), "SILC_PLACE": str(PLACE),
+                                            "LANG": "C.UTF-8"})
+
+
+def told_by_program(words: Sequence[str], room: Path, lead: Sequence[str] = ()) -> subprocess.CompletedProcess[str]:
+    """What the program of a command says."""
+    return ran(PLACE, words[1:], room, lead) if words[:1] == [OF_PLACE] else ran(SILC, words, room, lead)
 
 
 def lead_of(said: Said) -> list[str]:
@@ -136,6 +145,8 @@ def judged(case: Path, writes: bool) -> list[str]:
     unknown = said.keys() - KEYS
     if unknown or not {"words", "code", "cure"} <= said.keys():
         raise BadCase(f"unknown keys {sorted(unknown)}, or words, code or cure are missing")
+    if said["words"][0] == OF_PLACE and not os.access(PLACE, os.X_OK):
+        raise Skipped("it needs silc_place, which `tools/build silc_place` builds")
     with tempfile.TemporaryDirectory(prefix="silc-explain-") as folder:
         room = Path(folder)
         prepare(case, said, room)
@@ -161,8 +172,8 @@ def edits_compared(case: Path, said: Said, edits: Sequence[re.Match[str]], told:
         for name in {edit[1] for edit in edits}:
             (room / name).write_bytes(edited((room / name).read_bytes().decode(),
                                              [edit for edit in edits if edit[1] == name]).encode())
-        done = ran(SILC, said["words"], room)
-    first = next(line for line in told if line.startswith("silc: ")).strip()
+        done = told_by_program(said["words"], room)
+    first = next(line for line in told if line.startswith(SAID_BY)).strip()
     if done.returncode and done.stderr.strip() in (first, ""):
         return [f"after the edits {[edit[0] for edit in edits]}: {done.stderr.strip() or done.returncode}"]
     return []
@@ -190,7 +201,7 @@ def compared(case: Path, said: Said, done: subprocess.CompletedProcess[str]) -> 
 def cure_compared(said: Said, room: Path, lead: Sequence[str]) -> list[str]:
     """How the command ends after the cure, where that is not what the case says."""
     words = cured(said, room)
-    done = ran(SILC, words, room, lead)
+    done = told_by_program(words, room, lead)
     expected = said.get("then", "")
     if done.stderr.strip() != expected or (done.returncode == 0) != (not expected):
         return [f"after the cure: expected {expected or 'done'}, got {done.stderr.strip() or done.returncode}"]

@@ -37,11 +37,12 @@ OPTIONS = {DATAPATH: 1, LIBRARY: 1, EDITS: 0, JSON: 0}
 
 
 def run(words: list[str], is_shown: bool = True) -> tuple[int, str]:
-    """Runs `silc` on the words. Gives its exit status and what it wrote to standard error, which goes through where it
-    is shown."""
+    """Runs the program of a command. Gives its exit status and what it wrote to standard error, which goes through
+    where it is shown."""
     read, write = os.pipe()
-    silc = SILC.place()
-    child = os.posix_spawn(silc, [silc, *words], os.environ, file_actions=[
+    from silc.explaining.outputs import called
+    line = called(words)
+    child = os.posix_spawn(line[0], line, os.environ, file_actions=[
         (os.POSIX_SPAWN_DUP2, write, 2), (os.POSIX_SPAWN_CLOSE, read)])
     os.close(write)
     said = b""
@@ -124,7 +125,9 @@ def main(words: list[str]) -> int:
     if fault:
         print(f"explain: {fault}", file=sys.stderr)
         return BAD_WORDS
-    if not is_program(SILC.place()):
-        print(f"explain: there is no program {SILC.place()}; `./silc build` builds it", file=sys.stderr)
+    from silc.explaining.outputs import program_of
+    program = program_of(words)
+    if not is_program(program):
+        print(f"explain: there is no program {program}; `./silc build` builds it", file=sys.stderr)
         return UNBUILT
     return explained(options, words)

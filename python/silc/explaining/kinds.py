@@ -2,7 +2,7 @@
 import re
 
 from silc.explaining.command import Case
-from silc.explaining.outputs import COMMANDS
+from silc.explaining.outputs import COMMANDS, FORMS
 from silc.explaining.refusals import COMMANDS_PAGE
 from silc.explaining.report import Report, listed
 
@@ -33,14 +33,14 @@ def other_kind(case: Case, what: str) -> Report | None:
     if found is None or found == what:
         return None
     name, command = case.files[what], case.words[0]
-    order = f"silc {command} {' '.join(COMMANDS[command])}"
+    order = f"silc {command} {' '.join(FORMS[command])}"
     there = [other for other in case.files if other not in (what, "OUT") and looks_like(case.files[other], what)]
     cure = f"write the files in this order: `{order}`."
     if there:
         words = dict(case.files)
         words[what], words[there[0]] = words[there[0]], words[what]
-        cure = f"change their order: `silc {command} {' '.join(words[word] for word in COMMANDS[command])}`."
-    elif found not in COMMANDS[command]:
+        cure = f"change their order: `silc {command} {' '.join(words[word] for word in FORMS[command])}`."
+    elif found not in FORMS[command]:
         takers = [other for other, wanted in COMMANDS.items() if found in wanted]
         cure = f"give {KINDS[what]} there; {KINDS[found]} is for {listed([f'`silc {taker}`' for taker in takers])}."
     return Report(f"{name} looks like {KINDS[found]}, and stands in the place of {KINDS[what]}", cure, COMMANDS_PAGE) \

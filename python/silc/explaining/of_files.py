@@ -12,7 +12,7 @@ from silc.explaining.refusals import COMMANDS_PAGE
 from silc.explaining.report import Report
 from silc.nets import NetFault, net_file_of
 
-INPUTS = ("SRC", "DP", "MIC", "NET", "SAMPLES")
+INPUTS = ("SRC", "DP", "PLAN", "MIC", "NET", "SAMPLES")
 # The number of `/dev/full`, which is the same on every Linux.
 FULL_DEVICE = os.makedev(1, 7)
 

@@ -5,7 +5,7 @@ import re
 from collections.abc import Sequence
 
 from silc.explaining.command import Case
-from silc.explaining.outputs import COMMANDS, INPUTS, named, same_input
+from silc.explaining.outputs import COMMANDS, FORMS, INPUTS, named, same_input
 from silc.explaining.refusals import COMMANDS_PAGE
 from silc.explaining.report import Report, counted, listed
 
@@ -15,7 +15,7 @@ HELP = ("-h", "-?", "/?", "help", "usage", "--usage")
 
 
 def usage(command: str) -> str:
-    return f"silc {command} {' '.join(COMMANDS[command])}"
+    return f"silc {command} {' '.join(FORMS[command])}"
 
 
 def report_of(case: Case) -> Report | None:
@@ -24,7 +24,7 @@ def report_of(case: Case) -> Report | None:
     strange = next((number for number, word in enumerate(words) if not is_utf8(word)), None)
     if strange is not None:
         return no_utf8(words, strange)
-    if command not in COMMANDS:
+    if command not in FORMS:
         near = ["--help"] if command in HELP else difflib.get_close_matches(command.lower(), COMMANDS, 1, 0.5)
         report = Report(f"`{command}` is no command", f"write `{near[0]}`." if near else "write one of these commands.",
                         COMMANDS_PAGE,
@@ -33,7 +33,7 @@ def report_of(case: Case) -> Report | None:
             f"The commands are {listed([f'`{name}`' for name in COMMANDS])}; `silc --help` shows their words.")
     files = named(words)
     if files is None:
-        wanted, found = COMMANDS[command], words[1:]
+        wanted, found = FORMS[command], words[1:]
         return Report(f"`{command}` has {counted(len(wanted), 'word')} after it, and here "
                       f"{counted(len(found), 'is', 'are')}", f"write `{usage(command)}`.", COMMANDS_PAGE, about="silc")
     if command == "demo":

@@ -4,19 +4,34 @@ import sys
 from collections.abc import Sequence
 from contextlib import suppress
 
+from silc.programs import PLACE, SILC
+
 COMMANDS = {"compile": ("SRC", "DP", "OUT"), "schedule": ("SRC", "DP"), "sim": ("MIC", "SAMPLES", "OUT"),
             "eval": ("SRC", "SAMPLES", "OUT"), "run": ("SRC", "DP", "SAMPLES", "OUT"), "list": ("MIC",),
             "demo": ("K", "N"), "stages": ("SRC", "DP", "S"), "pipe": ("SRC", "DP", "S", "SAMPLES", "OUT"),
             "frame": ("SRC", "DP", "M", "DOWN", "UP", "OUT"), "net": ("NET", "SAMPLES", "OUT")}
+# The command of a program of its own, and all that are explained.
+OF_PLACE = "place"
+FORMS = COMMANDS | {OF_PLACE: ("SRC", "DP", "PLAN", "OUT")}
 # The words that name files which are read.
-INPUTS = ("SRC", "DP", "MIC", "NET", "SAMPLES")
+INPUTS = ("SRC", "DP", "PLAN", "MIC", "NET", "SAMPLES")
 BAD_WORDS = 2
 
 
 def named(words: Sequence[str]) -> dict[str, str] | None:
     """The words of a command by what they are, or nothing where the words are no command."""
-    wanted = COMMANDS.get(words[0]) if words else None
+    wanted = FORMS.get(words[0]) if words else None
     return dict(zip(wanted, words[1:])) if wanted and len(wanted) == len(words) - 1 else None
+
+
+def program_of(words: Sequence[str]) -> str:
+    """The program that does a command."""
+    return PLACE.place() if words[:1] == [OF_PLACE] else SILC.place()
+
+
+def called(words: Sequence[str]) -> list[str]:
+    """The words that run the program of a command."""
+    return [program_of(words), *(words[1:] if words[:1] == [OF_PLACE] else words)]
 
 
 def same_input(files: dict[str, str]) -> str | None:

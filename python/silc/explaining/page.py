@@ -18,11 +18,13 @@ numbers of a case.
 
 `tools/explain --page` makes this page, of the table in `python/silc/explaining/refusals.py` and of the cases in \
 `tests/explain/cases`, which have the files of each example and more mistakes. `tests/explain/check_cases.py` runs \
-them all and applies their cures.
+them all and applies their cures. What `silc place` refuses is told by the program `silc_place`.
 """
 TITLES = {1: "Memory", 2: "Words", 3: "Files", 4: "Sources", 5: "Datapath files", 6: "Units", 7: "Cells", 8: "Cycles",
           9: "Registers",
-          10: "Microcode", 11: "Samples", 12: "Conflicts", 14: "Nets", 15: "Frames"}
+          10: "Microcode", 11: "Samples", 12: "Conflicts", 14: "Nets", 15: "Frames", 16: "Plans from elsewhere"}
+# The exit code of silc_place for a plan.
+OF_PLACES = 16
 # A line of a file as it is shown, and the place before what is wrong.
 SHOWN = re.compile(r" *\d* \| ")
 PLACED = r"(?:[\w./\\-]+(?::\d+)*: )?"
@@ -114,6 +116,7 @@ def page() -> str:
             code = refusal.code
             parts.append(f"## {code}: {TITLES[code]}\n")
         cases = by_refusal.get(refusal.text, [])
-        parts.append(f"### `silc: {refusal.text}`\n\n{refusal.means} The rule: {refusal.rule}.\n")
+        by = "silc_place" if refusal.code == OF_PLACES else "silc"
+        parts.append(f"### `{by}: {refusal.text}`\n\n{refusal.means} The rule: {refusal.rule}.\n")
         parts.append(shown(cases[0]) + others(cases[1:]) if cases else f"No example: {UNSHOWN[refusal.text]}.\n")
     return "\n".join(parts)

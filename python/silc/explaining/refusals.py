@@ -51,6 +51,9 @@ MICROCODE = 'docs/MICROCODE.md, "What is refused"'
 CONFLICTS = 'docs/MACHINE.md, "Conflicts"'
 ROWS = 'docs/SAMPLES.md, "What a row is"'
 FRAMES = 'docs/RATES.md, "Limits"'
+PLACES = planning("Plans from elsewhere")
+# What begins the line of a refusal: the program that prints it.
+SAID_BY = ("silc: ", "silc_place: ")
 
 REFUSALS = [
     Refusal(1, "no memory", "The machine has no memory left for this command.", COMMANDS_PAGE),
@@ -157,6 +160,26 @@ REFUSALS = [
             FRAMES),
     Refusal(15, "frame too large", "The program has more than 8192 elements and operations in the samples of a frame.",
             FRAMES),
+    Refusal(16, "plan too long", "A plan has at most 1 MiB.", PLACES),
+    Refusal(16, "plan line L: not node V cycle T unit NAME",
+            "A line that begins with `node` lacks a word, or has another in its place.", PLACES),
+    Refusal(16, "plan line L: no number", "A word that stands for a number is none, or is too great.", PLACES),
+    Refusal(16, "plan line L: unknown unit", "The datapath has no unit of the name.", PLACES),
+    Refusal(16, "plan line L: node twice", "A node has two places.", PLACES),
+    Refusal(16, "no place for node NODE", "A node has no place.", PLACES),
+    Refusal(16, "plan line L: no node NODE", "The program has no such node.", PLACES),
+    Refusal(16, "plan line L: node NODE too wide", "A word has more bits than the datapath's.", PLACES),
+    Refusal(16, "plan line L: wrong unit for node NODE", "A unit does not do the operation of its node.", PLACES),
+    Refusal(16, "plan line L: operand OPERAND of node NODE is there from cycle CYCLE",
+            "A node is issued before a word of the same sample is there that it reads.", PLACES),
+    Refusal(16, "plan line L: period exceeded at node NODE", "A node does not end in the period.", PLACES),
+    Refusal(16, "plan line L: unit busy at node NODE", "A node is issued on a unit that is not free.", PLACES),
+    Refusal(16, "plan line L: file written PORT at node NODE",
+            "Two words come into one register file in a cycle of the period.", PLACES),
+    Refusal(16, "plan line L: no bus to PORT at node NODE",
+            "No bus from the unit of a node to a port that reads it is there and free.", PLACES),
+    Refusal(16, "plan line L: file full PORT at node NODE", "A register file has no register left for a word.",
+            PLACES),
 ]
 # What stands for a table of a datapath file or a net file is two words for a unit, a bus and a processor.
 TABLE = r"(?P<table>top|(?:unit|bus|processor) \d+)"
@@ -164,7 +187,9 @@ TABLE = r"(?P<table>top|(?:unit|bus|processor) \d+)"
 
 def refusal_of(said: str) -> tuple[Refusal, dict[str, str]] | None:
     """The refusal that a line of `silc` is, and the names and numbers in it; None where it is none."""
-    text = said.strip().removeprefix("silc: ")
+    text = said.strip()
+    for program in SAID_BY:
+        text = text.removeprefix(program)
     for refusal in REFUSALS:
         pattern = refusal.pattern().pattern.replace(r"(?P<table>\S+)", TABLE)
         found = re.fullmatch(pattern, text)

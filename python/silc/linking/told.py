@@ -23,7 +23,7 @@ BAD_SOURCE = 4
 # The statuses at which a report is on the source.
 OF_SOURCE = (BAD_SOURCE, 6, 7, 8, 9)
 RULE = 'docs/LIBRARY.md, "Sources with a head"'
-SAID_LINE = re.compile(r"(silc: )line (\d+): (.*)")
+SAID_LINE = re.compile(r"(silc(?:_place)?: )line (\d+): (.*)")
 
 
 @dataclass(frozen=True)
