@@ -14,7 +14,7 @@ from typing import NamedTuple
 from silc.explaining import lacks
 from silc.explaining.changes import TOP, Change, Ends, Key, edits_of, made, told
 from silc.explaining.command import BUILD, SECONDS, Case
-from silc.explaining.hardware import DONE_BY, Hardware, Node, nodes_of, readers_of, words_of
+from silc.explaining.hardware import DONE_BY, Hardware, nodes_of, readers_of, words_of
 from silc.explaining.of_plan import report_of as of_plan
 from silc.explaining.refusals import PLACES, refusal_of
 from silc.explaining.report import Report, counted, listed
