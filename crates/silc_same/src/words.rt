@@ -32,6 +32,22 @@ struct Reading {
     wants: Word,
 }
 
+impl Reading {
+    /// What node `node` reads at a port: the word of node `wants`, `delay` samples ago.
+    fn new(cycle: u16, unit: u8, port: u8, node: u32, wants: u32, delay: u16) -> Reading {
+        Reading {
+            cycle,
+            unit: u32::from(unit),
+            port,
+            node,
+            wants: Word {
+                node: wants,
+                ago: u32::from(delay),
+            },
+        }
+    }
+}
+
 type Put = Result<(), AllocError>;
 
 fn put_cycle(text: &mut Vec<u8>, cycle: u16) -> Put {
@@ -143,17 +159,7 @@ impl Words<'_> {
                 wants,
                 delay,
             } => {
-                let wants = Word {
-                    node: wants,
-                    ago: u32::from(delay),
-                };
-                let reading = Reading {
-                    cycle,
-                    unit: u32::from(unit),
-                    port,
-                    node,
-                    wants,
-                };
+                let reading = Reading::new(cycle, unit, port, node, wants, delay);
                 self.put_other(text, reading, Word { node: has, ago })?;
             }
             Mismatch::UnknownOperand {
@@ -164,17 +170,7 @@ impl Words<'_> {
                 wants,
                 delay,
             } => {
-                let wants = Word {
-                    node: wants,
-                    ago: u32::from(delay),
-                };
-                let reading = Reading {
-                    cycle,
-                    unit: u32::from(unit),
-                    port,
-                    node,
-                    wants,
-                };
+                let reading = Reading::new(cycle, unit, port, node, wants, delay);
                 self.put_unknown(text, reading)?;
             }
             Mismatch::OtherOperation { cycle, unit, node } => {
