@@ -6,7 +6,7 @@ use Rattle.std.specs.List.{list_all}
 use Rattle.std.proofs.Math.Nat.{mul-le-mul_right, mul_comm, mul_assoc, pow-suc}
 use Rattle.std.proofs.lemmas.Bool.{leb-true}
 use Rattle.std.proofs.lemmas.List.{length-append}
-use Rattle.std.proofs.lemmas.List.Elements.{All-cons}
+use Rattle.std.proofs.lemmas.List.Elements.{All-cons, All-nil}
 use Rattle.lists.proofs.Bools.{both_true}
 use Rattle.lists.proofs.Places.{some_once}
 use Rattle.silage_lex.specs.Bytes.{is_digit}
@@ -113,12 +113,6 @@ spaced_short bytes from [] to h i d p e = absurd (cc)
 spaced_short bytes from (t ∷ ts) to (gap, is, rest) zero d p e = kind_short t.kind _ is.span.text d p e
 spaced_short bytes from (t ∷ ts) to (gap, is, rest) (suc i) d p e = spaced_short bytes t.to ts to rest i d p e
 
-no_thing : {A : Type 0} (P : A → Type 0) → All P []
-no_thing P k d below = absurd (omega arith)
-
-one_thing : {A : Type 0} (P : A → Type 0) (x : A) → P x → All P (x ∷ [])
-one_thing P x h = All-cons P x [] h (no_thing P)
-
 module _ (ts : List Token) (short : AreShortTokens ts) where
   signed_short : (i : ℕ) (l : Lit) (j : ℕ) → IsSigned ts i l j → IsShort l
   signed_short i l j (g.positive {d = d} {p = p} a) = short i d p a
@@ -163,7 +157,8 @@ module _ (ts : List Token) (short : AreShortTokens ts) where
   expr_short r i e j (g.last_arm o a c) h = (tt, expr_short _ _ _ _ a tt)
 
   args_short : (i : ℕ) (es : List Expr) (rs : List Role) (j : ℕ) → IsArguments ts i es rs j → All HasShortNumbers es
-  args_short i es rs j (g.last_arg a) = one_thing HasShortNumbers _ (expr_short _ _ _ _ a tt)
+  args_short i es rs j (g.last_arg a) =
+      All-cons HasShortNumbers _ [] (expr_short _ _ _ _ a tt) (All-nil HasShortNumbers)
   args_short i es rs j (g.more_args a c b) =
       All-cons HasShortNumbers _ _ (expr_short _ _ _ _ a tt) (args_short _ _ _ _ b)
 
@@ -184,11 +179,11 @@ module _ (ts : List Token) (short : AreShortTokens ts) where
     items_short i xs rs j (g.one_item a b) = (item_short _ _ _ _ a, items_short _ _ _ _ b)
 
   list_short : (i : ℕ) (ls : List Lit) (j : ℕ) → IsList ts Lit (IsSigned ts) i ls j → All IsShort ls
-  list_short i ls j (g.last a) = one_thing IsShort _ (signed_short _ _ _ a)
+  list_short i ls j (g.last a) = All-cons IsShort _ [] (signed_short _ _ _ a) (All-nil IsShort)
   list_short i ls j (g.more a c rest) = All-cons IsShort _ _ (signed_short _ _ _ a) (list_short _ _ _ rest)
 
   words_short : (i : ℕ) (ls : List Lit) (j : ℕ) → IsWords ts i ls j → All IsShort ls
-  words_short i ls j (g.one_word a) = one_thing IsShort _ (signed_short _ _ _ a)
+  words_short i ls j (g.one_word a) = All-cons IsShort _ [] (signed_short _ _ _ a) (All-nil IsShort)
   words_short i ls j (g.words a b c) = list_short _ _ _ b
 
   top_short : (i : ℕ) (t : Top) (rs : List Role) (j : ℕ) → IsTop ts i t rs j → IsTopShort t
@@ -196,7 +191,7 @@ module _ (ts : List Token) (short : AreShortTokens ts) where
   top_short i t rs j (g.is_function a b c d e h k l m n o p) = items_short _ _ _ _ n
 
   tops_short : (i : ℕ) (tops : List Top) (rs : List Role) (j : ℕ) → IsTops ts i tops rs j → All IsTopShort tops
-  tops_short i tops rs j g.no_tops = no_thing IsTopShort
+  tops_short i tops rs j g.no_tops = All-nil IsTopShort
   tops_short i tops rs j (g.one_top a rest) = All-cons IsTopShort _ _ (top_short _ _ _ _ a) (tops_short _ _ _ _ rest)
 
 -- the numbers of each program that a source is are short

@@ -13,7 +13,7 @@ use Rattle.name_rules.specs.Meanings.{most_bits}
 use Rattle.type_rules.specs.TypeRules.{is_word, is_same_shape}
 use Rattle.type_rules.specs.Private.Sound.{IsSoundType}
 
-le_is : (a b : ℤ) → int_le a b ≡ true → a ≤ℤ b
+pub le_is : (a b : ℤ) → int_le a b ≡ true → a ≤ℤ b
 le_is a b e = grind (arith, ints, e)
 
 le_does : (a b : ℤ) → a ≤ℤ b → int_le a b ≡ true

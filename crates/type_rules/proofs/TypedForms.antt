@@ -38,10 +38,10 @@ form_up mode w a zero v h =
     subst (λ (z : ℤ). IsFit z w mode v) (sym e) (subst (λ (z : ℤ). IsFit z w mode v) f h.fitted)
 form_up mode w a (suc k) v h = subst (λ (z : ℤ). IsFit z w mode v) h.scaled h.fitted
 
-left_bits : (k : ℕ) → negsuc 0 *ℤ pos k ≡ neg_ℤ (pos k)
+pub left_bits : (k : ℕ) → negsuc 0 *ℤ pos k ≡ neg_ℤ (pos k)
 left_bits k = omega (arith, ints)
 
-right_bits : (k : ℕ) → pos 1 *ℤ pos k ≡ pos k
+pub right_bits : (k : ℕ) → pos 1 *ℤ pos k ≡ pos k
 right_bits k = omega (arith, ints)
 
 pub left_form : (t : FixType) (a : ℤ) (k : ℕ) (v : ℤ)
