@@ -1,6 +1,6 @@
 -- Completeness of the table: it reads the places on the left, arguments and items that the grammar has, with the same
 -- roles.
-use Rattle.std.proofs.Common.{◌≡◌, ℕ, ◌+◌, List, [], ◌∷◌, ◌++◌, slice_get, refl, sym, ap, ◌∙◌, subst, arith}
+use Rattle.std.proofs.Common.{◌≡◌, ℕ, ◌+◌, List, [], ◌∷◌, ◌++◌, refl, sym, ap, ◌∙◌, subst, arith}
 use Rattle.std.proofs.Common.{append_assoc, append-nil}
 use Rattle.silage_lex.specs.declared.Token.{Token}
 use Rattle.silage_lex.specs.declared.punctuation.TheConstants as punctuation
@@ -14,12 +14,13 @@ use Rattle.silage_parse.specs.Private.ParseTable as the
 use Rattle.silage_parse.specs.Private.ParseTable.{Terminal, Effect, Outside, Begins, Inside, Nonterminal, Value, Symbol}
 use Rattle.silage_parse.specs.Private.ParseTable.{Match, Act, Expand, Action, productions, rests, AName, punctuation_of}
 use Rattle.silage_parse.specs.Private.ParseTable.{keyword_of}
-use Rattle.silage_parse.specs.Private.Machine.{made, Among, candidates, here, there, roles_of, Reads, r_end, r_match}
+use Rattle.silage_parse.specs.Private.Machine.{made, Among, candidates, here, there, Reads, r_end}
 use Rattle.silage_parse.specs.Private.Machine.{r_expand, r_act}
 use Rattle.silage_parse.proofs.SpanRoles.{weights_more}
 use Rattle.silage_parse.proofs.TokenFacts.{mark_there, word_there, name_there, kind_moved}
 use Rattle.silage_parse.proofs.Derivations.{Goes, g_end, g_match, g_expand, g_act, span, take_reads, Spans_one}
-use Rattle.silage_parse.proofs.Derivations.{goes_spans, does_spans}
+use Rattle.silage_parse.proofs.Derivations.{goes_spans, does_spans, roles_to}
+use Rattle.silage_parse.proofs.Readings.{append}
 use Rattle.silage_parse.proofs.CompleteManifests.{makes_to, manifest_does, subs_do, delay_does}
 use Rattle.silage_parse.proofs.CompleteTypes.{initial_does}
 use Rattle.silage_parse.proofs.CompleteExpressions.{First, named, other, expr_does, in_parts}
@@ -36,12 +37,6 @@ pub go : {us : List Token} {p : Nonterminal} {ss : List Symbol} {i j k : ℕ} {v
     → Reads us ss j xs qs k ws
     → Reads us (Expand p ∷ ss) i vs (rs ++ qs) k ws
 go (did a r) s = r_expand a r s
-
-pub roles_to : {us : List Token} {ss : List Symbol} {i j : ℕ} {vs ws : List Value} {rs qs : List Role}
-    → rs ≡ qs
-    → Reads us ss i vs rs j ws
-    → Reads us ss i vs qs j ws
-roles_to {us} {ss} {i} {j} {vs} {ws} q r = let P : List Role → Type 0 = λ x. Reads us ss i vs x j ws in subst P q r
 
 -- a nonterminal after which no token is read
 pub went : {us : List Token} {p : Nonterminal} {ss : List Symbol} {i j k : ℕ} {vs xs ws : List Value} {rs : List Role}
@@ -91,18 +86,6 @@ pub did_roles : {us : List Token} {p : Nonterminal} {i j : ℕ} {vs ws : List Va
     → rs ≡ qs
     → Did us p i vs qs j ws
 did_roles {us} {p} {i} {j} {vs} {ws} d q = let P : List Role → Type 0 = λ x. Did us p i vs x j ws in subst P q d
-
--- two readings in a row
-pub append : {us : List Token} {xs ys : List Symbol} {i j k : ℕ} {vs ws zs : List Value} {rs qs : List Role}
-    → Reads us xs i vs rs j ws
-    → Reads us ys j ws qs k zs
-    → Reads us (xs ++ ys) i vs (rs ++ qs) k zs
-append r_end s = s
-append {us} {qs = qs} (r_match {e = e} {i = i} {rs = rs} h r) s =
-    roles_to (sym (append_assoc (roles_of e (slice_get us i)) rs qs)) (r_match h (append r s))
-append {qs = ps} (r_expand {rs = rs} {qs = qs} a r t) s =
-    roles_to (sym (append_assoc rs qs ps)) (r_expand a r (append t s))
-append (r_act r) s = r_act (append r s)
 
 -- manifest numbers and expressions
 pub manifest_did : {us : List Token} {i j : ℕ} {m : Manifest}

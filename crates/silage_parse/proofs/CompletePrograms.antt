@@ -13,10 +13,12 @@ use Rattle.silage_parse.specs.Private.ParseTable.{AName, End, is_one, punctuatio
 use Rattle.silage_parse.specs.Private.Machine.{here, there, pushed, roles_of, Reads, r_end, r_match, r_act}
 use Rattle.silage_parse.proofs.TokenFacts.{mark_there, word_there, name_there, kind_moved}
 use Rattle.silage_parse.proofs.Derivations.{Goes, g_end, g_match, g_expand, g_act, take_reads, goes_spans}
+use Rattle.silage_parse.proofs.Derivations.{roles_to}
+use Rattle.silage_parse.proofs.Readings.{append}
 use Rattle.silage_parse.proofs.CompleteManifests.{goes_from}
 use Rattle.silage_parse.proofs.CompleteTypes.{fix_does, declared_does, decls_read, list_then, words_do, results_do}
 use Rattle.silage_parse.proofs.CompleteTypes.{locals_do}
-use Rattle.silage_parse.proofs.CompleteItems.{Did, did, go, alone, acts, did_from, did_to, did_roles, append, roles_to}
+use Rattle.silage_parse.proofs.CompleteItems.{Did, did, go, alone, acts, did_from, did_to, did_roles}
 use Rattle.silage_parse.proofs.CompleteItems.{of_list, items_did}
 
 -- a table, before the tables and functions after it

@@ -1,6 +1,6 @@
 -- Readings without roles, a nonterminal at a time; and readings of nonterminals with all tokens inside expressions, or
 -- all outside.
-use Rattle.std.proofs.Common.{◌≡◌, ℕ, ◌+◌, ◌≤◌, Bool, true, false, ◌&&◌, if◌then◌else◌, map, List, [], ◌∷◌, ◌++◌}
+use Rattle.std.proofs.Common.{◌≡◌, ℕ, ◌+◌, ◌≤◌, Bool, true, false, ◌&&◌, if◌then◌else◌, List, [], ◌∷◌, ◌++◌}
 use Rattle.std.proofs.Common.{Option, Some, None, slice_get, refl, sym, ap, ◌∙◌, subst, ap₂, arith}
 use Rattle.lists.proofs.Bools.{first_true, second_true}
 use Rattle.silage_lex.specs.declared.Token.{Token}
@@ -9,10 +9,12 @@ use Rattle.silage_syntax.specs.Grammar.{kind_of, kind_at, Or, And, Sum, Product,
 use Rattle.silage_parse.specs.Private.ParseTable as the
 use Rattle.silage_parse.specs.Private.ParseTable.{Terminal, End, is_one, Effect, Outside, Begins, Inside, Enters}
 use Rattle.silage_parse.specs.Private.ParseTable.{Leaves, Nonterminal, Source, Value, Symbol, Match, Expand, Act}
-use Rattle.silage_parse.specs.Private.ParseTable.{Productions, productions, Action}
-use Rattle.silage_parse.specs.Private.Machine.{made, pushed, selected, predict, Among, here, there, alternatives}
+use Rattle.silage_parse.specs.Private.ParseTable.{productions, Action}
+use Rattle.silage_parse.specs.Private.Machine.{made, pushed, Among, alternatives}
 use Rattle.silage_parse.specs.Private.Machine.{candidates, role_of, roles_of, Reads, r_end, r_match, r_expand, r_act}
 use Rattle.silage_parse.proofs.SpanRoles.{weights_none, weights_more, weights_both, plain_none, plain_more, plain_both}
+use Rattle.silage_parse.proofs.FirstFollow.{is_source, every}
+use Rattle.silage_parse.proofs.Readings.{every_among, way_among}
 
 mutual
   pub data Goes (us : List Token) : List Symbol → ℕ → List Value → ℕ → List Value → Type 0 where
@@ -92,24 +94,12 @@ all_at e (Match ks f ∷ ss) = same_effect e f && (opposite (is_one ks None) && 
 all_at e (Expand p ∷ ss) = has_home e (home p) && all_at e ss
 all_at e (Act a ∷ ss) = all_at e ss
 
-abbrev pub is_source : Nonterminal → Bool
-is_source Source = true
-is_source _ = false
-
 -- no symbol waits for the end
 abbrev pub no_end : List Symbol → Bool
 no_end [] = true
 no_end (Match ks e ∷ ss) = opposite (is_one ks None) && no_end ss
 no_end (Expand p ∷ ss) = opposite (is_source p) && no_end ss
 no_end (Act a ∷ ss) = no_end ss
-
-abbrev every : {A : Type 0} → (A → Bool) → List A → Bool
-every f [] = true
-every f (x ∷ xs) = f x && every f xs
-
-each_among : {A : Type 0} (f : A → Bool) {xs : List A} {x : A} → Among xs x → every f xs ≡ true → f x ≡ true
-each_among f here h = first_true _ _ h
-each_among f (there a) h = each_among f a (second_true _ _ h)
 
 -- the productions of a nonterminal have its effect
 kept : Effect → Nonterminal → Bool
@@ -207,25 +197,6 @@ go_home : (e : Effect) (p : Nonterminal) (ss : List Symbol)
     → (has_home e (home p) ≡ true) × (all_at e ss ≡ true)
 go_home e p ss h = (first_true (has_home e (home p)) (all_at e ss) h, second_true (has_home e (home p)) (all_at e ss) h)
 
-asked_among : (xs : List (List Terminal × List Symbol)) (other : List Symbol) (k : Option TokenKind)
-    → Among (map (λ x. x.1) xs ++ other ∷ []) (selected xs other k)
-asked_among [] other k = here
-asked_among (x ∷ xs) other k =
-    elim (is_one x.0 k) as
-    (λ b. Among (x.1 ∷ (map (λ x. x.1) xs ++ other ∷ [])) (if b then x.1 else selected xs other k))
-    [ true ↦ here | false ↦ there (asked_among xs other k) ]
-
-pub predict_among : (p : Nonterminal) (k : Option TokenKind)
-    → Among (alternatives (productions p)) (predict (productions p) k)
-predict_among p k = asked_among (productions p).by_lookahead (productions p).otherwise k
-
-pub way_among : (p : Nonterminal) (k : Option TokenKind) {ps : List Symbol}
-    → Among (candidates p k) ps
-    → Among (alternatives (productions p)) ps
-way_among the.AfterMinus k here = predict_among the.AfterMinus k
-way_among the.AfterMinus k (there x) = elim x [ ]
-way_among p k a = a
-
 -- the roles of the tokens of a stretch
 abbrev pub span : Effect → List Token → ℕ → ℕ → List Role
 span Inside us i j = weights us i j
@@ -276,7 +247,7 @@ pub record Spans_one
   pub among : Among (candidates p (kind_at us i)) ps
   pub spans : Spans us e ps i vs j ws
 
-roles_to : {us : List Token} {ss : List Symbol} {i j : ℕ} {vs ws : List Value} {rs qs : List Role}
+pub roles_to : {us : List Token} {ss : List Symbol} {i j : ℕ} {vs ws : List Value} {rs qs : List Role}
     → rs ≡ qs
     → Reads us ss i vs rs j ws
     → Reads us ss i vs qs j ws
@@ -312,7 +283,7 @@ mutual
   does_spans {us} e (does {p = p} {ps = ps} {i = i} a g) h = record {
     ps = ps;
     among = a;
-    spans = goes_spans e g (each_among (all_at e) (way_among p (kind_at us i) a) (all_kept e p h));
+    spans = goes_spans e g (every_among (all_at e) (all_kept e p h) (way_among p (kind_at us i) a));
   }
 
 -- where a reading goes
@@ -329,8 +300,9 @@ pub way_no_end : (p : Nonterminal) (k : Option TokenKind) {ps : List Symbol}
     → opposite (is_source p) ≡ true
     → no_end ps ≡ true
 way_no_end p k w h =
-    each_among no_end (way_among p k w)
+    every_among no_end
     (no_ends p (elim (is_source p) as (λ b. opposite b ≡ true → b ≡ false) [ true ↦ λ q. sym q | false ↦ λ q. refl ] h))
+    (way_among p k w)
 
 -- the token that was taken
 pub taken : (us : List Token) (ks : List Terminal) (o : Option Token)
@@ -355,7 +327,7 @@ reads_span {us} e {j = j} (r_match {ks = ks} {e = f} {ss = ss} {i = i} {rs = rs}
     ap (λ o. roles_of f o ++ rs) t.1 ∙ g
 reads_span {us} e (r_expand {p = p} {ss = ss} {i = i} way a b) h =
     let n = go_home e p ss h in
-    let r = reads_span e a (each_among (all_at e) (way_among p (kind_at us i) way) (all_kept e p n.0)) in
+    let r = reads_span e a (every_among (all_at e) (all_kept e p n.0) (way_among p (kind_at us i) way)) in
     let s = reads_span e b n.1 in
     let w = reads_within a in
     let v = reads_within b in
@@ -370,4 +342,4 @@ pub phrase_span :
     → has_home e (home p) ≡ true
     → rs ≡ span e us i j
 phrase_span {us} e p {i = i} way a h =
-    reads_span e a (each_among (all_at e) (way_among p (kind_at us i) way) (all_kept e p h))
+    reads_span e a (every_among (all_at e) (all_kept e p h) (way_among p (kind_at us i) way))

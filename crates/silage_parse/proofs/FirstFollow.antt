@@ -15,7 +15,7 @@ use Rattle.silage_parse.specs.Private.ParseTable.{Shifts, Unary, OtherUnary, Aft
 use Rattle.silage_parse.specs.Private.ParseTable.{ArmEnd, TargetSubs, SecondTargetSub, Target, MoreTargets, Args}
 use Rattle.silage_parse.specs.Private.ParseTable.{MoreArgs, Items_, Item_, AfterTarget, RightSide, AfterRightName}
 use Rattle.silage_parse.specs.Private.ParseTable.{AfterOpenName, InitialValue, Symbol, Match, Expand, Act, productions}
-use Rattle.silage_parse.specs.Private.ParseTable.{number, operators, comparisons}
+use Rattle.silage_parse.specs.Private.ParseTable.{number, operators, comparisons, shift_operators}
 use Rattle.silage_parse.specs.Private.Machine.{alternatives}
 use Rattle.silage_parse.proofs.Terminals.{has, within, apart}
 
@@ -34,9 +34,6 @@ expressions = AName ∷ signed
 abbrev manifests : List Terminal
 manifests = AWhole ∷ AName ∷ Punctuation punctuation.LEFT_PAREN ∷ []
 
-abbrev shifts : List Terminal
-shifts = Punctuation punctuation.LESS_LESS ∷ Punctuation punctuation.GREATER_GREATER ∷ []
-
 -- what may follow a whole expression, an operand of the loosest operators, and so on inwards
 abbrev ends : List Terminal
 ends =
@@ -53,7 +50,7 @@ abbrev after_shift : List Terminal
 after_shift = Punctuation punctuation.STAR ∷ after_product
 
 abbrev after_unary : List Terminal
-after_unary = shifts ++ after_shift
+after_unary = shift_operators ++ after_shift
 
 abbrev after_chain : Level → List Terminal
 after_chain Or = ends
@@ -99,7 +96,7 @@ first_set (Rest l) = operators l
 first_set Comparison = expressions
 first_set CompareRest = comparisons
 first_set Shift = expressions
-first_set Shifts = shifts
+first_set Shifts = shift_operators
 first_set Unary = expressions
 first_set OtherUnary = signed
 first_set AfterMinus = expressions

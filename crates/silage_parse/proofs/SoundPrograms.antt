@@ -17,7 +17,9 @@ use Rattle.silage_parse.specs.Private.Machine.{made, pushed, roles_of, Among, ca
 use Rattle.silage_parse.specs.Private.Machine.{r_end, r_match, r_expand, r_act}
 use Rattle.silage_parse.proofs.SpanRoles.{plain_none, plain_more, plain_both}
 use Rattle.silage_parse.proofs.TokenFacts.{mark_seen, word_seen, name_seen, from_seen, kind_moved}
-use Rattle.silage_parse.proofs.Derivations.{opposite, is_source, no_end, reads_within, phrase_span, way_among}
+use Rattle.silage_parse.proofs.Derivations.{opposite, no_end, reads_within, phrase_span}
+use Rattle.silage_parse.proofs.FirstFollow.{is_source}
+use Rattle.silage_parse.proofs.Readings.{way_among}
 use Rattle.silage_parse.proofs.Derivations.{way_no_end, taken}
 use Rattle.silage_parse.proofs.SoundSteps.{Means, Sound, All, a_end, a_take, a_go, a_make, settled}
 use Rattle.silage_parse.proofs.SoundManifests.{manifest_means, terms_mean, term_means, factors_mean, factor_means}
