@@ -10,13 +10,13 @@ use Rattle.std.proofs.lemmas.List.Elements.{All-cons, All-nil}
 use Rattle.lists.proofs.Bools.{both_true}
 use Rattle.lists.proofs.Places.{some_once}
 use Rattle.silage_lex.specs.Bytes.{is_digit}
-use Rattle.silage_lex.specs.Texts.{IsText, IsWhole, IsPoint, is_digits, decimal, decimal_after}
+use Rattle.silage_lex.specs.Texts.{IsText, IsWhole, IsPoint, decimal, decimal_after}
 use Rattle.silage_lex.specs.Tokens.{Spaced, HasTokens}
 use Rattle.silage_lex.specs.declared.Token.{Token}
 use Rattle.silage_lex.specs.declared.TokenKind.{TokenKind}
 use Rattle.silage_lex.specs.declared.TokenKind.TheVariants as kind
 use Rattle.silage_lex.proofs.Numbers.{room_for, room_after, decimal-append}
-use Rattle.silage_lex.proofs.TextLemmas.{digits_all, digit_count-digits, digit_count-pointed}
+use Rattle.silage_lex.proofs.TextLemmas.{digits_all, digit_count-digits, digit_count-pointed, digits_some}
 use Rattle.silage_syntax.specs.declared.tree.Lit.{Lit}
 use Rattle.silage_syntax.specs.Grammar as g
 use Rattle.silage_syntax.specs.Grammar.{kind_of, number_of, ExprRule, Chain, Rest, Comparison, Shift, Shifts, Unary}
@@ -43,10 +43,6 @@ digits_bound n (b ∷ bs) h =
     grows n (10 * n + (b - 48)) (length bs) (decimal_after (10 * n + (b - 48)) bs + 1) (omega arith)
     (digits_bound (10 * n + (b - 48)) bs both.1)
 
-some_digit : (ds : List ℕ) → is_digits ds ≡ true → 0 < length ds
-some_digit [] h = absurd (cc)
-some_digit (b ∷ bs) h = omega arith
-
 abbrev IsShortNumber : ℕ → ℕ → Type 0
 IsShortNumber digits places = (digits < 10 ^ 18) × (places ≤ 17)
 
@@ -69,7 +65,7 @@ point_short digits places text h =
     let sizes = length-append h.whole (46 ∷ h.fraction) in
     let size : length text ≡ length (h.whole ++ 46 ∷ h.fraction) = ap (length {A = ℕ}) h.pointed.shape in
     let short = h.short in
-    let some = some_digit h.whole h.pointed.whole_digits in
+    let some = digits_some h.whole h.pointed.whole_digits in
     let few : length h.whole + length h.fraction ≤ 18 = omega (arith, count, sizes, size, short) in
     let front = digits_bound 0 h.whole whole_all in
     let back = digits_bound (decimal h.whole) h.fraction fraction_all in
