@@ -27,13 +27,13 @@ use Rattle.element_rules.proofs.LoopTurns.{IsAmong, turn_among}
 use Rattle.element_rules.proofs.GivenElements.{param_given, past_params}
 use Rattle.element_rules.proofs.DefinitionLists.{Entry, IsAt, Adds, items_entries, items_add}
 
-first_of_two : (context : Context) (T : Table) (row : Row)
+pub first_of_two : (context : Context) (T : Table) (row : Row)
     → first_in (row_rules context (T ▹ row)) ≡ Ok tt
     → first (table_rules context T) ≡ Ok tt
 first_of_two context T row ok =
     (then_parts (first (table_rules context T)) (first_in (row_rules (after context T) row)) ok).0
 
-rest_of_two : (context : Context) (T : Table) (row : Row)
+pub rest_of_two : (context : Context) (T : Table) (row : Row)
     → first_in (row_rules context (T ▹ row)) ≡ Ok tt
     → first_in (row_rules (after context T) row) ≡ Ok tt
 rest_of_two context T row ok =

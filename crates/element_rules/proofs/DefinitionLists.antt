@@ -5,6 +5,7 @@ use Rattle.std.proofs.Common.{refl, sym, subst, arith, append-nil}
 use Rattle.std.specs.Prelude.{nat_eq}
 use Rattle.std.specs.List.{range_with_len}
 use Rattle.std.proofs.lemmas.Bool.Decides.{eqb_tells}
+use Rattle.std.proofs.lemmas.Bool.{not-true}
 use Rattle.lists.proofs.Places.{at_append, at_left, at_right}
 use Rattle.fault_order.specs.Rules.{parts}
 use Rattle.fault_order.specs.Private.FirstMet.{first, first_in}
@@ -52,10 +53,10 @@ pub record Adds (before later : Context) (es : List Entry) : Type 0 where
   pub keeps : (d k : ℕ) → is_defined before d k ≡ true → is_defined later d k ≡ true
   pub from : (d k : ℕ) → is_defined later d k ≡ true → (is_defined before d k ≡ true) ⊎ IsAt es d k
 
-no_entry : {A : Type 0} (i : ℕ) (e : Entry) → slice_get [] i ≡ Some e → A
+pub no_entry : {A : Type 0} (i : ℕ) (e : Entry) → slice_get [] i ≡ Some e → A
 no_entry i e h = absurd (cc)
 
-both_ways : {A : Type 0} (b : Bool) → b ≡ true → b ≡ false → A
+pub both_ways : {A : Type 0} (b : Bool) → b ≡ true → b ≡ false → A
 both_ways true t f = absurd (cc (f))
 both_ways false t f = absurd (cc (t))
 
@@ -140,10 +141,6 @@ adds_then a b c es fs x y =
           })
     ]
 
-not_true : (b : Bool) → not b ≡ true → b ≡ false
-not_true true e = absurd (cc (e))
-not_true false e = refl
-
 adds_one : (context : Context) (d k at : ℕ) (source : Source)
     → first (table_rules context (mark (defines d k at))) ≡ Ok tt
     → Adds context (after context (mark (defines d k at))) (entry_at d k source ∷ [])
@@ -158,7 +155,7 @@ adds_one context d k at source ok = record { new = new; apart = apart; there = t
         → is_defined context e.declaration e.offset ≡ false
     new i e h =
         subst (λ (x : Entry). is_defined context x.declaration x.offset ≡ false) (only i e h).0
-        (not_true (is_defined context d k) (rule_holds (not (is_defined context d k)) (DefinedTwice at) ok))
+        (not-true (is_defined context d k) (rule_holds (not (is_defined context d k)) (DefinedTwice at) ok))
 
     apart : (i j : ℕ) (e f : Entry)
         → slice_get (entry_at d k source ∷ []) i ≡ Some e

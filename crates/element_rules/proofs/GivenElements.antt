@@ -4,15 +4,12 @@ use Rattle.std.proofs.Common.{Bool, true, false, slice_get, Some, refl, ap, subs
 use Rattle.std.specs.Prelude.{nat_eq}
 use Rattle.std.specs.List.{range_with_len}
 use Rattle.std.proofs.lemmas.Bool.Decides.{eqb_tells}
+use Rattle.std.proofs.lemmas.Bool.{or_right}
 use Rattle.silage_syntax.specs.declared.tree.Decl.{Decl}
 use Rattle.silage_syntax.specs.Names.{element_count}
 use Rattle.element_rules.specs.Tables.{given, Table, mark, Row, each, each_from, Context, is_defined, after}
 use Rattle.element_rules.specs.Tables.{after_row}
 use Rattle.element_rules.specs.ElementRules.{each_place}
-
-or_true : (b : Bool) → b || true ≡ true
-or_true true = refl
-or_true false = refl
 
 module _ (e j : ℕ) where
   abbrev IsBefore : Context → Bool → Type 0
@@ -28,7 +25,7 @@ module _ (e j : ℕ) where
     stays_given zero a context h = h
     stays_given (suc n) a context h =
         stays_given n (a + 1) (after context (gives a))
-        (ap (λ (b : Bool). nat_eq e d && nat_eq j a || b) h ∙ or_true (nat_eq e d && nat_eq j a))
+        (ap (λ (b : Bool). nat_eq e d && nat_eq j a || b) h ∙ or_right (nat_eq e d && nat_eq j a) true refl)
 
     is_given : (n a : ℕ) (context : Context)
         → e ≡ d

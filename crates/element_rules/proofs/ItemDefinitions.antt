@@ -25,13 +25,7 @@ use Rattle.element_rules.proofs.DefinitionLists.{Entry, entry_at, at_offset, tar
 use Rattle.element_rules.proofs.DefinitionLists.{site, made_by, result_source, taker_entries, takers_entries}
 use Rattle.element_rules.proofs.DefinitionLists.{call_entries, item_entries, items_entries}
 use Rattle.element_rules.proofs.NamedItems.{equal, whole, place_fits, within, IsCallNamed, call_named, instance_named}
-
-no_entry : {A : Type 0} (i : ℕ) (e : Entry) → slice_get [] i ≡ Some e → A
-no_entry i e h = absurd (cc)
-
-contradiction : {A : Type 0} (b : Bool) → b ≡ true → b ≡ false → A
-contradiction true t f = absurd (cc (f))
-contradiction false t f = absurd (cc (t))
+use Rattle.element_rules.proofs.DefinitionLists.{no_entry, both_ways}
 
 module _ (p : Program) (clear : IsClear (name_faults p)) (path : Path) (f : Func) (instance : IsInstance p path f) where
   abbrev Sound : List Entry → Type 0
@@ -115,7 +109,7 @@ module _ (p : Program) (clear : IsClear (name_faults p)) (path : Path) (f : Func
         record { some = some; bare = all.bare; named = is; same_dims = all.same_dims }
       where
         some : result.dims ≢ []
-        some e = contradiction (nat_eq (length result.dims) 0) (rw e refl) many
+        some e = both_ways (nat_eq (length result.dims) 0) (rw e refl) many
 
     taker_sound : (r : ℕ) (result : Decl) (place : Place)
         → slice_get c.callee.results r ≡ Some result

@@ -86,7 +86,7 @@ mutual
       let parts = then_parts (first (table_rules context T)) (first_in (row_rules (after context T) row)) ok in
       row_within (after context T) row (within context T low parts.0) parts.1
 
-elements_length : (n d : ℕ) (ds : List Decl) → length (elements_from n d ds) ≡ elements_of ds
+pub elements_length : (n d : ℕ) (ds : List Decl) → length (elements_from n d ds) ≡ elements_of ds
 elements_length n d [] = refl
 elements_length n d (x ∷ ds) =
     length-append _ _ ∙ ap₂ ◌+◌ (length-map-range_with_len _ 0 (element_count x.dims)) (elements_length n (d + 1) ds)

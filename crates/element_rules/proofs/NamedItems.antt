@@ -26,7 +26,7 @@ use Rattle.name_rules.specs.declared.fault.NameFault.{NameFault}
 use Rattle.element_rules.proofs.SoundNames.{names_apart, clear_first}
 use Rattle.element_rules.proofs.NamedTops.{top_named}
 
-first_each : {A : Type 0} (G : A → Rules NameFault) (xs : List A) (k : ℕ) (x : A)
+pub first_each : {A : Type 0} (G : A → Rules NameFault) (xs : List A) (k : ℕ) (x : A)
     → first_in (each G xs) ≡ Ok tt
     → slice_get xs k ≡ Some x
     → first (G x) ≡ Ok tt

@@ -1,5 +1,5 @@
 -- Where each call has a position of its own, the elements of the program have one number each.
-use Rattle.std.proofs.Common.{◌≡◌, refl, sym, subst, ◌∙◌, ap, arith, ℕ, zero, suc, ◌+◌, ◌≤◌, ◌⊎◌, inl, inr, ℤ, pos}
+use Rattle.std.proofs.Common.{◌≡◌, refl, sym, subst, ◌∙◌, ap, arith, ℕ, zero, suc, ◌+◌, ◌≤◌, inl, inr, ℤ, pos}
 use Rattle.std.proofs.Common.{negsuc, ◌+ℤ◌, Bool, true, false, cond, List, [], ◌∷◌, ◌++◌, map, length, slice_get}
 use Rattle.std.proofs.Common.{sum_by, codes, append_assoc, append-nil, Option, Some, None}
 use Rattle.std.specs.Prelude.{nat_eq}
@@ -36,6 +36,7 @@ use Rattle.element_rules.specs.CallPositions.{AreDistinct, calls_of, calls_in, H
 use Rattle.element_rules.specs.Numbers.{HasDistinctNumbers}
 use Rattle.element_rules.proofs.OncePaths.{Enters, RowEnters, IsOnce, RowIsOnce, Spread, table_spread, number_once}
 use Rattle.element_rules.proofs.OnceEntries.{entry_once}
+use Rattle.element_rules.proofs.LoopTurns.{IsAmong}
 
 -- Tables that enter no instance.
 abbrev IsFlat : Table → Type 0
@@ -126,16 +127,12 @@ record In (outer : Indices) (xs : List ℕ) (s : Step) : Type 0 where
   turns : s.turns ≡ turns_of outer ++ more
 
 -- turns of which no two are the same
-abbrev Among : ℤ → List ℤ → Type 0
-Among u [] = ⊥
-Among u (t ∷ ts) = (u ≡ t) ⊎ Among u ts
-
 abbrev AreApart : List ℤ → Type 0
 AreApart [] = Unit {0}
-AreApart (t ∷ ts) = (Among t ts → ⊥) × AreApart ts
+AreApart (t ∷ ts) = (IsAmong t ts → ⊥) × AreApart ts
 
 turns_above : (first : ℤ) (a n : ℕ) (u : ℤ)
-    → Among u (map (λ k. first +ℤ pos k) (range_with_len a n))
+    → IsAmong u (map (λ k. first +ℤ pos k) (range_with_len a n))
     → (k : ℕ) × (a ≤ k) × (u ≡ first +ℤ pos k)
 turns_above first a zero u h = absurd h
 turns_above first a (suc n) u (inl e) = (a, omega arith, e)
@@ -237,7 +234,7 @@ module _ (p : Program) (g : Func) (table_of : Func → Table) where
   -- a step of one of the turns
   record InTurn (outer : Indices) (turns : List ℤ) (xs : List ℕ) (s : Step) : Type 0 where
     turn : ℤ
-    among : Among turn turns
+    among : IsAmong turn turns
     place : ℕ
     there : slice_get xs place ≡ Some s.at
     more : List ℤ
@@ -274,7 +271,7 @@ module _ (p : Program) (g : Func) (table_of : Func → Table) where
         record { turn = r.turn; among = inr r.among; place = r.place; there = r.there; more = r.more; is = r.is }
 
     other_turn : (t : ℤ) (turns : List ℤ)
-        → (Among t turns → ⊥)
+        → (IsAmong t turns → ⊥)
         → (s : Step)
         → Enters (turn_table outer index at items t) s
         → InTurn outer turns (calls_in items) s
@@ -284,7 +281,7 @@ module _ (p : Program) (g : Func) (table_of : Func → Table) where
         let l = each_in t s h in
         let same : t ≡ r.turn =
         cancel (turns_of outer) l.more r.more t r.turn (sym (one_turn outer index t (calls_in items) s l) ∙ r.is) in
-        apart (subst (λ (u : ℤ). Among u turns) (sym same) r.among)
+        apart (subst (λ (u : ℤ). IsAmong u turns) (sym same) r.among)
 
     turns_once : ((t : ℤ) → RowIsOnce (items_row p g table_of (outer ++ (index, t) ∷ []) items))
         → (turns : List ℤ)

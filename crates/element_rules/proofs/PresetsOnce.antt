@@ -1,9 +1,8 @@
 -- A checked program gives an element one initial value for a sample.
 use Rattle.std.proofs.Common.{◌≡◌, refl, sym, subst, ◌∙◌, ap, ℕ, inl, inr, Bool, true, false, ◌||◌, List, [], ◌∷◌, ◌++◌}
 use Rattle.std.proofs.Common.{Option, Some, Ok, ℤ, pos}
-use Rattle.std.specs.Prelude.{nat_eq, not as denied}
-use Rattle.std.proofs.lemmas.Bool.Decides.{eqb_tells}
-use Rattle.std.proofs.lemmas.Bool.{or_right}
+use Rattle.std.specs.Prelude.{not as denied}
+use Rattle.std.proofs.lemmas.Bool.{or_right, eq-eqb}
 use Rattle.fault_order.specs.Ranked.{IsClear}
 use Rattle.fault_order.specs.Rules.{parts}
 use Rattle.fault_order.specs.Private.FirstMet.{first, first_in}
@@ -30,9 +29,6 @@ use Rattle.element_rules.proofs.CheckedInstances.{items_ok, checked as checked_i
 use Rattle.element_rules.proofs.ElementNumbers.{declared_stands}
 use Rattle.element_rules.proofs.LoopTurns.{IsAmong, turn_among}
 use Rattle.element_rules.proofs.PickedOffsets.{offset_picked}
-
-same_nat : (n : ℕ) → nat_eq n n ≡ true
-same_nat n = elim (eqb_tells n n) [ inl h ↦ h.0 | inr h ↦ absurd (h.1 refl) ]
 
 module _ (p : Program) (f : Func) (inside : Func → Table) (d k j : ℕ) where
   abbrev IsGiven : Context → Type 0
@@ -110,7 +106,7 @@ module _ (p : Program) (f : Func) (inside : Func → Table) (d k j : ℕ) where
       ∙ ap (λ (o : Option ℤ). TableBy indices h.decl h.place h.amount (Some k) o) h.value
 
   own_given : (context : Context) (at : ℕ) → IsGiven (after context (mark (presets d k j at)))
-  own_given context at = rw (same_nat d, same_nat k, same_nat j) refl
+  own_given context at = rw (eq-eqb d d refl, eq-eqb k k refl, eq-eqb j j refl) refl
 
   gives_own : (context : Context) (x : Item) (indices : Indices) (l : Lit)
       → Presets x indices l

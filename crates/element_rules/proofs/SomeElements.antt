@@ -15,7 +15,7 @@ use Rattle.element_rules.specs.ElementRules.{elements_of}
 use Rattle.element_rules.specs.Signatures.{HaveResults}
 use Rattle.element_rules.specs.Sizes.{AreSized, HasResult}
 
-dims_some : (dims : List ℕ) → list_all is_dim dims ≡ true → 1 ≤ element_count dims
+pub dims_some : (dims : List ℕ) → list_all is_dim dims ≡ true → 1 ≤ element_count dims
 dims_some [] e = omega arith
 dims_some (dim ∷ dims) e =
     let here = both_true (is_dim dim) (list_all is_dim dims) e in
