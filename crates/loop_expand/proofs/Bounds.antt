@@ -23,7 +23,7 @@ use Rattle.element_rules.specs.Sizes.{top_is_sized}
 use Rattle.lists.proofs.Each.{all_pass}
 use Rattle.element_rules.proofs.SoundNames.{all_sized}
 use Rattle.element_rules.proofs.LoopTurns.{turn_among, among_turn}
-use Rattle.element_rules.proofs.CheckedInstances.{items_ok, checked as checked_instance}
+use Rattle.element_rules.proofs.CheckedInstances.{items_ok, checked as checked_instance, first_of_two, rest_of_two}
 use Rattle.type_rules.specs.TypedTree as typed
 use Rattle.type_rules.specs.declared.typed.TypedItem.{TypedItem as RustItem}
 use Rattle.type_rules.specs.Translation.{typed_item, typed_items, typed_func, typed_funcs, typed_program}
@@ -34,7 +34,7 @@ use Rattle.loop_expand.specs.Private.Scopes.{has_instance, IsBounded, AreBounded
 use Rattle.loop_expand.specs.Private.Turns.{indices_at, view_turns, turns_within}
 use Rattle.loop_expand.proofs.Expanded.{numbering}
 use Rattle.element_rules.proofs.LoadedElements.{instance_small}
-use Rattle.loop_expand.proofs.PassedItems.{front_passes, back_passes, each_passed}
+use Rattle.loop_expand.proofs.PassedItems.{each_passed}
 use Rattle.loop_expand.proofs.ProgramFacts.{IsIn, of_within}
 
 -- items that break no rule on elements have such loops
@@ -51,20 +51,20 @@ module _ (p : Program) (g : Func) (inside : Func → Table) where
         let G : ℤ → Table = λ turn.
         in_order (mark (counts 1 at) ▹ items_row p g inside (outer ++ (index, turn) ∷ []) items) in
         let from =
-        front_passes context (rules (value_rules outer lo))
+        first_of_two context (rules (value_rules outer lo))
         (rules (value_rules outer hi) ▹ in_order (each G turns) ▹ nothing) ok in
         let behind =
-        back_passes context (rules (value_rules outer lo))
+        rest_of_two context (rules (value_rules outer lo))
         (rules (value_rules outer hi) ▹ in_order (each G turns) ▹ nothing) ok in
-        let to = front_passes context (rules (value_rules outer hi)) (in_order (each G turns) ▹ nothing) behind in
-        let last = back_passes context (rules (value_rules outer hi)) (in_order (each G turns) ▹ nothing) behind in
-        let all = front_passes context (in_order (each G turns)) nothing last in (
+        let to = first_of_two context (rules (value_rules outer hi)) (in_order (each G turns) ▹ nothing) behind in
+        let last = rest_of_two context (rules (value_rules outer hi)) (in_order (each G turns) ▹ nothing) behind in
+        let all = first_of_two context (in_order (each G turns)) nothing last in (
           rule_holds (is_some (manifest_value outer lo)) _ from,
           rule_holds (is_some (manifest_value outer hi)) _ to,
           λ turn is_turn.
               let one = each_passed G turns turn (turn_among outer lo hi turn is_turn) context all in
               all_bounds items (outer ++ (index, turn) ∷ []) (after one.context (mark (counts 1 at)))
-              (back_passes one.context (mark (counts 1 at)) (items_row p g inside (outer ++ (index, turn) ∷ []) items)
+              (rest_of_two one.context (mark (counts 1 at)) (items_row p g inside (outer ++ (index, turn) ∷ []) items)
               one.ok),
         )
 
@@ -74,9 +74,9 @@ module _ (p : Program) (g : Func) (inside : Func → Table) where
     all_bounds no_item outer context ok = tt
     all_bounds (item y rest) outer context ok = (
       item_bounds y outer context
-          (front_passes context (item_table p g inside outer y) (items_row p g inside outer rest) ok),
+          (first_of_two context (item_table p g inside outer y) (items_row p g inside outer rest) ok),
       all_bounds rest outer (after context (item_table p g inside outer y))
-          (back_passes context (item_table p g inside outer y) (items_row p g inside outer rest) ok),
+          (rest_of_two context (item_table p g inside outer y) (items_row p g inside outer rest) ok),
     )
 
 -- the items of an instance do

@@ -2,7 +2,7 @@
 use Rattle.std.proofs.Common.{◌≡◌, refl, sym, ◌∙◌, ap, ap₂, append_assoc, zero-add, arith, ℕ, zero, suc, ◌+◌, ◌-◌, ◌<◌}
 use Rattle.std.proofs.Common.{◌≤◌, ◌⊎◌, ◌++◌, inl, inr, true, false, List, [], ◌∷◌, map, length, drop, take, get_or}
 use Rattle.std.proofs.Common.{Some, Result, Ok, Err, OnOk, slice_get, ℤ}
-use Rattle.std.specs.Prelude.{nat_eq, nat_lt, slice_set}
+use Rattle.std.specs.Prelude.{nat_eq, slice_set}
 use Rattle.std.proofs.lemmas.Bool.Decides.{eqb_tells, leb_tells}
 use Rattle.std.proofs.lemmas.List.FromFn.{map-range_with_len_more}
 use Rattle.std.proofs.lemmas.List.{map-append}
@@ -29,14 +29,7 @@ use Rattle.loop_expand.specs.Private.Groups.{Group, groups_of}
 use Rattle.loop_expand.specs.Private.Rows.{parts_after, typed_exprs}
 use Rattle.loop_expand.specs.Private.Scopes.{Signal, Body, Scope, signals_from, body_for, body_of, body_at}
 use Rattle.loop_expand.specs.Private.Sizes.{decls_of}
-use Rattle.loop_expand.proofs.FactsPut.{facts_length}
-
-abbrev Lt : ℕ → ℕ → Type 0
-Lt m n = ((nat_lt m n ≡ true) × (m < n)) ⊎ ((nat_lt m n ≡ false) × (n ≤ m))
-
-lt_tells : (m n : ℕ) → Lt m n
-lt_tells m n = elim (leb_tells (suc m) n)
-    [ inl h ↦ inl (h.0, (let less = h.1 in omega arith)) | inr h ↦ inr (h.0, (let more = h.1 in omega arith)) ]
+use Rattle.loop_expand.proofs.FactsPut.{facts_length, Lt, lt_tells}
 
 pub facts-append : (fs gs : List Fact) (xs : List flat.Element)
     → with_facts (fs ++ gs) xs ≡ with_facts gs (with_facts fs xs)

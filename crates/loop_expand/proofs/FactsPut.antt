@@ -30,10 +30,10 @@ abbrev pub Rising : List Init → Type 0
 Rising [] = Unit {0}
 Rising (i ∷ is) = IsBelow i.0 is × Rising is
 
-abbrev Lt : ℕ → ℕ → Type 0
+abbrev pub Lt : ℕ → ℕ → Type 0
 Lt m n = ((nat_lt m n ≡ true) × (m < n)) ⊎ ((nat_lt m n ≡ false) × (n ≤ m))
 
-lt_tells : (m n : ℕ) → Lt m n
+pub lt_tells : (m n : ℕ) → Lt m n
 lt_tells m n = elim (leb_tells (suc m) n)
     [ inl h ↦ inl (h.0, (let less = h.1 in omega arith)) | inr h ↦ inr (h.0, (let more = h.1 in omega arith)) ]
 

@@ -10,14 +10,13 @@ use Rattle.silage_meaning.specs.Solves.{array_result}
 use Rattle.element_rules.specs.declared.elements.Elements.{Elements}
 use Rattle.element_rules.specs.Numbering.{IsNumbering}
 use Rattle.signal_graph.specs.Flat as flat
-use Rattle.signal_graph.specs.Rules.{width_of, IsType, IsInType, AreInits}
+use Rattle.signal_graph.specs.Rules.{IsType, IsInType, AreInits}
 use Rattle.signal_graph.specs.FlatRules as rules
-use Rattle.signal_graph.specs.FlatRules.{Fits}
 use Rattle.loop_expand.specs.Checked.{IsChecked}
 use Rattle.loop_expand.specs.FlatOf.{IsBodyOf, IsFlatElement, IsFlatOf}
 use Rattle.loop_expand.proofs.Numbers.{stands}
 use Rattle.loop_expand.proofs.FlatSound.{IsSoundBody, body_sound}
-use Rattle.loop_expand.proofs.FlatFits.{body_fits}
+use Rattle.loop_expand.proofs.FlatFits.{body_fits, FitsBody}
 use Rattle.loop_expand.proofs.FlatTypes.{element_type, input_type}
 use Rattle.loop_expand.proofs.FlatInits.{inits_allowed}
 
@@ -49,14 +48,10 @@ module _ (p : Program) (checked : IsChecked p) (es : Elements) (f : flat.Program
   word_typed e is _ body (array_result s c r d k theirs decl place res arr below at) (n, number_is, b) =
       no_word is.decl.ty body (flat.read n 0) b
 
-  abbrev FitsBody : SigType → flat.Body → Type 0
-  FitsBody ty (flat.word j) = Unit {0}
-  FitsBody ty (flat.value y) = Fits f y (width_of ty)
-
   body_of : (ty : SigType) (body : flat.Body)
       → IsInputOf ty body
       → IsSoundBody f body
-      → FitsBody ty body
+      → FitsBody f ty body
       → rules.IsBodyOf f ty body
   body_of ty (flat.word j) typed sound fits = typed j refl
   body_of ty (flat.value y) typed sound fits = record { sound = sound; fits = fits }

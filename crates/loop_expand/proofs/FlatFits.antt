@@ -3,7 +3,6 @@ use Rattle.std.proofs.Common.{◌≡◌, refl, sym, subst, ◌∙◌, ap, arith,
 use Rattle.std.proofs.Common.{Some, ℤ}
 use Rattle.std.specs.Prelude.{IsSomeAnd}
 use Rattle.std.proofs.lemmas.Option.{slice_get_within, slice_get-get_or}
-use Rattle.lists.proofs.Places.{some_once}
 use Rattle.fix_word.specs.Words.{IsWord}
 use Rattle.fix_word.specs.declared.types.Format.{Format}
 use Rattle.fix_word.specs.declared.types.SigType.{SigType}
@@ -19,7 +18,6 @@ use Rattle.silage_meaning.specs.Types.{IsRawWord, HasShapeOf}
 use Rattle.silage_meaning.specs.Solves.{Source, same, IsDefined, input, equated, argument, array, table as by_table}
 use Rattle.silage_meaning.specs.Solves.{result, array_result}
 use Rattle.silage_meaning.proofs.Elements.{declared_at, made_is}
-use Rattle.silage_meaning.proofs.Instances.{instance_once}
 use Rattle.silage_meaning.proofs.Outputs.{in_first, in_second}
 use Rattle.element_rules.specs.declared.elements.Elements.{Elements}
 use Rattle.silage_syntax.specs.Manifests.{Indices}
@@ -39,6 +37,7 @@ use Rattle.loop_expand.specs.FlatOf.{IsFlatOf}
 use Rattle.loop_expand.proofs.Shapes.{declared_type, table_type_is, table_entry, source_fits}
 use Rattle.loop_expand.proofs.TypedSound.{FitsIn, ChoicesFitIn, AllFitIn, same_width}
 use Rattle.loop_expand.proofs.FlatSound.{equation_good, argument_good}
+use Rattle.loop_expand.proofs.FlatTypes.{decl_once}
 
 -- the width of a class of operations stays where the format has the same width
 gives : (c : Class) (fmt at : Format) (A B : Type 0) (w : ℕ)
@@ -60,16 +59,23 @@ same_format_width : (indices : Indices) (fmt : Format) (amount : Option Manifest
 same_format_width indices fmt amount _ as_it_is = refl
 same_format_width indices fmt amount _ (by_amount is) = refl
 
-module _ (p : Program) (checked : IsChecked p) (es : Elements) (f : flat.Program) (flat_of : IsFlatOf p es f) where
-  -- one signal of an instance is declared in one way
-  decl_once : (e : Element) (is : IsElement p e) (g : Func) (decl : Decl)
-      → IsInstance p e.instance g
-      → slice_get (decls g) e.declaration ≡ Some decl
-      → is.decl ≡ decl
-  decl_once e is g decl instance at =
-      let functions : is.function ≡ g = instance_once p checked.calls e.instance is.function g is.instance instance in
-      some_once (subst (λ (z : Func). slice_get (decls z) e.declaration ≡ Some is.decl) functions is.declared) at
+-- the words of a body have the width of the element's type
+abbrev pub FitsBody : flat.Program → SigType → flat.Body → Type 0
+FitsBody f ty (flat.word j) = Unit {0}
+FitsBody f ty (flat.value y) = Fits f y (width_of ty)
 
+-- where a function's parameters and results stand among its declarations
+pub parameter_at : (g : Func) (d : ℕ) (decl : Decl)
+    → slice_get g.params d ≡ Some decl
+    → slice_get (decls g) d ≡ Some decl
+parameter_at g d decl at = in_first g.params (g.results ++ g.locals) d decl at
+
+pub result_at : (g : Func) (r : ℕ) (decl : Decl)
+    → slice_get g.results r ≡ Some decl
+    → slice_get (decls g) (length g.params + r) ≡ Some decl
+result_at g r decl at = in_second g.params (g.results ++ g.locals) r ∙ in_first g.results g.locals r decl at
+
+module _ (p : Program) (checked : IsChecked p) (es : Elements) (f : flat.Program) (flat_of : IsFlatOf p es f) where
   -- a read of an element whose words have w bits
   read_fits : (k : ℕ) (e : Element) (g : Func) (decl : Decl) (w : ℕ)
       → IsNumberOf es k e
@@ -83,7 +89,7 @@ module _ (p : Program) (checked : IsChecked p) (es : Elements) (f : flat.Program
       let there : slice_get f.elems k ≡ Some (element_of f k) = slice_get-get_or f.elems k no_element less in
       let it = flat_of.elements k e (element_of f k) is there in
       subst (λ (o : Option flat.Element). IsSomeAnd o (λ (x : flat.Element). width_of x.ty ≡ w)) (sym there)
-      (ap width_of (it.ty ∙ ap (λ (d : Decl). d.ty) (decl_once e it.is g decl instance at)) ∙ width)
+      (ap width_of (it.ty ∙ ap (λ (d : Decl). d.ty) (decl_once p checked e it.is g decl instance at)) ∙ width)
 
   table_fits : (name : List ℕ) (c : ConstDef) (k : ℕ) (v : ℤ) (w : ℕ)
       → table_named p name ≡ Some c
@@ -138,62 +144,49 @@ module _ (p : Program) (checked : IsChecked p) (es : Elements) (f : flat.Program
       all_fit (typed.part x rest) ys w h (y, others, is, these, e) =
           subst (λ (z : flat.Parts). AllFit f z w) (sym e) (expr_fits x y w h.0 is, all_fit rest others w h.1 these)
 
-  -- the words of a body have the width of the element's type
-  abbrev FitsBody : SigType → flat.Body → Type 0
-  FitsBody ty (flat.word j) = Unit {0}
-  FitsBody ty (flat.value y) = Fits f y (width_of ty)
-
   same_fits : (other : Element) (theirs ours : SigType) (g : Func) (decl : Decl) (body : flat.Body)
       → IsInstance p other.instance g
       → slice_get (decls g) other.declaration ≡ Some decl
       → decl.ty ≡ theirs
       → HasShapeOf theirs ours
       → IsBodyOf p es (same other theirs ours) body
-      → FitsBody ours body
+      → FitsBody f ours body
   same_fits other theirs ours g decl body instance at is_theirs shape (k, is, b) =
-      subst (FitsBody ours) (sym b)
+      subst (FitsBody f ours) (sym b)
       (read_fits k other g decl (width_of ours) is instance at (ap width_of is_theirs ∙ same_width theirs ours shape))
 
   -- the type that the definition of an element gives it is its own
   abbrev Fitting : Element → SigType → flat.Body → Type 0
-  Fitting e ty body = (is : IsElement p e) → FitsBody is.decl.ty body
+  Fitting e ty body = (is : IsElement p e) → FitsBody f is.decl.ty body
 
   own_type_fits : (e : Element) (i : Instance) (d k : ℕ) (g : Func) (decl : Decl) (body : flat.Body)
       → e ≡ element i d k
       → IsInstance p i g
       → slice_get (decls g) d ≡ Some decl
-      → FitsBody decl.ty body
+      → FitsBody f decl.ty body
       → Fitting e decl.ty body
   own_type_fits e i d k g decl body here instance at h is =
       let instance_is =
       subst (λ (z : Instance). IsInstance p z g) (sym (ap (λ (z : Element). z.instance) here)) instance in
       let at_is =
       subst (λ (n : ℕ). slice_get (decls g) n ≡ Some decl) (sym (ap (λ (z : Element). z.declaration) here)) at in
-      subst (λ (z : Decl). FitsBody z.ty body) (sym (decl_once e is g decl instance_is at_is)) h
-
-  parameter_at : (g : Func) (d : ℕ) (decl : Decl) → slice_get g.params d ≡ Some decl → slice_get (decls g) d ≡ Some decl
-  parameter_at g d decl at = in_first g.params (g.results ++ g.locals) d decl at
-
-  result_at : (g : Func) (r : ℕ) (decl : Decl)
-      → slice_get g.results r ≡ Some decl
-      → slice_get (decls g) (length g.params + r) ≡ Some decl
-  result_at g r decl at = in_second g.params (g.results ++ g.locals) r ∙ in_first g.results g.locals r decl at
+      subst (λ (z : Decl). FitsBody f z.ty body) (sym (decl_once p checked e is g decl instance_is at_is)) h
 
   pub body_fits : (e : Element) (source : Source) (body : flat.Body)
       → IsDefined p e source
       → IsBodyOf p es source body
       → (is : IsElement p e)
-      → FitsBody is.decl.ty body
-  body_fits e _ body (input at) b = λ is. subst (FitsBody is.decl.ty) (sym b) tt
+      → FitsBody f is.decl.ty body
+  body_fits e _ body (input at) b = λ is. subst (FitsBody f is.decl.ty) (sym b) tt
   body_fits e _ body (equated {s = s} {x = x} place d k decl found signal at) (y, flat_is, b) =
       own_type_fits e s.instance d k s.function decl body at found.instance
       (declared_at s.function place.name d decl signal.named)
-      (subst (FitsBody decl.ty) (sym b)
+      (subst (FitsBody f decl.ty) (sym b)
       (expr_fits s found.instance (typed_expr p s.function x decl.ty) y (width_of decl.ty)
       (equation_good p checked s place x d k decl found signal).fits flat_is))
   body_fits e _ body (argument {s = s} {x = x} c d decl arg scalar at) (y, flat_is, b) =
       own_type_fits e (made c) d 0 c.callee decl body at (made_is p s c) (parameter_at c.callee d decl arg.parameter)
-      (subst (FitsBody decl.ty) (sym b)
+      (subst (FitsBody f decl.ty) (sym b)
       (expr_fits s c.found.instance (typed_expr p s.function x decl.ty) y (width_of decl.ty)
       (argument_good p checked s c d decl x arg).fits flat_is))
   body_fits e _ body (array s c d m k decl theirs place arg arr below at) b =
@@ -203,7 +196,7 @@ module _ (p : Program) (checked : IsChecked p) (es : Elements) (f : flat.Program
       (source_fits p checked.names checked.types e _ (array s c d m k decl theirs place arg arr below at)) b)
   body_fits e _ body (by_table {t = t} {k = k} s c d decl place arg tab below at) (v, word_is, b) =
       own_type_fits e (made c) d k c.callee decl body at (made_is p s c) (parameter_at c.callee d decl arg.parameter)
-      (subst (FitsBody decl.ty) (sym b) (table_fits place.name t k v (width_of decl.ty) tab.named word_is
+      (subst (FitsBody f decl.ty) (sym b) (table_fits place.name t k v (width_of decl.ty) tab.named word_is
       (same_width (Fix t.ty) decl.ty
       (source_fits p checked.names checked.types e _ (by_table s c d decl place arg tab below at)))))
   body_fits e _ body (result s c r d k theirs decl place res scalar signal at) b =

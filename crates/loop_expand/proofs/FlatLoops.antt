@@ -180,11 +180,11 @@ module _ (p : Program) (es : Elements) where
     body_on e _ body (array_result s call r d k theirs decl place res arr inside at) b h =
         same_on _ theirs.ty decl.ty body b h
 
+pub single : (p : Program) → IsChecked p → HasSingleDefinitions p
+single p checked = single_definitions p checked.names checked.elements checked.calls
+
 module _ (p : Program) (checked : IsChecked p) (es : Elements) (numbering : IsNumbering p es)
     (distinct : HasDistinctNumbers es) (f : flat.Program) (flat_of : IsFlatOf p es f) where
-  single : HasSingleDefinitions p
-  single = single_definitions p checked.names checked.elements checked.calls
-
   pub at_number : (k : ℕ) (e : Element) → IsNumberOf es k e → IsFlatElement p es e (element_of f k)
   at_number k e is =
       let less : k < length f.elems =
@@ -201,7 +201,7 @@ module _ (p : Program) (checked : IsChecked p) (es : Elements) (numbering : IsNu
   needs_on : (k l : ℕ) (e c : Element) → IsNumberOf es k e → IsNumberOf es l c → NeedsNow p e c → ElementReads f k l 0
   needs_on k l e c is of (source, defined, reads) =
       let at = at_number k e is in
-      let one = single e at.is in
+      let one = single p checked e at.is in
       let sources : source ≡ at.source = one.only source defined ∙ sym (one.only at.source at.defined) in
       body_on p es checked distinct c l 0 of e at.source (element_of f k).body at.defined at.body
       (subst (λ (z : Source). SourceReads z c 0) sources reads)

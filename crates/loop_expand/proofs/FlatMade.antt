@@ -26,7 +26,7 @@ use Rattle.element_rules.specs.declared.elements.Element.{Element as Entry}
 use Rattle.element_rules.specs.declared.elements.Elements.{Elements}
 use Rattle.element_rules.specs.ElementRules.{elements_of}
 use Rattle.element_rules.specs.Expansion.{IsExpansion, elements_from, signals_of, elements_in}
-use Rattle.element_rules.specs.Numbering.{HasPath, of_main, of_call, IsNumbering}
+use Rattle.element_rules.specs.Numbering.{HasPath, of_main, of_call}
 use Rattle.element_rules.specs.Sizes.{first_of}
 use Rattle.element_rules.proofs.InputWords.{from_word, word_once}
 use Rattle.element_rules.proofs.SingleDefinitions.{single_definitions}
@@ -45,12 +45,13 @@ use Rattle.loop_expand.specs.Private.Expansions.{flat_by, main_inputs, main_outs
 use Rattle.loop_expand.proofs.Expanded.{numbering, main_there}
 use Rattle.loop_expand.proofs.FactsPut.{Has, After, rising_increases, among_contains, contains_among, facts_put}
 use Rattle.loop_expand.proofs.FactsPut.{facts_length}
-use Rattle.loop_expand.proofs.FlatWords.{input_count}
+use Rattle.loop_expand.proofs.FlatWords.{input_count, words_length}
 use Rattle.loop_expand.proofs.InstanceNumbers.{Bodies, Firsts, body_at_top, element_number, instance_body}
 use Rattle.loop_expand.proofs.Numbers.{numbered, element_once, path_once}
 use Rattle.element_rules.proofs.PresetsOnce.{presets_once}
+use Rattle.element_rules.proofs.LoadedElements.{elements_length}
 use Rattle.loop_expand.proofs.ProgramFacts.{AllFacts, facts_true, IsInput, defined_has, preset_has}
-use Rattle.loop_expand.proofs.SiteFacts.{IsTrueFact, AreTrue}
+use Rattle.loop_expand.proofs.SiteFacts.{IsTrueFact, AreTrue, first_left, first_right}
 
 -- The types of words.
 in_replicate : {A : Type 0} (n k : ℕ) (a : A) → k < n → slice_get (replicate n a) k ≡ Some a
@@ -70,13 +71,6 @@ words-cons x ds = flat_map-cons row x ds
 
 words-append : (ds es : List Decl) → word_types (ds ++ es) ≡ word_types ds ++ word_types es
 words-append ds es = flat_map-append row ds es
-
-words_long : (ds : List Decl) → length (word_types ds) ≡ elements_of ds
-words_long [] = refl
-words_long (x ∷ ds) =
-    ap length (words-cons x ds) ∙ length-append (row x) (word_types ds)
-    ∙ ap₂ ◌+◌ (long_replicate (element_count x.dims) x.ty) (words_long ds)
-    ∙ sym (sum_by-cons (λ (d : Decl). element_count d.dims) x ds)
 
 in_words : (ds : List Decl) (d k : ℕ) (decl : Decl)
     → slice_get ds d ≡ Some decl
@@ -303,23 +297,7 @@ types_long p bodies a (i ∷ is) all =
     (types_long p bodies (a + 1) is (λ n k e. all (suc n) k e))
     ∙ sym (length-append (elements_from a 0 (signals_of (slice_get p.tops i.func))) (elements_in p (a + 1) is))
 
-elements_long : (n d : ℕ) (ds : List Decl) → length (elements_from n d ds) ≡ elements_of ds
-elements_long n d [] = refl
-elements_long n d (x ∷ ds) =
-    length-append (map (λ k. record { inst = n; decl = d; place = k }) (range_with_len 0 (element_count x.dims)))
-    (elements_from n (d + 1) ds)
-    ∙ ap₂ ◌+◌ (rows 0 (element_count x.dims)) (elements_long n (d + 1) ds)
-    ∙ sym (sum_by-cons (λ (d : Decl). element_count d.dims) x ds)
-  where
-    rows : (a count : ℕ)
-        → length {A = Entry} (map (λ k. record { inst = n; decl = d; place = k }) (range_with_len a count)) ≡ count
-    rows a zero = refl
-    rows a (suc count) = ap suc (rows (a + 1) count)
-
 module _ (p : Program) (checked : IsChecked p) (es : Elements) (made_by : IsExpansion p es) where
-  Numbering : IsNumbering p es
-  Numbering = numbering p checked es made_by
-
   abbrev pub B : List Body
   B = Bodies p checked es made_by
 
@@ -331,13 +309,13 @@ module _ (p : Program) (checked : IsChecked p) (es : Elements) (made_by : IsExpa
 
   have_bodies : HaveBodies p B es.instances
   have_bodies n i e =
-      let it = Numbering.instances n i e in
+      let it = (numbering p checked es made_by).instances n i e in
       let top = body_at_top p es.instances n i it.func e it.stands in
       let f = typed_func p i.func it.func in
       let long : length (types_in (body_of B i.func)) ≡ elements_of (decls it.func) =
-      ap (λ (o : Option Body). length (types_in o)) top ∙ ap length (three_words f) ∙ words_long (decls_of f) in (
+      ap (λ (o : Option Body). length (types_in o)) top ∙ ap length (three_words f) ∙ words_length (decls_of f) in (
         long ∙ sym (ap size_in top),
-        long ∙ sym (elements_long 0 0 (decls it.func))
+        long ∙ sym (elements_length 0 0 (decls it.func))
             ∙ ap (λ (o : Option Top). length (elements_from 0 0 (signals_of o))) (sym it.stands),
       )
 
@@ -389,7 +367,7 @@ module _ (p : Program) (checked : IsChecked p) (es : Elements) (made_by : IsExpa
     leads : HasPath es.instances 0 main
 
   main_first : IsFirst
-  main_first = let it = Numbering.all_instances main Main main_instance in by it.0 main it.1 refl
+  main_first = let it = (numbering p checked es made_by).all_instances main Main main_instance in by it.0 main it.1 refl
     where
       by : (n : ℕ) (path : Path) → HasPath es.instances n path → path ≡ main → IsFirst
       by _ _ (of_main {i = i} e) same = record { i = i; there = e; leads = of_main e }
@@ -414,28 +392,6 @@ module _ (p : Program) (checked : IsChecked p) (es : Elements) (made_by : IsExpa
       omega arith
 
   -- the number of an input word
-  first_left : (ds more : List Decl) (i : ℕ) (d : Decl)
-      → slice_get ds i ≡ Some d
-      → first_of (ds ++ more) i ≡ first_of ds i
-  first_left [] more i d e = absurd (cc e)
-  first_left (x ∷ ds) more zero d e = refl
-  first_left (x ∷ ds) more (suc i) d e =
-      let one = sum_by-cons (λ (d : Decl). element_count d.dims) x (take i (ds ++ more)) in
-      let other = sum_by-cons (λ (d : Decl). element_count d.dims) x (take i ds) in
-      let rest = first_left ds more i d e in
-      omega arith
-
-  first_right : (ds more : List Decl) (r : ℕ) → first_of (ds ++ more) (length ds + r) ≡ elements_of ds + first_of more r
-  first_right [] more r = ap (first_of more) (zero-add r) ∙ sym (zero-add (first_of more r))
-  first_right (x ∷ ds) more r =
-      let number : length (x ∷ ds) + r ≡ suc (length ds + r) = omega arith in
-      let one = sum_by-cons (λ (d : Decl). element_count d.dims) x (take (length ds + r) (ds ++ more)) in
-      let all = sum_by-cons (λ (d : Decl). element_count d.dims) x ds in
-      let rest = first_right ds more r in
-      let next : first_of (x ∷ (ds ++ more)) (suc (length ds + r))
-      ≡ elements_of (x ∷ ds) + first_of more r = omega arith in
-      ap (first_of (x ∷ (ds ++ more))) number ∙ next
-
   input_there : (j : ℕ) (e : Element)
       → slice_get (inputs p) j ≡ Some e
       → slice_get (signals_of_path main 0 Main.params) j ≡ Some e
@@ -489,7 +445,7 @@ module _ (p : Program) (checked : IsChecked p) (es : Elements) (made_by : IsExpa
       at_right Main.params (Main.results ++ Main.locals) (length Main.params + r) r decl refl
       (at_left Main.results Main.locals r decl e) in
       let it =
-      numbered p es Numbering (element main (length Main.params + r) k)
+      numbered p es (numbering p checked es made_by) (element main (length Main.params + r) k)
       (record { function = Main; decl = decl; instance = main_instance; declared = declared; offset = less }) in
       let m = main_number it.0 (length Main.params + r) k it.1 in
       let right = first_right Main.params (Main.results ++ Main.locals) r in
@@ -568,7 +524,7 @@ module _ (p : Program) (checked : IsChecked p) (es : Elements) (made_by : IsExpa
               inputs_long : length (inputs p) ≡ length Inputs
               inputs_long =
                   ap (λ (o : Option Func). length (parameters_of o)) main_is_there ∙ signals_long 0 Main.params
-                  ∙ sym (words_long Main.params) ∙ sym (ap length (ap main_inputs main_body))
+                  ∙ sym (words_length Main.params) ∙ sym (ap length (ap main_inputs main_body))
                 where
                   signals_long : (a : ℕ) (ds : List Decl) → length (signals_of_path main a ds) ≡ elements_of ds
                   signals_long a [] = refl
@@ -618,7 +574,7 @@ module _ (p : Program) (checked : IsChecked p) (es : Elements) (made_by : IsExpa
       → slice_get (with_facts All Start) m ≡ Some x
       → IsFlatElement p es e x
   flat_element m e x number at =
-      let listed = Numbering.elements _ (contains_entry m e number) in
+      let listed = (numbering p checked es made_by).elements _ (contains_entry m e number) in
       let is : IsElement p e =
       subst (λ (i : Path). IsElement p (element i e.declaration e.offset))
       (path_once es.instances number.instance listed.path e.instance listed.leads number.leads) listed.element_is in

@@ -7,7 +7,6 @@ use Rattle.std.proofs.lemmas.Bool.{leb-true}
 use Rattle.std.proofs.lemmas.List.{length-replicate}
 use Rattle.std.proofs.lemmas.List.Elements.{All-nil, All-append, All-replicate, All-cons}
 use Rattle.std.proofs.lemmas.List.Sums.{sum_by-cons}
-use Rattle.std.proofs.lemmas.Nat.{column_fits}
 use Rattle.std.proofs.lemmas.Option.{slice_get_within}
 use Rattle.lists.proofs.Bools.{both_true as both_hold}
 use Rattle.fault_order.specs.Private.FirstMet.{first}
@@ -26,6 +25,7 @@ use Rattle.element_rules.specs.declared.elements.Elements.{Elements}
 use Rattle.element_rules.specs.Tables.{at_entry, table_rules}
 use Rattle.element_rules.specs.ElementRules.{elements_of, word_rules, main_table, element_rules}
 use Rattle.element_rules.proofs.PlacedFaults.{elements_pass}
+use Rattle.element_rules.proofs.SomeElements.{dims_some}
 use Rattle.signal_graph.specs.Flat as flat
 use Rattle.signal_graph.specs.Rules.{IsWithin, IsType}
 use Rattle.loop_expand.specs.Checked.{IsChecked}
@@ -36,21 +36,12 @@ use Rattle.loop_expand.proofs.Expanded.{main_there}
 use Rattle.loop_expand.proofs.FlatTypes.{IsAllowed, decl_allowed, is_type}
 
 -- dims that are allowed are those of an element or more
-dims_count : (dims : List ℕ) → list_all is_dim dims ≡ true → 1 ≤ element_count dims
-dims_count [] e = omega arith
-dims_count (dim ∷ dims) e =
-    let both = both_hold (is_dim dim) (list_all is_dim dims) e in
-    let one = leb-true 1 dim (both_hold (nat_le 1 dim) (nat_le dim most_elements) both.0).0 in
-    let rest = dims_count dims both.1 in
-    let most = column_fits 1 0 dim (element_count dims) (omega arith) (omega arith) in
-    omega arith
-
 decl_count : (d : Decl) → IsAllowed d → 1 ≤ element_count d.dims
 decl_count d is =
-    dims_count d.dims (both_hold (list_all is_dim d.dims) (nat_le (element_count d.dims) most_elements) is.dims).0
+    dims_some d.dims (both_hold (list_all is_dim d.dims) (nat_le (element_count d.dims) most_elements) is.dims).0
 
 -- how many words declarations have, and of which types
-words_length : (ds : List Decl) → length (word_types ds) ≡ elements_of ds
+pub words_length : (ds : List Decl) → length (word_types ds) ≡ elements_of ds
 words_length [] = refl
 words_length (x ∷ ds) =
     length-append (replicate (element_count x.dims) x.ty) (word_types ds)

@@ -45,9 +45,6 @@ module _ (p : Program) (f : Func) (P : Indices → typed.TypedItem → Type 0) w
       → OccursIn y outer x indices
       → P indices (typed_item p f x)
 
-  abbrev ItemsOf : Items → typed.TypedItems
-  ItemsOf ys = typed_items p f ys
-
   one_holds : (own : typed.TypedItem) (rest : List typed.TypedItem) (outer : Indices)
       → P outer own
       → ((k : ℕ) (y : typed.TypedItem) → slice_get rest k ≡ Some y → P outer y)
@@ -60,7 +57,7 @@ module _ (p : Program) (f : Func) (P : Indices → typed.TypedItem → Type 0) w
   plain_hold : (ys : Items) (outer : Indices)
       → Within ys outer
       → (k : ℕ) (y : typed.TypedItem)
-      → slice_get (plain_items (ItemsOf ys)) k ≡ Some y
+      → slice_get (plain_items (typed_items p f ys)) k ≡ Some y
       → P outer y
   plain_hold no_item outer all k y e = absurd (cc e)
   plain_hold (item (equation place v) rest) outer all k y e =
@@ -80,7 +77,7 @@ module _ (p : Program) (f : Func) (P : Indices → typed.TypedItem → Type 0) w
 
   own_hold : (ys : Items) (turns : List Indices)
       → AllWithin ys turns
-      → Holds (record { turns = turns; items = plain_items (ItemsOf ys) } ∷ [])
+      → Holds (record { turns = turns; items = plain_items (typed_items p f ys) } ∷ [])
   own_hold ys turns all zero g at =
       subst HoldsIn (some_once refl at)
       (λ j k indices y turn e. plain_hold ys indices (all indices (at_in turns j indices turn)) k y e)
@@ -92,10 +89,10 @@ module _ (p : Program) (f : Func) (P : Indices → typed.TypedItem → Type 0) w
   grouped_hold : (ys : Items) (turns : List Indices) (loops : List Group)
       → AllWithin ys turns
       → Holds loops
-      → Holds (grouped turns (ItemsOf ys) loops)
+      → Holds (grouped turns (typed_items p f ys) loops)
   grouped_hold ys [] loops all h = none_hold
   grouped_hold ys (t ∷ turns) loops all h =
-      both_hold loops (record { turns = t ∷ turns; items = plain_items (ItemsOf ys) } ∷ []) h
+      both_hold loops (record { turns = t ∷ turns; items = plain_items (typed_items p f ys) } ∷ []) h
       (own_hold ys (t ∷ turns) all)
 
   inner_within : (items : Items) (index : List ℕ) (lo hi : Manifest) (a : ℕ) (turns : List Indices)
@@ -114,19 +111,21 @@ module _ (p : Program) (f : Func) (P : Indices → typed.TypedItem → Type 0) w
     loop_holds (loop index lo hi items a) turns all =
         let sub = inner_within items index lo hi a turns all in
         grouped_hold items (turns_within turns index lo hi)
-        (loops_groups (turns_within turns index lo hi) (ItemsOf items)) sub
+        (loops_groups (turns_within turns index lo hi) (typed_items p f items)) sub
         (loops_hold items (turns_within turns index lo hi) sub)
 
-    loops_hold : (ys : Items) (turns : List Indices) → AllWithin ys turns → Holds (loops_groups turns (ItemsOf ys))
+    loops_hold : (ys : Items) (turns : List Indices)
+        → AllWithin ys turns
+        → Holds (loops_groups turns (typed_items p f ys))
     loops_hold no_item turns all = none_hold
     loops_hold (item y rest) turns all =
-        both_hold (loop_groups turns (typed_item p f y)) (loops_groups turns (ItemsOf rest))
+        both_hold (loop_groups turns (typed_item p f y)) (loops_groups turns (typed_items p f rest))
         (loop_holds y turns (λ outer h x indices o. all outer h x indices (inl o)))
         (loops_hold rest turns (λ outer h x indices o. all outer h x indices (inr o)))
 
-  pub groups_hold : Within f.items [] → Holds (groups_of (ItemsOf f.items))
+  pub groups_hold : Within f.items [] → Holds (groups_of (typed_items p f f.items))
   groups_hold all =
-      grouped_hold f.items ([] ∷ []) (loops_groups ([] ∷ []) (ItemsOf f.items)) outside
+      grouped_hold f.items ([] ∷ []) (loops_groups ([] ∷ []) (typed_items p f f.items)) outside
       (loops_hold f.items ([] ∷ []) outside)
     where
       outside : AllWithin f.items ([] ∷ [])

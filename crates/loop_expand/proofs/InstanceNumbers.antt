@@ -8,7 +8,6 @@ use Rattle.std.specs.Ordering.{int_eq}
 use Rattle.std.proofs.lemmas.Bool.Decides.{Decides-int_eq, eqb_tells}
 use Rattle.std.proofs.lemmas.List.FromFn.{length-map-range_with_len}
 use Rattle.std.proofs.lemmas.List.Sums.{sum_by-cons}
-use Rattle.std.proofs.lemmas.List.{length-append}
 use Rattle.std.proofs.lemmas.Option.{slice_get_within}
 use Rattle.lists.proofs.Places.{contains_at, at_left, at_right, some_once}
 use Rattle.silage_syntax.specs.declared.tree.Decl.{Decl}
@@ -21,7 +20,7 @@ use Rattle.element_rules.specs.declared.elements.Element.{Element as Entry}
 use Rattle.element_rules.specs.declared.elements.Elements.{Elements}
 use Rattle.element_rules.specs.ElementRules.{elements_of}
 use Rattle.element_rules.specs.Expansion.{IsExpansion, elements_from, signals_of, elements_in}
-use Rattle.element_rules.specs.Numbering.{HasPath, of_main, of_call, IsNumbering}
+use Rattle.element_rules.specs.Numbering.{HasPath, of_main, of_call}
 use Rattle.element_rules.specs.Sizes.{first_of}
 use Rattle.type_rules.specs.TypedTree as typed
 use Rattle.type_rules.specs.Translation.{typed_program, typed_func, typed_funcs}
@@ -33,6 +32,7 @@ use Rattle.loop_expand.proofs.Expanded.{numbering}
 use Rattle.loop_expand.proofs.Numbers.{path_once}
 use Rattle.element_rules.proofs.OncePaths.{number_once}
 use Rattle.element_rules.proofs.OnceTables.{spread, distinct_numbers}
+use Rattle.element_rules.proofs.LoadedElements.{elements_length}
 
 -- A declaration's elements among those of an instance.
 abbrev places : (n d a count : ℕ) → List Entry
@@ -74,14 +74,6 @@ in_decls n a (x ∷ ds) (suc d) k decl e less =
     ∙ ap (λ (q : ℕ). Some (record { inst = n; decl = q; place = k })) next
 
 -- all elements of declarations
-sized : (n d : ℕ) (ds : List Decl) → length (elements_from n d ds) ≡ elements_of ds
-sized n d [] = refl
-sized n d (x ∷ ds) =
-    length-append (places n d 0 (element_count x.dims)) (elements_from n (d + 1) ds)
-    ∙ ap₂ ◌+◌ (length-map-range_with_len (λ (k : ℕ). record { inst = n; decl = d; place = k }) 0 (element_count x.dims))
-    (sized n (d + 1) ds)
-    ∙ sym (sum_by-cons (λ (d : Decl). element_count d.dims) x ds)
-
 module _ (p : Program) (bodies : List Body) where
   -- the sizes by the bodies are those by the declarations
   abbrev AreSized : List Instance → Type 0
@@ -119,7 +111,7 @@ module _ (p : Program) (bodies : List Body) where
       (subst (λ (q : ℕ). slice_get (elements_from q 0 (signals_of (slice_get p.tops i.func))) j ≡ Some e) number
       there) in
       let size = all 0 x refl in
-      let long = sized a 0 (signals_of (slice_get p.tops x.func)) in
+      let long = elements_length a 0 (signals_of (slice_get p.tops x.func)) in
       let first = rest.1 in
       let m : ℕ = size_in (body_of bodies x.func) + rest.0 in
       let there_at : m + j
@@ -331,9 +323,6 @@ module _ (p : Program) (checked : IsChecked p) (es : Elements) (made : IsExpansi
   abbrev pub Firsts : List ℕ
   Firsts = firsts_from Bodies 0 es.instances
 
-  Numbering : IsNumbering p es
-  Numbering = numbering p checked es made
-
   -- a call makes one instance in a turn
   pub apart_instances : AreApart es.instances
   apart_instances = record {
@@ -352,7 +341,7 @@ module _ (p : Program) (checked : IsChecked p) (es : Elements) (made : IsExpansi
       → IsInstance p path f
       → slice_get p.tops i.func ≡ Some (function f)
   instance_body n i path f e leads instance =
-      let it = Numbering.instances n i e in
+      let it = (numbering p checked es made).instances n i e in
       let same_path : it.path ≡ path = path_once es.instances n it.path path it.leads leads in
       let same : it.func ≡ f =
       instance_once p checked.calls path it.func f
@@ -363,7 +352,7 @@ module _ (p : Program) (checked : IsChecked p) (es : Elements) (made : IsExpansi
       → slice_get es.instances n ≡ Some i
       → size_in (body_of Bodies i.func) ≡ elements_of (signals_of (slice_get p.tops i.func))
   sizes n i e =
-      let it = Numbering.instances n i e in
+      let it = (numbering p checked es made).instances n i e in
       ap size_in (body_at_top p es.instances n i it.func e it.stands)
       ∙ ap (λ (o : Option Top). elements_of (signals_of o)) (sym it.stands)
 
@@ -375,7 +364,7 @@ module _ (p : Program) (checked : IsChecked p) (es : Elements) (made : IsExpansi
       → IsNumberOf es m (element path d k)
       → m ≡ slice_index_or Firsts n 0 + first_of (decls f) d + k
   element_number n path f leads instance m d k number =
-      let it = (Numbering.elements _ (contains_at es.elements m _ number.listed)) in
+      let it = ((numbering p checked es made).elements _ (contains_at es.elements m _ number.listed)) in
       let at_path : it.path ≡ path = path_once es.instances number.instance it.path path it.leads number.leads in
       let is : IsElement p (element path d k) =
       subst (λ (q : Path). IsElement p (element q d k)) at_path it.element_is in

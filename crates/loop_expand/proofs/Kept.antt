@@ -10,12 +10,11 @@ use Rattle.silage_syntax.specs.Tree.{Program}
 use Rattle.silage_meaning.specs.Instances.{Element, IsElement, outputs}
 use Rattle.silage_meaning.specs.Value.{Words}
 use Rattle.silage_meaning.specs.Solves.{Source, IsDefined, Gives, IsInitial, Solves, IsStream, out}
-use Rattle.silage_meaning.specs.Rules.{IsDefinedOnce, HasSingleDefinitions}
+use Rattle.silage_meaning.specs.Rules.{IsDefinedOnce}
 use Rattle.silage_meaning.proofs.Sources.{gives_once}
 use Rattle.silage_meaning.proofs.Unique.{initial_once}
 use Rattle.element_rules.specs.declared.elements.Elements.{Elements}
 use Rattle.element_rules.specs.Numbering.{IsNumbering}
-use Rattle.element_rules.proofs.SingleDefinitions.{single_definitions}
 use Rattle.signal_graph.specs.Flat as flat
 use Rattle.signal_graph.specs.Rules.{word_before}
 use Rattle.signal_graph.specs.Values as flat_words
@@ -30,13 +29,11 @@ use Rattle.loop_expand.proofs.FlatSound.{body_sound}
 use Rattle.loop_expand.proofs.Inits.{inits_initial}
 use Rattle.loop_expand.proofs.ProgramSystem.{before_0, from_0, solves_system}
 use Rattle.loop_expand.proofs.Numbers.{stands, below, element_at, is_element_at, number_of, is_number_of}
+use Rattle.loop_expand.proofs.FlatLoops.{single}
 
 module _ (p : Program) (checked : IsChecked p) (es : Elements) (numbering : IsNumbering p es)
     (distinct : HasDistinctNumbers es) (f : flat.Program) (made : IsFlatOf p es f) (stream : Rows)
     (rows : IsStream p stream) where
-  single : HasSingleDefinitions p
-  single = single_definitions p checked.names checked.elements checked.calls
-
   -- what stands in the flat program at the number of an element
   record IsThere (k : ℕ) (e : Element) : Type 0 where
     there : slice_get f.elems k ≡ Some (element_of f k)
@@ -61,7 +58,8 @@ module _ (p : Program) (checked : IsChecked p) (es : Elements) (numbering : IsNu
         → Gives p stream words n source (body_value stream numbered n (element_of f k).body)
     given k e is n inside source defined =
         let at = at_number k e is in
-        let same : source ≡ at.is.source = once (single e at.is.is) source at.is.source defined at.is.defined in
+        let same : source ≡ at.is.source =
+        once (single p checked e at.is.is) source at.is.source defined at.is.defined in
         subst (λ (z : Source). Gives p stream words n z (body_value stream numbered n (element_of f k).body)) (sym same)
         (source_given p checked es stream rows f words numbered agree n inside e at.is.source (element_of f k).body
         at.is.defined at.is.body

@@ -15,6 +15,7 @@ use Rattle.element_rules.specs.declared.elements.Element.{Element as Entry}
 use Rattle.element_rules.specs.declared.elements.Elements.{Elements}
 use Rattle.element_rules.specs.Numbering.{HasPath, of_main, of_call, IsNumbering}
 use Rattle.element_rules.specs.Numbers.{IsNumberOf}
+use Rattle.loop_expand.specs.Private.Children.{same_turns}
 
 -- the steps that lead to a number are one list
 pub path_once : (is : List Instance) (n : ℕ) (a b : Path) → HasPath is n a → HasPath is n b → a ≡ b
@@ -59,11 +60,6 @@ less_or : (k m : ℕ) → k < suc m → (k ≡ m → ⊥) → k < m
 less_or k m less other = elim (cases_lt k m) [ inl h ↦ h | inr h ↦ absurd (other (omega arith)) ]
 
 -- Whether two elements are the same.
-abbrev same_turns : List ℤ → List ℤ → Bool
-same_turns [] [] = true
-same_turns (x ∷ xs) (y ∷ ys) = int_eq x y && same_turns xs ys
-same_turns _ _ = false
-
 abbrev same_path : Path → Path → Bool
 same_path main main = true
 same_path (inside i s) (inside j t) = same_path i j && (nat_eq s.at t.at && same_turns s.turns t.turns)

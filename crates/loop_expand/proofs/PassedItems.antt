@@ -17,25 +17,13 @@ use Rattle.silage_syntax.specs.Names.{declared}
 use Rattle.silage_meaning.specs.Instances.{Occurs, OccursIn, Site, IsItemAt, IsSignal}
 use Rattle.element_rules.specs.declared.fault.PlacedFault.TheVariants.{Delay}
 use Rattle.element_rules.specs.ElementFaults.{element_faults}
-use Rattle.element_rules.specs.Tables.{Table, rules, mark, in_order, Row, nothing, ◌▹◌, each, counts, Context, after}
+use Rattle.element_rules.specs.Tables.{Table, rules, mark, in_order, nothing, ◌▹◌, each, counts, Context, after}
 use Rattle.element_rules.specs.Tables.{table_rules, row_rules}
 use Rattle.element_rules.specs.ElementRules.{manifest_at, value_rules, subscript_rules, number_rules, samples, is_in}
 use Rattle.element_rules.specs.ElementRules.{picked, initial_value, initial_table, item_table, items_row, loop_turns}
 use Rattle.element_rules.specs.ElementRules.{instance_table}
 use Rattle.element_rules.proofs.LoopTurns.{IsAmong, turn_among}
-use Rattle.element_rules.proofs.CheckedInstances.{items_ok, checked}
-
-pub front_passes : (context : Context) (T : Table) (row : Row)
-    → first_in (row_rules context (T ▹ row)) ≡ Ok tt
-    → first (table_rules context T) ≡ Ok tt
-front_passes context T row ok =
-    (then_parts (first (table_rules context T)) (first_in (row_rules (after context T) row)) ok).0
-
-pub back_passes : (context : Context) (T : Table) (row : Row)
-    → first_in (row_rules context (T ▹ row)) ≡ Ok tt
-    → first_in (row_rules (after context T) row) ≡ Ok tt
-back_passes context T row ok =
-    (then_parts (first (table_rules context T)) (first_in (row_rules (after context T) row)) ok).1
+use Rattle.element_rules.proofs.CheckedInstances.{items_ok, checked, first_of_two, rest_of_two}
 
 -- after what comes before it, a table breaks no rule
 pub record IsPassed (T : Table) : Type 0 where
@@ -50,9 +38,9 @@ pub each_passed : (G : ℤ → Table) (turns : List ℤ) (turn : ℤ)
 each_passed G [] turn has context ok = absurd has
 each_passed G (t ∷ turns) turn (inl same) context ok =
     subst (λ (z : ℤ). IsPassed (G z)) (sym same)
-    (record { context = context; ok = front_passes context (G t) (each G turns) ok })
+    (record { context = context; ok = first_of_two context (G t) (each G turns) ok })
 each_passed G (t ∷ turns) turn (inr has) context ok =
-    each_passed G turns turn has (after context (G t)) (back_passes context (G t) (each G turns) ok)
+    each_passed G turns turn has (after context (G t)) (rest_of_two context (G t) (each G turns) ok)
 
 module _ (p : Program) (g : Func) (inside : Func → Table) where
   abbrev TableOf : Indices → Item → Table
@@ -84,13 +72,13 @@ module _ (p : Program) (g : Func) (inside : Func → Table) where
         let G : ℤ → Table = λ turn.
         in_order (mark (counts 1 at) ▹ items_row p g inside (outer ++ (index, turn) ∷ []) items) in
         let from =
-        back_passes context (rules (value_rules outer lo))
+        rest_of_two context (rules (value_rules outer lo))
         (rules (value_rules outer hi) ▹ in_order (each G turns) ▹ nothing) ok in
-        let to = back_passes context (rules (value_rules outer hi)) (in_order (each G turns) ▹ nothing) from in
-        let all = front_passes context (in_order (each G turns)) nothing to in
+        let to = rest_of_two context (rules (value_rules outer hi)) (in_order (each G turns) ▹ nothing) from in
+        let all = first_of_two context (in_order (each G turns)) nothing to in
         let one = each_passed G turns turn (turn_among outer lo hi turn is_turn) context all in
         item_passed items (outer ++ (index, turn) ∷ []) (after one.context (mark (counts 1 at)))
-        (back_passes one.context (mark (counts 1 at)) (items_row p g inside (outer ++ (index, turn) ∷ []) items) one.ok)
+        (rest_of_two one.context (mark (counts 1 at)) (items_row p g inside (outer ++ (index, turn) ∷ []) items) one.ok)
         x indices h
 
     pub item_passed : (items : Items) (outer : Indices) (context : Context)
@@ -100,11 +88,11 @@ module _ (p : Program) (g : Func) (inside : Func → Table) where
         → IsPassed (TableOf indices x)
     item_passed no_item outer context ok x indices h = absurd h
     item_passed (item y rest) outer context ok x indices (inl h) =
-        inside_passed y outer context (front_passes context (TableOf outer y) (items_row p g inside outer rest) ok) x
+        inside_passed y outer context (first_of_two context (TableOf outer y) (items_row p g inside outer rest) ok) x
         indices h
     item_passed (item y rest) outer context ok x indices (inr h) =
         item_passed rest outer (after context (TableOf outer y))
-        (back_passes context (TableOf outer y) (items_row p g inside outer rest) ok) x indices h
+        (rest_of_two context (TableOf outer y) (items_row p g inside outer rest) ok) x indices h
 
 in_samples : (j : ℕ) → is_in samples (pos j) ≡ true → (1 ≤ j) × (j ≤ 1023)
 in_samples j e = by (int_le (pos 1) (pos j)) (int_le (pos j) (pos 1023)) refl refl e
@@ -149,9 +137,9 @@ module _ (p : Program) (clear : IsClear (element_faults p)) where
           let its = rules (number_rules s.indices samples Delay amount) in
           let given =
           initial_value q.0 (picked s.indices q.1.dims place.subs) (manifest_value s.indices amount) place.at in
-          let behind = back_passes context subs (its ▹ given ▹ mark (counts 1 place.at) ▹ nothing) ok in
+          let behind = rest_of_two context subs (its ▹ given ▹ mark (counts 1 place.at) ▹ nothing) ok in
           let number : first (number_rules s.indices samples Delay amount) ≡ Ok tt =
-          front_passes context its (given ▹ mark (counts 1 place.at) ▹ nothing) behind in
+          first_of_two context its (given ▹ mark (counts 1 place.at) ▹ nothing) behind in
           let range =
           unless (option_map_or (is_in samples) (manifest_value s.indices amount) true)
           (Delay (manifest_at amount)) in

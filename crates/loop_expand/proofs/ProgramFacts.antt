@@ -20,7 +20,7 @@ use Rattle.element_rules.specs.declared.elements.Instance.{Instance}
 use Rattle.element_rules.specs.declared.elements.Elements.{Elements}
 use Rattle.element_rules.specs.ElementRules.{loop_turns}
 use Rattle.element_rules.specs.Expansion.{IsExpansion}
-use Rattle.element_rules.specs.Numbering.{HasPath, of_main, of_call, IsNumbering}
+use Rattle.element_rules.specs.Numbering.{HasPath, of_main, of_call}
 use Rattle.element_rules.proofs.LoopTurns.{IsAmong, turn_among, among_turn}
 use Rattle.element_rules.proofs.NamedItems.{within, instance_named}
 use Rattle.type_rules.specs.Translation.{typed_item, typed_items, typed_func, typed_program, word_of}
@@ -38,15 +38,7 @@ use Rattle.loop_expand.proofs.FactsPut.{Has}
 use Rattle.loop_expand.proofs.InstanceNumbers.{Bodies, Firsts, body_at_top, element_number, instance_body}
 use Rattle.loop_expand.proofs.SiteFacts.{IsAt, AreTrue, true_append, equation_says, equation_true, initial_says}
 use Rattle.loop_expand.proofs.SiteFacts.{initial_true, call_true, parameter_covered, result_covered, array_covered}
-
-has_left : (fs gs : List Fact) (x : Fact) → Has fs x → Has (fs ++ gs) x
-has_left [] gs x h = absurd h
-has_left (f ∷ fs) gs x (inl e) = inl e
-has_left (f ∷ fs) gs x (inr h) = inr (has_left fs gs x h)
-
-has_right : (fs gs : List Fact) (x : Fact) → Has gs x → Has (fs ++ gs) x
-has_right [] gs x h = h
-has_right (f ∷ fs) gs x h = inr (has_right fs gs x h)
+use Rattle.loop_expand.proofs.SiteFacts.{has_left, has_right}
 
 abbrev pub IsIn : Indices → List Indices → Type 0
 IsIn x [] = ⊥
@@ -141,9 +133,6 @@ joined-append G (x ∷ xs) ys =
     ap (λ l. G x ++ l) (joined-append G xs ys) ∙ sym (append_assoc (G x) (joined G xs) (joined G ys))
 
 module _ (p : Program) (checked : IsChecked p) (es : Elements) (made_by : IsExpansion p es) where
-  Numbering : IsNumbering p es
-  Numbering = numbering p checked es made_by
-
   abbrev True : List Fact → Type 0
   True fs = AreTrue p checked es made_by fs
 
@@ -471,7 +460,7 @@ module _ (p : Program) (checked : IsChecked p) (es : Elements) (made_by : IsExpa
     where
       each : (j : ℕ) (i : Instance) → slice_get es.instances j ≡ Some i → True (FactsIn (0 + j) (BodyOf i))
       each j i e =
-          let it = Numbering.instances j i e in
+          let it = (numbering p checked es made_by).instances j i e in
           let number : 0 + j ≡ j = omega arith in
           subst (λ (m : ℕ). True (FactsIn m (BodyOf i))) (sym number)
           (subst (λ (o : Option Body). True (FactsIn j o)) (sym (body_at_top p es.instances j i it.func e it.stands))
@@ -493,7 +482,7 @@ module _ (p : Program) (checked : IsChecked p) (es : Elements) (made_by : IsExpa
       → (a : A) × Has (item_facts c s.indices (typed_item p s.function x)) (Z a))
       → (a : A) × Has AllFacts (Z a)
   at_site s x found Z gives =
-      let n = Numbering.all_instances s.instance s.function found.instance in
+      let n = (numbering p checked es made_by).all_instances s.instance s.function found.instance in
       let i = some_instance n.0 s.instance n.1 in
       let top = instance_body p checked es made_by n.0 i.0 s.instance s.function i.1 n.1 found.instance in
       let b = body_for (typed_func p i.0.func s.function) in

@@ -11,7 +11,7 @@ use Rattle.fix_word.specs.declared.types.SigType.TheVariants.{Fix, Bool as Truth
 use Rattle.silage_syntax.specs.Tree.{Program}
 use Rattle.silage_meaning.specs.Types as meaning
 use Rattle.silage_meaning.specs.Value.{Words}
-use Rattle.silage_meaning.specs.Solves.{Solves, IsRow, IsStream, IsOneSolution, input_types, output_types, out}
+use Rattle.silage_meaning.specs.Solves.{Solves, IsRow, IsStream, input_types, output_types, out}
 use Rattle.silage_meaning.proofs.InputRows.{outputs_length}
 use Rattle.element_rules.specs.declared.elements.Elements.{Elements}
 use Rattle.element_rules.specs.Expansion.{IsExpansion}
@@ -89,9 +89,6 @@ module _ (p : Program) (checked : IsChecked p) (es : Elements) (made : IsExpansi
   sound : IsFlat f
   sound = flat_is_sound p checked es made f flat_of
 
-  only_one : (stream : Rows) → IsStream p stream → (words : Words) × IsOneSolution p stream words
-  only_one stream rows = program_solution p checked es made f flat_of stream rows sound loopless
-
   -- the flat program keeps the solutions of the program
   pub flat_keeps : KeepsElementSolutions p es f
   flat_keeps stream rows =
@@ -145,7 +142,7 @@ module _ (p : Program) (checked : IsChecked p) (es : Elements) (made : IsExpansi
     program_keeps = record {
       inputs = same_inputs;
       outs = same_outs;
-      one_solution = only_one;
+      one_solution = λ stream rows. program_solution p checked es made f flat_of stream rows sound loopless;
       solutions = λ stream rows. keeps_weaker (program_system p stream) (graph_system h stream) _
           (HaveEqualRows p h stream) (equal_rows stream rows) (through stream rows);
     }

@@ -8,7 +8,7 @@ use Rattle.std.proofs.lemmas.Option.{slice_get-map}
 use Rattle.lists.proofs.Places.{some_at}
 use Rattle.lists.proofs.Bools.{both_true}
 use Rattle.fault_order.specs.Ranked.{IsClear}
-use Rattle.fault_order.specs.Rules.{Rules, RuleRow, parts, own, none, ◌▸◌, each, unless}
+use Rattle.fault_order.specs.Rules.{RuleRow, parts, own, none, ◌▸◌, each, unless}
 use Rattle.fault_order.specs.Private.FirstMet.{first, first_in}
 use Rattle.fault_order.proofs.TableFaults.{then_parts, rule_holds}
 use Rattle.fix_word.specs.declared.types.FixType.{FixType}
@@ -32,7 +32,6 @@ use Rattle.name_rules.specs.NameRules as name
 use Rattle.name_rules.specs.NameFaults.{name_faults}
 use Rattle.name_rules.specs.Meanings.{is_element, read_dims, are_dims, is_fix_type}
 use Rattle.name_rules.specs.Contexts.{Context}
-use Rattle.name_rules.specs.declared.fault.NameFault.{NameFault}
 use Rattle.name_rules.specs.declared.fault.NameFault.TheVariants.{Arity, Size}
 use Rattle.element_rules.specs.declared.elements.Elements.{Elements}
 use Rattle.element_rules.specs.declared.fault.PlacedFault.{PlacedFault}
@@ -42,12 +41,13 @@ use Rattle.element_rules.specs.ElementRules.{Range, below, samples, delays, no_d
 use Rattle.element_rules.specs.ElementRules.{value_rules, number_rules, subscript_rules, amount_rules, read_rules}
 use Rattle.element_rules.specs.ElementRules.{readable, expr_rules, branch_rules}
 use Rattle.element_rules.proofs.SoundNames.{clear_first}
-use Rattle.element_rules.proofs.NamedItems.{equal, place_fits, within}
+use Rattle.element_rules.proofs.NamedItems.{equal, place_fits, within, first_each}
 use Rattle.type_rules.specs.TypedTree as typed
 use Rattle.type_rules.specs.TypedValue.{as_it_is, by_amount}
 use Rattle.type_rules.specs.Translation.{typed_expr, typed_choice, typed_against, typed_product, typed_cast}
 use Rattle.type_rules.specs.Translation.{typed_number, typed_truth, untyped, one, two, three, word_of}
 use Rattle.type_rules.proofs.SoundNames.{table_found}
+use Rattle.type_rules.proofs.Tests.{le_is}
 use Rattle.signal_graph.specs.Flat as flat
 use Rattle.element_rules.specs.Numbers.{IsNumberOf}
 use Rattle.loop_expand.specs.FlatOf.{IsTableWord, of_signal, of_table, IsFlatExpr, AreFlatParts}
@@ -58,9 +58,6 @@ pub record HasNumber (indices : Indices) (m : Manifest) (most : ℤ) : Type 0 wh
   pub k : ℕ
   pub value : manifest_value indices m ≡ Some (pos k)
   pub within : pos k ≤ℤ most
-
-le_is : (a b : ℤ) → int_le a b ≡ true → a ≤ℤ b
-le_is a b e = grind (arith, ints, e)
 
 -- a range from 0 on
 abbrev up_to : ℤ → Range
@@ -156,15 +153,6 @@ own_rest : {F : Type 0} (b : Bool) (g : F) (row : RuleRow F) → first (own b g 
 own_rest true g row ok = ok
 own_rest false g row ok = absurd (cc ok)
 
-each_ok : {A : Type 0} (G : A → Rules NameFault) (xs : List A) (k : ℕ) (x : A)
-    → first_in (each G xs) ≡ Ok tt
-    → slice_get xs k ≡ Some x
-    → first (G x) ≡ Ok tt
-each_ok G [] k x ok e = absurd (cc e)
-each_ok G (y ∷ xs) zero x ok e =
-    let same : y ≡ x = cc e in rw (← same) ((then_parts (first (G y)) (first_in (each G xs)) ok).0)
-each_ok G (y ∷ xs) (suc k) x ok e = each_ok G xs k x (then_parts (first (G y)) (first_in (each G xs)) ok).1 e
-
 module _ (p : Program) (names : IsClear (name_faults p)) where
   -- a table has as many numbers as its dims say
   pub table_sized : (n : List ℕ) (c : ConstDef) → table_named p n ≡ Some c → length c.words ≡ element_count c.dims
@@ -176,7 +164,7 @@ module _ (p : Program) (names : IsClear (name_faults p)) where
       sized k t e =
           let all : first_in (each (name.top_rules p) p.tops) ≡ Ok tt =
           clear_first (name.all_top_rules p) (λ r fault h. names (suc zero ∷ r) fault h) in
-          let own_ok : first (name.table_rules t) ≡ Ok tt = each_ok (name.top_rules p) p.tops k (table t) all e in
+          let own_ok : first (name.table_rules t) ≡ Ok tt = first_each (name.top_rules p) p.tops k (table t) all e in
           let count = unless (nat_eq (length t.words) (element_count t.dims)) (Arity t.at) in
           let rest =
           (then_parts (first (unless (are_dims t.dims && is_fix_type t.ty) (Size t.at))) (first_in (count ▸ none))

@@ -31,7 +31,7 @@ use Rattle.name_rules.specs.Meanings.{is_element, is_whole_array, signal_dims, r
 use Rattle.element_rules.specs.declared.elements.Instance.{Instance}
 use Rattle.element_rules.specs.declared.elements.Elements.{Elements}
 use Rattle.element_rules.specs.Expansion.{IsExpansion}
-use Rattle.element_rules.specs.Numbering.{HasPath, of_main, of_call, IsNumbering}
+use Rattle.element_rules.specs.Numbering.{HasPath, of_main, of_call}
 use Rattle.element_rules.specs.Tables.{Table, Context as Before, table_rules, row_rules, after, rules, in_order, each}
 use Rattle.element_rules.specs.declared.fault.PlacedFault.TheVariants.{Delay}
 use Rattle.element_rules.specs.ElementRules.{elements_of, subscript_rules, number_rules, samples, target_table}
@@ -75,17 +75,19 @@ some_of : {A : Type 0} (o : Option A) → is_some o ≡ true → (x : A) × (o �
 some_of (Some x) e = (x, refl)
 some_of None e = absurd (cc e)
 
-has_left : (fs gs : List Fact) (x : Fact) → Has fs x → Has (fs ++ gs) x
+pub has_left : (fs gs : List Fact) (x : Fact) → Has fs x → Has (fs ++ gs) x
 has_left [] gs x h = absurd h
 has_left (f ∷ fs) gs x (inl e) = inl e
 has_left (f ∷ fs) gs x (inr h) = inr (has_left fs gs x h)
 
-has_right : (fs gs : List Fact) (x : Fact) → Has gs x → Has (fs ++ gs) x
+pub has_right : (fs gs : List Fact) (x : Fact) → Has gs x → Has (fs ++ gs) x
 has_right [] gs x h = h
 has_right (f ∷ fs) gs x h = inr (has_right fs gs x h)
 
 -- Where declarations have their first elements.
-first_left : (ds es : List Decl) (i : ℕ) (d : Decl) → slice_get ds i ≡ Some d → first_of (ds ++ es) i ≡ first_of ds i
+pub first_left : (ds es : List Decl) (i : ℕ) (d : Decl)
+    → slice_get ds i ≡ Some d
+    → first_of (ds ++ es) i ≡ first_of ds i
 first_left [] es i d e = absurd (cc e)
 first_left (x ∷ ds) es zero d e = refl
 first_left (x ∷ ds) es (suc i) d e =
@@ -94,7 +96,7 @@ first_left (x ∷ ds) es (suc i) d e =
     let rest = first_left ds es i d e in
     omega arith
 
-first_right : (ds es : List Decl) (r : ℕ) → first_of (ds ++ es) (length ds + r) ≡ elements_of ds + first_of es r
+pub first_right : (ds es : List Decl) (r : ℕ) → first_of (ds ++ es) (length ds + r) ≡ elements_of ds + first_of es r
 first_right [] es r = ap (first_of es) (zero-add r) ∙ sym (zero-add (first_of es r))
 first_right (x ∷ ds) es r =
     let number : length (x ∷ ds) + r ≡ suc (length ds + r) = omega arith in
@@ -108,9 +110,6 @@ inside_once : (i j : Path) (a b : Step) → inside i a ≡ inside j b → (i ≡
 inside_once i j a b e = (cc, cc)
 
 module _ (p : Program) (checked : IsChecked p) (es : Elements) (made_by : IsExpansion p es) where
-  pub Numbering : IsNumbering p es
-  Numbering = numbering p checked es made_by
-
   -- the scope is that of an instance of the program, with all others
   pub record IsAt (i : Path) (f : Func) (c : Scope) : Type 0 where
     pub scope : IsScope p es i f c
@@ -165,7 +164,8 @@ module _ (p : Program) (checked : IsChecked p) (es : Elements) (made_by : IsExpa
         → IsSignal s place d decl k
         → (n : ℕ) × IsNumberOf es n (element s.instance d k)
     number_there place d k decl signal =
-        numbered p es Numbering (element s.instance d k) (signal_is p s place d k decl instance signal)
+        numbered p es (numbering p checked es made_by) (element s.instance d k)
+        (signal_is p s place d k decl instance signal)
 
     -- A place that names an element.
     pub record IsTarget (place : Place) : Type 0 where
@@ -225,7 +225,7 @@ module _ (p : Program) (checked : IsChecked p) (es : Elements) (made_by : IsExpa
     pub equation_flat : (place : Place) (x : Expr)
         → Occurs F.items [] (equation place x) s.indices
         → (ty : SigType)
-        → HasFlat p checked.names es Numbering s instance (typed_expr p F x ty)
+        → HasFlat p checked.names es (numbering p checked es made_by) s instance (typed_expr p F x ty)
     equation_flat place x occurs ty =
         let n = named_item (equation place x) occurs in
         let t = passed_item (equation place x) occurs in
@@ -235,7 +235,7 @@ module _ (p : Program) (checked : IsChecked p) (es : Elements) (made_by : IsExpa
         (then_parts (first (name.target_rules (within p F n.indices) (is_element place.subs) place)) _ n.ok).1 in
         let rest = then_parts (first (table_rules t.1.context target)) _ t.1.ok in
         let numbers_ok = then_parts (first (expr_rules p F s.indices x)) _ rest.1 in
-        expr_flat p checked.names es Numbering s instance n.indices x names.0 numbers_ok.0 ty
+        expr_flat p checked.names es (numbering p checked es made_by) s instance n.indices x names.0 numbers_ok.0 ty
 
     -- what an equation of this element says
     pub record Says (place : Place) (x : Expr) (decl : Decl) (n : ℕ) : Type 0 where
@@ -453,7 +453,8 @@ module _ (p : Program) (checked : IsChecked p) (es : Elements) (made_by : IsExpa
         pub found : child_of c.number q.at (turns_of s.indices) c.instances ≡ Some n
 
       pub child : IsChild
-      child = let it = Numbering.all_instances (made q) G made_instance in by it.0 (made q) it.1 refl
+      child =
+          let it = (numbering p checked es made_by).all_instances (made q) G made_instance in by it.0 (made q) it.1 refl
         where
           by : (n : ℕ) (path : Path) → HasPath es.instances n path → path ≡ made q → IsChild
           by _ _ (of_main e) other = absurd (cc other)
@@ -517,7 +518,7 @@ module _ (p : Program) (checked : IsChecked p) (es : Elements) (made_by : IsExpa
           → IsNumberOf es (First + fd + k) (parameter_of q d k)
       parameter_number d k fd decl e less is_first =
           let it =
-          numbered p es Numbering (parameter_of q d k)
+          numbered p es (numbering p checked es made_by) (parameter_of q d k)
           (record {
             function = G;
             decl = decl;
@@ -535,7 +536,7 @@ module _ (p : Program) (checked : IsChecked p) (es : Elements) (made_by : IsExpa
           → fd ≡ first_of (decls G) (length G.params + r)
           → IsNumberOf es (First + fd + k) (result_of q r k)
       result_number r k fd decl e less is_first =
-          let it = numbered p es Numbering (result_of q r k) (result_is p s q r k decl e less) in
+          let it = numbered p es (numbering p checked es made_by) (result_of q r k) (result_is p s q r k decl e less) in
           let m = child_number it.0 (length G.params + r) k it.1 in
           let same : it.0 ≡ First + fd + k = omega arith in
           subst (λ (n : ℕ). IsNumberOf es n (result_of q r k)) same it.1
@@ -547,7 +548,8 @@ module _ (p : Program) (checked : IsChecked p) (es : Elements) (made_by : IsExpa
           → IsNumberOf es (c.first + first_of (decls F) m + k) (element s.instance m k)
       array_number place dims m k theirs arr less =
           let it =
-          numbered p es Numbering (element s.instance m k) (array_is p s place dims m k theirs instance arr less) in
+          numbered p es (numbering p checked es made_by) (element s.instance m k)
+          (array_is p s place dims m k theirs instance arr less) in
           subst (λ (n : ℕ). IsNumberOf es n (element s.instance m k)) (at.scope.number it.0 m k it.1) it.1
 
       -- Arguments.
@@ -575,9 +577,10 @@ module _ (p : Program) (checked : IsChecked p) (es : Elements) (made_by : IsExpa
       pub argument_flat : (d : ℕ) (decl : Decl) (x : Expr)
           → IsArgument q d decl x
           → Scalar decl ≡ true
-          → HasFlat p checked.names es Numbering s instance (typed_expr p F x decl.ty)
+          → HasFlat p checked.names es (numbering p checked es made_by) s instance (typed_expr p F x decl.ty)
       argument_flat d decl x arg one =
-          expr_flat p checked.names es Numbering s instance is_named.indices x (argument_names d decl x true arg one)
+          expr_flat p checked.names es (numbering p checked es made_by) s instance is_named.indices x
+          (argument_names d decl x true arg one)
           (arg_ok d x arg.argument) decl.ty
 
       passed_scalar : (d fd : ℕ) (decl : Decl) (x : Expr)

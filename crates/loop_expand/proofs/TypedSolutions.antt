@@ -51,6 +51,7 @@ use Rattle.loop_expand.proofs.Inits.{inits_initial}
 use Rattle.loop_expand.proofs.InTypes.{in_shape, entry_in_type, IsTyped, AreTyped, value_in_type}
 use Rattle.loop_expand.proofs.Numbers.{number_of, is_number_of, below}
 use Rattle.loop_expand.proofs.ProgramKeeps.{in_type_back}
+use Rattle.loop_expand.proofs.FlatFits.{parameter_at, result_at}
 
 zero_in_type : (ty : SigType) → graphs.IsInType ty (pos 0)
 zero_in_type (sig.Fix t) = zero_word t.shape.w
@@ -90,14 +91,6 @@ module _ (p : Program) (checked : IsChecked p) (es : Elements) (made_of : IsExpa
       let at_is =
       subst (λ (n : ℕ). slice_get (decls g) n ≡ Some decl) (sym (ap (λ (z : Element). z.declaration) here)) at in
       subst (λ (z : Decl). IsInType z.ty v) (sym (decl_once p checked e is g decl instance_is at_is)) h
-
-  parameter_at : (g : Func) (d : ℕ) (decl : Decl) → slice_get g.params d ≡ Some decl → slice_get (decls g) d ≡ Some decl
-  parameter_at g d decl at = in_first g.params (g.results ++ g.locals) d decl at
-
-  result_at : (g : Func) (r : ℕ) (decl : Decl)
-      → slice_get g.results r ≡ Some decl
-      → slice_get (decls g) (length g.params + r) ≡ Some decl
-  result_at g r decl at = in_second g.params (g.results ++ g.locals) r ∙ in_first g.results g.locals r decl at
 
   -- the words of another element, of the same shape
   taken : (n : ℕ) (other : Element) (theirs ours : SigType) (g : Func) (decl : Decl) (v : ℤ)

@@ -1,6 +1,6 @@
 -- A typed expression that breaks no rule has allowed operations, formats and words, and words of the width of its type.
 use Rattle.std.proofs.Common.{◌≡◌, refl, sym, subst, ap, arith, ℕ, ◌+◌, Bool, true, false, Option, Some, None, ℤ}
-use Rattle.std.specs.Prelude.{pos, negsuc, ◌-ℤ◌, ◌*ℤ◌, neg_ℤ, ◌≤ℤ◌}
+use Rattle.std.specs.Prelude.{pos, negsuc, ◌-ℤ◌, ◌≤ℤ◌}
 use Rattle.std.proofs.lemmas.Int.{ints}
 use Rattle.fault_order.specs.Rules.{parts, none, ◌▸◌, unless}
 use Rattle.fault_order.specs.Private.FirstMet.{first}
@@ -35,6 +35,7 @@ use Rattle.type_rules.proofs.Literals.{Passes, raw_back}
 use Rattle.type_rules.proofs.Tests.{shape_is, sound_shape}
 use Rattle.type_rules.proofs.OwnTypes.{own_sound, factor_sound, common_sound}
 use Rattle.type_rules.proofs.SameValues.{two_pass, three_pass}
+use Rattle.type_rules.proofs.TypedForms.{left_bits, right_bits}
 use Rattle.signal_graph.specs.Operations.{Class, quantised, truth, operands, class_of, IsCalculation}
 use Rattle.signal_graph.specs.Rules.{width_of}
 use Rattle.signal_graph.specs.FlatRules.{IsFlatFormat, GivesWidth}
@@ -79,21 +80,15 @@ rounded_format : (t : FixType) (bits : ℤ)
     → IsFormat (rounded t bits)
 rounded_format t bits is low high = record { lowest = low; highest = high; width = is.width }
 
-left_shift : (k : ℕ) → negsuc 0 *ℤ pos k ≡ neg_ℤ (pos k)
-left_shift k = omega (arith, ints)
-
-right_shift : (k : ℕ) → pos 1 *ℤ pos k ≡ pos k
-right_shift k = omega (arith, ints)
-
 shift_formats : (left : Bool) (t : FixType) (amount : Manifest)
     → IsShape t.shape
     → HasFormats does.Pass (one_bit left t) (Some amount)
 shift_formats true t amount is indices _ (by_amount {k = k} m) =
-    let e = left_shift k in
+    let e = left_bits k in
     let most = m.most in
     (record { lowest = omega (arith, ints); highest = omega (arith, ints); width = is.width }, refl)
 shift_formats false t amount is indices _ (by_amount {k = k} m) =
-    let e = right_shift k in
+    let e = right_bits k in
     let most = m.most in
     (record { lowest = omega (arith, ints); highest = omega (arith, ints); width = is.width }, refl)
 
