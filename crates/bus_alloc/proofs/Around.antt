@@ -3,7 +3,6 @@ use Rattle.std.proofs.Common.{◌≡◌, ◌≢◌, ◌∙◌, ℕ, ◌+◌, ◌
 use Rattle.std.proofs.Common.{length, map, get_or, arith, sym, ap, subst, refl, ⊎_elim, inl, inr}
 use Rattle.std.specs.List.{All}
 use Rattle.std.proofs.lemmas.Bool.{cases_eq, cases_lt}
-use Rattle.std.proofs.lemmas.List.{get_or-map, length-map}
 use Rattle.std.proofs.Math.Nat.{mod-lt, mod-mod, mod-eq_of_lt, mod-add-mod, add-mod_right}
 use Rattle.operations.specs.declared.units.PortRef.{PortRef}
 use Rattle.datapath.specs.declared.types.Datapath.{Datapath}
@@ -13,16 +12,16 @@ use Rattle.plan_core.specs.Stages.{distance, IsGapAround, IsSameAround}
 use Rattle.plan_core.specs.declared.schedule.Transfer.{Transfer}
 use Rattle.plan_core.proofs.Distances.{at_distance, distance_is, gap_later, gap_before, cases_gap}
 use Rattle.bus_alloc.specs.Sets.{mark}
-use Rattle.bus_alloc.specs.Private.Rows.{IsPortIn, IsOpen, IsFirstOpen, IsFirstOpenAt, IsFirstOpenAround, unit_row}
+use Rattle.bus_alloc.specs.Private.Rows.{IsOpen, IsFirstOpen, IsFirstOpenAt, IsFirstOpenAround, unit_row}
 use Rattle.bus_alloc.specs.Private.Rows.{IsFirstOpenAfter}
 use Rattle.std.specs.Prelude.{Some}
-use Rattle.bus_alloc.specs.Private.Taking.{IsFirstTransfer, IsTransferIn, TakesAllAround}
+use Rattle.bus_alloc.specs.Private.Taking.{IsFirstTransfer, TakesAllAround}
 use Rattle.bus_alloc.specs.Private.Stands.{StandsAround, AreRowsAround, place_around}
 use Rattle.bus_alloc.specs.Table.{Placed, Reservations, IsTaken, with_placed, HasPort, FitsAround, IsFirstFitAround}
 use Rattle.bus_alloc.specs.Table.{AreTransfersAround}
 use Rattle.bus_alloc.specs.declared.rows.Rows.{Rows}
 use Rattle.bus_alloc.proofs.Growing.{one_placed, unit_free, takes_rows, stands_grown}
-use Rattle.bus_alloc.proofs.Standing.{latency_some, open_fits, fits_open, first_bus_of}
+use Rattle.bus_alloc.proofs.Standing.{latency_some, open_fits, fits_open, first_bus_of, ports_in, transfers_in}
 
 -- Cycles that are inserted on either side of one, around the period.
 
@@ -271,18 +270,18 @@ module _ (r : Reservations) (rows : Rows) (is : AreRowsAround r rows) (u : ℕ) 
         (omega (arith, latency_is, live))
 
     module _ (end : ℕ) (dests : List PortRef) (ports : All (HasPort r.datapath) dests) where
-      pub ports_around : All (IsPortIn rows) dests
-      ports_around k x less = let port = ports k x less in (omega (arith, is.stands.units, port.0), port.1)
-
       opens : (t : ℕ) → FitsAround end r u t dests → IsOpen rows u dests (place_of t)
-      opens t fits = fits_open r.datapath r.placed rows is.stands u unit_in end t dests ports_around tt fits
+      opens t fits =
+          fits_open r.datapath r.placed rows is.stands u unit_in end t dests
+          (ports_in r.datapath r.placed rows is.stands dests ports) tt fits
 
       fits_where_open : (t : ℕ)
           → t + latency_on r.datapath u ≤ end
           → IsOpen rows u dests (place_of t)
           → FitsAround end r u t dests
       fits_where_open t ends is_open =
-          open_fits r.datapath r.placed rows is.stands u unit_in end t dests ports_around tt ends is_open
+          open_fits r.datapath r.placed rows is.stands u unit_in end t dests
+          (ports_in r.datapath r.placed rows is.stands dests ports) tt ends is_open
 
       module _ (from first : ℕ) (first_is : first ≡ place_of from) where
         -- so many cycles later
@@ -349,25 +348,14 @@ module _ (r : Reservations) (rows : Rows) (is : AreRowsAround r rows) (u : ℕ) 
       module _ (transfers : List Transfer)
           (of_dests : map (λ (transfer : Transfer). transfer.port) transfers ≡ dests)
           (firsts : All (IsFirstTransfer rows u place) transfers) where
-        pub transfers_in_around : All (IsTransferIn rows) transfers
-        transfers_in_around k x less = record {
-          port = port_in k x less;
-          bus = (firsts k x less).route.number;
-        }
-          where
-            port_in : (k : ℕ) (x : Transfer) → k < length transfers → IsPortIn rows (get_or transfers k x).port
-            port_in k x less =
-                subst (IsPortIn rows) (get_or-map (λ (transfer : Transfer). transfer.port) transfers k x x.port less)
-                (subst (All (IsPortIn rows)) (sym of_dests) (ports_around fits.0 dests ports) k x.port
-                (omega (arith, length-map transfers (λ (transfer : Transfer). transfer.port))))
-
         pub transfers_are_around : AreTransfersAround r u t dests transfers
         transfers_are_around = record {
           ports = of_dests;
           buses = λ k x less.
               first_bus_of r.datapath r.placed rows is.stands u unit_in (result_on r.datapath u t)
               (get_or transfers k x)
-              (transfers_in_around k x less).port tt
+              (transfers_in rows u place dests transfers (ports_in r.datapath r.placed rows is.stands dests ports)
+              of_dests firsts k x less).port tt
               (subst (λ (w : ℕ). IsFirstTransfer rows u w (get_or transfers k x)) place_eq (firsts k x less));
         }
 

@@ -1,8 +1,9 @@
 -- What a table that stands for operations says of them.
-use Rattle.std.proofs.Common.{◌≡◌, ℕ, ◌+◌, ◌/◌, ◌%◌, ◌<◌, ◌≤◌, List, length, get_or, arith}
+use Rattle.std.proofs.Common.{◌≡◌, ℕ, ◌+◌, ◌/◌, ◌%◌, ◌<◌, ◌≤◌, List, length, get_or, arith, map, sym, subst}
 use Rattle.std.specs.Prelude.{Contains}
 use Rattle.std.specs.List.{All}
 use Rattle.std.proofs.lemmas.List.Elements.{All-contains, Contains-get_or}
+use Rattle.std.proofs.lemmas.List.{get_or-map, length-map}
 use Rattle.operations.specs.declared.units.PortRef.{PortRef}
 use Rattle.datapath.specs.declared.types.Datapath.{Datapath}
 use Rattle.plan_core.specs.Hardware.{latency_on, no_unit, IsRoute}
@@ -11,8 +12,8 @@ use Rattle.plan_core.specs.declared.schedule.Transfer.{Transfer}
 use Rattle.bit_sets.specs.Bits.{Has}
 use Rattle.bus_alloc.specs.Sets.{mark}
 use Rattle.bus_alloc.specs.Private.Rows.{IsPortIn, IsPortOpen, IsOpen, unit_row, file_row, bus_words}
-use Rattle.bus_alloc.specs.Private.Taking.{IsRouteFree, IsFirstTransfer}
-use Rattle.bus_alloc.specs.Table.{Placed, IsTaken}
+use Rattle.bus_alloc.specs.Private.Taking.{IsRouteFree, IsFirstTransfer, IsTransferIn}
+use Rattle.bus_alloc.specs.Table.{Placed, IsTaken, HasPort}
 use Rattle.bus_alloc.specs.Private.Stands.{IsFileRowOver, StandsOver}
 use Rattle.bus_alloc.specs.declared.rows.Rows.{Rows}
 
@@ -31,6 +32,9 @@ module _ {IsAway : (gap t u : ℕ) → Type 0} {IsSame : (w x : ℕ) → Type 0}
       → IsFileRowOver IsAway IsSame place IsKept d placed port (file_row rows port)
   file_at port is_in = let h : port.unit < length d.units = omega (arith, s.units, is_in.0) in s.file port.unit
       port.port h is_in.1
+
+  pub ports_in : (dests : List PortRef) → All (HasPort d) dests → All (IsPortIn rows) dests
+  ports_in dests ports k x less = let port = ports k x less in (omega (arith, s.units, port.0), port.1)
 
   module _ (u : ℕ) (within : u < length rows.units) where
     unit_within : u < length d.units
@@ -133,3 +137,20 @@ module _ {IsAway : (gap t u : ℕ) → Type 0} {IsSame : (w x : ℕ) → Type 0}
                   open_bit = free.free;
                 };
               }
+
+-- transfers of ports in the rows, each over its first bus
+pub transfers_in : (rows : Rows) (u place : ℕ) (dests : List PortRef) (transfers : List Transfer)
+    → All (IsPortIn rows) dests
+    → map (λ (transfer : Transfer). transfer.port) transfers ≡ dests
+    → All (IsFirstTransfer rows u place) transfers
+    → All (IsTransferIn rows) transfers
+transfers_in rows u place dests transfers ports of_dests firsts k x less = record {
+  port = port_in k x less;
+  bus = (firsts k x less).route.number;
+}
+  where
+    port_in : (k : ℕ) (x : Transfer) → k < length transfers → IsPortIn rows (get_or transfers k x).port
+    port_in k x less =
+        subst (IsPortIn rows) (get_or-map (λ (transfer : Transfer). transfer.port) transfers k x x.port less)
+        (subst (All (IsPortIn rows)) (sym of_dests) ports k x.port
+        (omega (arith, length-map transfers (λ (transfer : Transfer). transfer.port))))

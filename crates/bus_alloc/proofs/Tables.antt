@@ -1,18 +1,17 @@
 -- The answers of a table, by its rows.
-use Rattle.std.proofs.Common.{◌≡◌, ℕ, ◌+◌, ◌-◌, ◌<◌, ◌≤◌, ◌↔◌, List, length, map, get_or, arith, sym, subst, Bool}
+use Rattle.std.proofs.Common.{◌≡◌, ℕ, ◌+◌, ◌-◌, ◌<◌, ◌≤◌, ◌↔◌, List, length, map, get_or, arith, subst, Bool}
 use Rattle.std.proofs.Common.{IsTrue}
 use Rattle.std.specs.List.{All}
-use Rattle.std.proofs.lemmas.List.{get_or-map, length-map}
 use Rattle.operations.specs.declared.units.PortRef.{PortRef}
 use Rattle.plan_core.specs.Hardware.{latency_on}
 use Rattle.plan_core.specs.Reservations.{result_on, IsFirstBus}
 use Rattle.plan_core.specs.declared.schedule.Transfer.{Transfer}
 use Rattle.bus_alloc.specs.Table.{Reservations, IsTaken, with_placed, HasPort, FitsAt, IsFirstFitAt, AreTransfers}
-use Rattle.bus_alloc.specs.Private.Rows.{IsPortIn, IsOpen, IsFirstOpenAt, unit_row}
+use Rattle.bus_alloc.specs.Private.Rows.{IsOpen, IsFirstOpenAt, unit_row}
 use Rattle.bus_alloc.specs.Private.Stands.{AreRowsOf}
-use Rattle.bus_alloc.specs.Private.Taking.{IsFirstTransfer, IsTransferIn, TakesAll}
+use Rattle.bus_alloc.specs.Private.Taking.{IsFirstTransfer, TakesAll}
 use Rattle.bus_alloc.specs.declared.rows.Rows.{Rows}
-use Rattle.bus_alloc.proofs.Standing.{latency_some, ends_in, open_fits, fits_open, first_bus_of}
+use Rattle.bus_alloc.proofs.Standing.{latency_some, ends_in, open_fits, fits_open, first_bus_of, ports_in, transfers_in}
 use Rattle.bus_alloc.proofs.Growing.{changes_of, takes_rows}
 use Rattle.bus_alloc.proofs.Apart.{stands_apart}
 
@@ -27,15 +26,13 @@ module _ (r : Reservations) (rows : Rows) (is : AreRowsOf r rows) (u : ℕ) (the
   live = latency_some r.datapath r.placed rows is.stands u unit_in
 
   module _ (dests : List PortRef) (ports : All (HasPort r.datapath) dests) where
-    ports_in : All (IsPortIn rows) dests
-    ports_in k x less = let port = ports k x less in (omega (arith, is.stands.units, port.0), port.1)
-
     -- what fits is open in the cycle of its result
     fits_at : (t end : ℕ) → end ≡ t + ((unit_row rows u).latency - 1) → FitsAt r u t dests → IsOpen rows u dests end
     fits_at t end ends fits =
         let at : result_on r.datapath u t ≡ end = omega (arith, ends, latency_is) in
         subst (IsOpen rows u dests) at
-        (fits_open r.datapath r.placed rows is.stands u unit_in r.datapath.period t dests ports_in
+        (fits_open r.datapath r.placed rows is.stands u unit_in r.datapath.period t dests
+        (ports_in r.datapath r.placed rows is.stands dests ports)
         (ends_in r.datapath u t live fits.period) fits)
 
     pub answer_fits : (t end : ℕ) (answer : Bool)
@@ -47,7 +44,9 @@ module _ (r : Reservations) (rows : Rows) (is : AreRowsOf r rows) (u : ℕ) (the
         let at : end ≡ result_on r.datapath u t = omega (arith, ends, latency_is) in
         let before : t + latency_on r.datapath u ≤ r.datapath.period =
         omega (arith, in_period, latency_is, is.stands.period) in (
-          λ yes. open_fits r.datapath r.placed rows is.stands u unit_in r.datapath.period t dests ports_in
+          λ yes.
+              open_fits r.datapath r.placed rows is.stands u unit_in r.datapath.period t dests
+              (ports_in r.datapath r.placed rows is.stands dests ports)
               (ends_in r.datapath u t live before) before
               (subst (IsOpen rows u dests) at (answers.0 yes)),
           λ fits. answers.1 (fits_at t end ends fits),
@@ -84,7 +83,9 @@ module _ (r : Reservations) (rows : Rows) (is : AreRowsOf r rows) (u : ℕ) (the
         let at : end ≡ result_on r.datapath u (end - later) = omega (arith, later_is, latency_is, after) in
         record {
           after = omega (arith, after);
-          fits = open_fits r.datapath r.placed rows is.stands u unit_in r.datapath.period (end - later) dests ports_in
+          fits =
+              open_fits r.datapath r.placed rows is.stands u unit_in r.datapath.period (end - later) dests
+              (ports_in r.datapath r.placed rows is.stands dests ports)
               (omega (arith, later_is, latency_is, after, live, first.period, is.stands.period))
               (omega (arith, later_is, latency_is, after, live, first.period, is.stands.period))
               (subst (IsOpen rows u dests) at first.is_open);
@@ -107,25 +108,14 @@ module _ (r : Reservations) (rows : Rows) (is : AreRowsOf r rows) (u : ℕ) (the
       module _ (transfers : List Transfer)
           (of_dests : map (λ (transfer : Transfer). transfer.port) transfers ≡ dests)
           (firsts : All (IsFirstTransfer rows u end) transfers) where
-        pub transfers_in : All (IsTransferIn rows) transfers
-        transfers_in k x less = record {
-          port = port_in k x less;
-          bus = (firsts k x less).route.number;
-        }
-          where
-            port_in : (k : ℕ) (x : Transfer) → k < length transfers → IsPortIn rows (get_or transfers k x).port
-            port_in k x less =
-                subst (IsPortIn rows) (get_or-map (λ (transfer : Transfer). transfer.port) transfers k x x.port less)
-                (subst (All (IsPortIn rows)) (sym of_dests) ports_in k x.port
-                (omega (arith, length-map transfers (λ (transfer : Transfer). transfer.port))))
-
         pub transfers_are : AreTransfers r u t dests transfers
         transfers_are = record {
           ports = of_dests;
           buses = λ k x less.
               subst (λ (w : ℕ). IsFirstBus r.datapath (IsTaken r.placed) u w (get_or transfers k x)) result_at
               (first_bus_of r.datapath r.placed rows is.stands u unit_in end (get_or transfers k x)
-              (transfers_in k x less).port before (firsts k x less));
+              (transfers_in rows u end dests transfers (ports_in r.datapath r.placed rows is.stands dests ports)
+              of_dests firsts k x less).port before (firsts k x less));
         }
           where
             before : end < r.datapath.period

@@ -4,7 +4,8 @@ use Rattle.plan_core.specs.declared.schedule.Transfer.{Transfer}
 use Rattle.bus_alloc.specs.Table.{Reservations, with_placed}
 use Rattle.bus_alloc.specs.Private.Stands.{AreRowsOf}
 use Rattle.bus_alloc.specs.Private.Taking.{IsTransferIn, TakesAll}
-use Rattle.bus_alloc.proofs.Tables.{is_open_here, transfers_in, transfers_are, rows_with}
+use Rattle.bus_alloc.proofs.Tables.{is_open_here, transfers_are, rows_with}
+use Rattle.bus_alloc.proofs.Standing.{ports_in, transfers_in}
 use Rattle.bus_alloc.proofs.table.Table.take.Goals as goal
 
 pub transfers-requires-clause-is_open : goal.transfers-requires-clause-is_open
@@ -17,10 +18,11 @@ transfers-requires-clause-is_open c =
 pub reserve-requires-clause-transfers : goal.reserve-requires-clause-transfers
 reserve-requires-clause-transfers c =
     subst (All (IsTransferIn c.self.inside.rows)) (sym c.deref.ensures)
-    (transfers_in c.args.self.now c.self.inside.rows
-    (subst (λ (r : Reservations). AreRowsOf r c.self.inside.rows) c.self.view_is c.self.invariant) c.args.unit
-    c.requires.unit c.args.dests.now c.requires.ports c.args.cycle (c.args.cycle + c.latency.result - 1)
-    (omega (arith, c.latency.ensures.latency, c.latency.ensures.some.0)) c.requires.fits c.in_ok-transfers.transfers
+    (transfers_in c.self.inside.rows c.args.unit (c.args.cycle + c.latency.result - 1) c.args.dests.now
+    c.in_ok-transfers.transfers
+    (ports_in c.args.self.now.datapath c.args.self.now.placed c.self.inside.rows
+    (subst (λ (r : Reservations). AreRowsOf r c.self.inside.rows) c.self.view_is c.self.invariant).stands
+    c.args.dests.now c.requires.ports)
     c.in_ok-transfers.ensures.ports c.in_ok-transfers.ensures.buses)
 
 pub invariant_of-self : goal.invariant_of-self
