@@ -1,3 +1,3 @@
 pub mod Pushes
-mod Searches
+pub mod Searches
 pub mod Operands

@@ -5,28 +5,17 @@ use Rattle.std.specs.Prelude.{slice_index_or}
 use Rattle.std.proofs.lemmas.Bool.{cases_lt, cases_eq}
 use Rattle.std.proofs.lemmas.List.{get_or_past}
 use Rattle.datapath.specs.declared.types.Datapath.{Datapath}
-use Rattle.signal_graph.specs.declared.graph.Node.{Node}
 use Rattle.plan_core.specs.Operands.{node_of, edge_of, delay_at}
 use Rattle.plan_core.specs.Heights.{ReadsNow, latency_of}
 use Rattle.plan_core.specs.declared.schedule.Assigned.{Assigned}
 use Rattle.plan_core.proofs.Readers.{reader_there}
 use Rattle.schedule_priority.specs.Problem.{IsProblem}
-use Rattle.node_order.specs.Topological.{IsAt, HasOperand, IsOrdered}
+use Rattle.node_order.specs.Topological.{IsAt, HasOperand}
 use Rattle.schedule_priority.specs.Private.Heights.{height_in, most_height, AreHeightsOf, RaisesTo, RaisesOperands}
 use Rattle.schedule_priority.specs.Private.Heights.{IsRaising}
 use Rattle.node_order.proofs.Pushes.{len, below, top, at_split}
+use Rattle.node_order.proofs.Searches.{ordered_less}
 use Rattle.schedule_priority.proofs.Problems.{short, over_now}
-
--- an order without its last node
-ordered_less : (nodes : List Node) (rest : List ℕ) (v : ℕ) → IsOrdered nodes (rest ++ v ∷ []) → IsOrdered nodes rest
-ordered_less nodes rest v is = record {
-  there = λ i lt. subst (λ (w : ℕ). w < length nodes) (below rest v i lt) (is.there i (omega (arith, len rest v)));
-  operands = λ i u lt r.
-      let h = is.operands i u (omega (arith, len rest v))
-      (subst (λ (w : ℕ). HasOperand nodes w u) (sym (below rest v i lt)) r) in
-      let before = h.1 in
-      (h.0, h.1, sym (below rest v h.0 (omega arith)) ∙ h.2);
-}
 
 module _ (d : Datapath) (a : Assigned) (v height : ℕ) (first : List ℕ) where
   module _ (k : ℕ) (old : List ℕ) (before : RaisesOperands d a v k height first old) where
