@@ -1,8 +1,6 @@
 -- A graph has one schedule or one fault, and not both.
-use Rattle.std.proofs.Common.{◌≡◌, ◌⊎◌, ◌∙◌, ap, inl, inr, ⊎_elim, ℕ, ◌<◌, ◌≤◌, length, Result, Ok, Err}
+use Rattle.std.proofs.Common.{◌≡◌, ◌⊎◌, ◌∙◌, ap, inl, inr, ⊎_elim, ℕ, Result, Ok, Err}
 use Rattle.datapath.specs.declared.types.Datapath.{Datapath}
-use Rattle.plan_core.specs.Hardware.{latency_on}
-use Rattle.plan_core.specs.Operands.{Reads}
 use Rattle.plan_core.specs.Heights.{AreHeights}
 use Rattle.plan_core.specs.Reservations.{IsGapApart, IsOneCycle}
 use Rattle.plan_core.specs.ListSchedule.{cycle_of, IsEarlier, IsPlacedOver, IsListScheduleOver, IsListSchedule}
@@ -30,12 +28,6 @@ module _ (IsAway : (gap t u : ℕ) → Type 0) (IsSame : (w x : ℕ) → Type 0)
   abbrev Without : ℕ → Type 0
   Without v = IsWithoutCycleOver IsAway IsSame end Allows d a v
 
-  live : (u : ℕ) → 1 ≤ latency_on d u
-  live u = live_of d is.path u
-
-  inside : (v q x : ℕ) → Reads a.lowered.nodes v q x → x < length a.lowered.nodes
-  inside v q x r = operand_in d a is v q x r
-
   -- the node without a cycle has no place in another schedule in which the nodes before it have theirs
   refuted : (v : ℕ)
       → Without v
@@ -46,13 +38,17 @@ module _ (IsAway : (gap t u : ℕ) → Type 0) (IsSame : (w x : ℕ) → Type 0)
       → ⊥
   refuted v w z h hs before here =
       let agree = λ (u : ℕ) (r : IsEarlier a h v u).
-      one_slot_over IsAway IsSame end Allows d a live alike inside z w.schedule h w.height hs w.heights
+      one_slot_over IsAway IsSame end Allows d a (live_of d is.path) alike (operand_in d a is) z w.schedule h w.height
+      hs w.heights
       (IsEarlier a h v)
       (λ x y has e. earlier_trans a h v x y has e) (λ x there has. before x has)
-      (λ x there has. w.before x (earlier_same d a live w.height h w.heights hs v x w.there has)) u r.node r in
+      (λ x there has. w.before x (earlier_same d a (live_of d is.path) w.height h w.heights hs v x w.there has)) u
+      r.node r in
       w.none (cycle_of z v)
-      (can_same_over IsAway IsSame end Allows d a live alike inside z w.schedule h w.height hs w.heights v w.there
-      (λ u r. agree u (earlier_same d a live h w.height hs w.heights v u w.there r)) (cycle_of z v) here.can)
+      (can_same_over IsAway IsSame end Allows d a (live_of d is.path) alike (operand_in d a is) z w.schedule h w.height
+      hs w.heights v w.there
+      (λ u r. agree u (earlier_same d a (live_of d is.path) h w.height hs w.heights v u w.there r)) (cycle_of z v)
+      here.can)
 
   pub scheduled_not : (s : Schedule)
       → IsListScheduleOver IsAway IsSame end Allows d a s
@@ -67,7 +63,7 @@ module _ (IsAway : (gap t u : ℕ) → Type 0) (IsSame : (w x : ℕ) → Type 0)
       ⊎_elim (λ first. absurd (earlier-refuted v u x y (record { node = x.there; before = first })))
       (λ rest. ⊎_elim (λ same. same)
       (λ second. absurd (earlier-refuted u v y x
-      (earlier_same d a live x.height y.height x.heights y.heights v u x.there
+      (earlier_same d a (live_of d is.path) x.height y.height x.heights y.heights v u x.there
       (record { node = y.there; before = second })))) rest)
       (one_first a y.height v u)
     where

@@ -8,8 +8,7 @@ use Rattle.std.proofs.lemmas.List.{length-set}
 use Rattle.std.proofs.lemmas.List.Elements.{Contains-push, Contains-push_cases, Contains-append_left}
 use Rattle.operations.specs.declared.units.PortRef.{PortRef}
 use Rattle.datapath.specs.declared.types.Datapath.{Datapath}
-use Rattle.plan_core.specs.Hardware.{latency_on}
-use Rattle.plan_core.specs.Operands.{node_of, edge_of, delay_at, Reads}
+use Rattle.plan_core.specs.Operands.{node_of, edge_of, delay_at}
 use Rattle.plan_core.specs.Assigned.{unit_in}
 use Rattle.plan_core.specs.Heights.{ReadsNow, latency_of, AreHeights, IsPlacedBefore}
 use Rattle.plan_core.specs.Reservations.{result_on, IsFreeRouteOver, FitsOver, IsFirstBusOver}
@@ -148,12 +147,6 @@ module _ (IsAway : (gap t u : ℕ) → Type 0) (IsSame : (w x : ℕ) → Type 0)
 
     abbrev ArePlaced : (order : List ℕ) (k : ℕ) → List Slot → Reservations → Type 0
     ArePlaced order k slots table = ArePlacedOver IsAway IsSame end Allows d a order k slots table
-
-    live : (u : ℕ) → 1 ≤ latency_on d u
-    live u = live_of d is.path u
-
-    inside : (v q x : ℕ) → Reads a.lowered.nodes v q x → x < length a.lowered.nodes
-    inside v q x r = operand_in d a is v q x r
 
     -- where nothing else is asked of a cycle, the first one from where the operands are there on at which node v fits
     pub first_found : ((slots : List Slot) (v t : ℕ) → May slots v t)
@@ -301,7 +294,8 @@ module _ (IsAway : (gap t u : ℕ) → Type 0) (IsSame : (w x : ℕ) → Type 0)
 
             operand_same : (q x : ℕ) → ReadsNow a.lowered.nodes v q x → slot_at slots x ≡ slot_of z x
             operand_same q x r =
-                agree x (operand_earlier d a live b.height b.heights v q x (inside v q x r.reads) r)
+                agree x
+                (operand_earlier d a (live_of d is.path) b.height b.heights v q x (operand_in d a is v q x r.reads) r)
 
             can_from : (t : ℕ) → Open slots table v ports t → Can z b.height v t
             can_from t o = record {
@@ -382,7 +376,8 @@ module _ (IsAway : (gap t u : ℕ) → Type 0) (IsSame : (w x : ℕ) → Type 0)
           each_more j less =
               ⊎_elim
               (λ (early : j < k).
-              placed_same_over IsAway IsSame end Allows d a live alike inside (of_slots slots) z b.height b.heights
+              placed_same_over IsAway IsSame end Allows d a (live_of d is.path) alike (operand_in d a is)
+              (of_slots slots) z b.height b.heights
               (nth order j)
               (b.placing.there j (omega arith)) (agrees j less) (slot_else (nth order j) (index_else j early))
               (b.each j early))
