@@ -23,12 +23,10 @@ use Rattle.cyclic_life.specs.declared.read.Read.{Read}
 use Rattle.cyclic_life.proofs.LastReads.{lasts_keep, lasts_in_order, IsGreatest, lasts_greatest, HasLast, lasts_every}
 use Rattle.plan_core.proofs.Readers.{reader_there}
 use Rattle.cyclic_life.proofs.Counts.{is_count, covered_by, least_count}
+use Rattle.cyclic_life.proofs.ReadOrder.{alike_by}
 
 same_port : (u v p q : ℕ) → u ≡ v → p ≡ q → port_of u p ≡ port_of v q
 same_port u v p q unit port = ap (λ (x : ℕ). port_of x p) unit ∙ ap (λ (x : ℕ). port_of v x) port
-
-alike_by : (x y : Read) → x.unit ≡ y.unit → x.port ≡ y.port → x.w ≡ y.w → x.node ≡ y.node → is_alike x y ≡ true
-alike_by x y unit port w node = grind (arith, nat_tests)
 
 alike_unit : (x y : Read) → is_alike x y ≡ true → x.unit ≡ y.unit
 alike_unit x y alike = grind (arith, nat_tests)

@@ -8,12 +8,11 @@ use Rattle.std.proofs.lemmas.List.{get_or_read}
 use Rattle.std.proofs.lemmas.List.Elements.{All-get_or, All-push, Contains-push, Contains-append_left}
 use Rattle.std.proofs.Math.Nat.{mul-le-mul}
 use Rattle.operations.specs.Operations.{operands}
-use Rattle.datapath.specs.Allowed.{IsDatapath, IsUnit}
+use Rattle.datapath.specs.Allowed.{IsDatapath}
 use Rattle.datapath.specs.declared.types.Datapath.{Datapath}
 use Rattle.signal_graph.specs.GraphSolves.{no_node}
 use Rattle.signal_graph.specs.declared.graph.Edge.{Edge}
 use Rattle.signal_graph.specs.declared.graph.Node.{Node}
-use Rattle.plan_core.specs.Hardware.{no_unit, latency_on}
 use Rattle.plan_core.specs.Operands.{node_of, edge_of, no_edge, Reads}
 use Rattle.plan_core.specs.Assigned.{unit_in}
 use Rattle.plan_core.specs.Heights.{latency_of}
@@ -21,6 +20,7 @@ use Rattle.plan_core.specs.ListSchedule.{cycle_of}
 use Rattle.plan_core.specs.declared.schedule.Assigned.{Assigned}
 use Rattle.plan_core.specs.declared.schedule.Schedule.{Schedule}
 use Rattle.plan_core.proofs.Readers.{operands_few, reader_there, edge_has}
+use Rattle.plan_core.proofs.OneHeight.{live_of}
 use Rattle.cyclic_life.specs.Held.{IsHeld, IsInPeriod, IsOverStages}
 use Rattle.cyclic_life.specs.Private.Placed.{last_end, IsPlacement, read_of, IsRead, AreReadsBefore, AreReads}
 use Rattle.cyclic_life.specs.declared.read.Read.{Read}
@@ -46,9 +46,6 @@ pub port_count : (nodes : List Node) (c count : ℕ) (n : Node)
 port_count nodes c count n there n_is count_is =
     count_is ∙ ap (λ (m : Node). length m.edges) (get_or_read nodes c n there n_is no_node)
 
-unit_latency : (d : Datapath) → IsDatapath d → (u : ℕ) → u < length d.units → 1 ≤ latency_on d u
-unit_latency d is u there = (All-get_or (IsUnit d.units) d.units u no_unit there is.units).latency.0
-
 -- nodes that have their slots, in which they end in time
 pub placement_of : (d : Datapath) (a : Assigned) (s : Schedule)
     → IsDatapath d
@@ -64,7 +61,7 @@ placement_of d a s is held slots within =
       unit_count = held.unit_count;
       slot_count = slots;
       units = held.units;
-      latencies = λ v there. unit_latency d is (unit_in a.units v) (held.units v there);
+      latencies = λ v there. live_of d is (unit_in a.units v);
       ends_within = within;
       ports = λ c there.
           let few = operands_few (node_of nodes c).op in
