@@ -9,6 +9,7 @@ use Rattle.lists.proofs.Places.{at_set_same, at_set_other, some_once}
 use Rattle.micro_image.specs.declared.image.Image.{Image}
 use Rattle.net_core.specs.declared.types.Wire.{Wire}
 use Rattle.net_turns.specs.Marking.{IsMarking}
+use Rattle.net_turns.specs.Turns.{Point}
 use Rattle.proc_net.specs.declared.processor.Processor.{Processor}
 use Rattle.net_solution.specs.RowLists.{rows_of}
 use Rattle.net_solution.specs.Solutions.{Parts, shape_of}
@@ -17,16 +18,16 @@ use Rattle.proc_net.specs.Nets.{NetState, parts_of, points_of}
 use Rattle.proc_net.specs.Private.States.{IsProcessorIn, IsState}
 use Rattle.proc_net.proofs.Standing.{at_there}
 
+abbrev pub with_processor : NetState → ℕ → Processor → List ℤ → NetState
+with_processor net p new row = record {
+  processors = slice_set net.processors p new;
+  rows = slice_set net.rows p row;
+  stream = net.stream;
+  capacity = net.capacity;
+}
+
 module _ (net : NetState) (p : ℕ) (own new : Processor) (row : List ℤ) (there : slice_get net.processors p ≡ Some own)
     (code : new.machine.code ≡ own.machine.code) (feed : new.feed ≡ own.feed) where
-  abbrev changed : NetState
-  changed = record {
-    processors = slice_set net.processors p new;
-    rows = slice_set net.rows p row;
-    stream = net.stream;
-    capacity = net.capacity;
-  }
-
   own_there : get_or net.processors p own ≡ own
   own_there = (at_there net.processors p own there).1
 
@@ -42,7 +43,7 @@ module _ (net : NetState) (p : ℕ) (own new : Processor) (row : List ℤ) (ther
       map-set_same (λ processor. processor.feed) net.processors p new own
       (feed ∙ ap (λ (x : Processor). x.feed) (sym own_there))
 
-  pub parts_kept : parts_of changed ≡ parts_of net
+  pub parts_kept : parts_of (with_processor net p new row) ≡ parts_of net
   parts_kept =
       ap₂ (λ (images : List Image) (feeds : List (List Wire)).
       let parts : Parts = record {
@@ -52,8 +53,18 @@ module _ (net : NetState) (p : ℕ) (own new : Processor) (row : List ℤ) (ther
         stream = rows_of net.stream;
       } in parts) images_same feeds_same
 
-  module _ (is : IsState net) (marking : IsMarking (shape_of (parts_of changed)) (points_of changed))
-      (new_in : IsProcessorIn (parts_of net) is.puts p new row) where
+  -- its marking, by that of the points that it has now
+  pub marking_kept : (points : List Point)
+      → points_of (with_processor net p new row) ≡ points
+      → IsMarking (shape_of (parts_of net)) points
+      → IsMarking (shape_of (parts_of (with_processor net p new row))) (points_of (with_processor net p new row))
+  marking_kept points same marking =
+      subst (λ (parts : Parts). IsMarking (shape_of parts) (points_of (with_processor net p new row))) (sym parts_kept)
+      (subst (λ (points : List Point). IsMarking (shape_of (parts_of net)) points) (sym same) marking)
+
+  module _ (is : IsState net)
+      (marking : IsMarking (shape_of (parts_of (with_processor net p new row)))
+      (points_of (with_processor net p new row))) (new_in : IsProcessorIn (parts_of net) is.puts p new row) where
     inside : p < length net.processors
     inside = (at_there net.processors p own there).0
 
@@ -74,7 +85,7 @@ module _ (net : NetState) (p : ℕ) (own new : Processor) (row : List ℤ) (ther
               (sym (at_set_other net.rows p q row apart) ∙ r_there)
         ]
 
-    pub state_kept : IsState changed
+    pub state_kept : IsState (with_processor net p new row)
     state_kept = record {
       puts = is.puts;
       solved = subst (λ (parts : Parts). AreSolved parts is.puts) (sym parts_kept) is.solved;

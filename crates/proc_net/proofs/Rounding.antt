@@ -38,7 +38,7 @@ none_so_far net is = record {
   at = at_solution net is;
 }
 
-numbers_more : (n : ℕ) → range_with_len 0 (n + 1) ≡ range_with_len 0 n ++ n ∷ []
+pub numbers_more : (n : ℕ) → range_with_len 0 (n + 1) ≡ range_with_len 0 n ++ n ∷ []
 numbers_more n = range_more 0 n ∙ ap (λ (k : ℕ). range_with_len 0 n ++ k ∷ []) (zero-add n)
 
 none_before : (a b : Bool) → (a || b) ≡ false → a ≡ false

@@ -9,6 +9,7 @@ use Rattle.std.proofs.lemmas.List.{length-set, get_or-set_same, set-set, append-
 use Rattle.net_turns.specs.Turns.{NetShape, Point, start, point_of, period_of, next, lacks, after_turn, after_turns}
 use Rattle.net_turns.specs.Turns.{some_runs}
 use Rattle.net_turns.proofs.Moves.{turn-lacks}
+use Rattle.net_turns.proofs.Turns.{or_assoc}
 use Rattle.proc_net.specs.Nets.{sample_turns, turns_of_samples}
 
 -- the same number in all places
@@ -121,10 +122,6 @@ pub turns_after : (shape : NetShape) (points : List Point) (ps qs : List ℕ)
     → after_turns shape points (ps ++ qs) ≡ after_turns shape (after_turns shape points ps) qs
 turns_after shape points [] qs = refl
 turns_after shape points (p ∷ ps) qs = turns_after shape (after_turn shape points p) ps qs
-
-or_assoc : (a b c : Bool) → (a || (b || c)) ≡ ((a || b) || c)
-or_assoc true b c = refl
-or_assoc false b c = refl
 
 pub runs_after : (shape : NetShape) (points : List Point) (ps qs : List ℕ)
     → some_runs shape points (ps ++ qs)

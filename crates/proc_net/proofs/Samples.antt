@@ -1,11 +1,11 @@
 -- What the samples of some processors have done so far, and those of all.
 use Rattle.std.proofs.Common.{◌≡◌, ℕ, ◌<◌, ◌≤◌, Bool, true, false, ◌||◌, List, [], ◌++◌, length, refl, ap, sym, ◌∙◌}
 use Rattle.std.proofs.Common.{subst}
-use Rattle.std.proofs.Common.{arith, zero-add, ◌+◌, ◌∷◌}
+use Rattle.std.proofs.Common.{arith, ◌+◌}
 use Rattle.std.specs.List.{All, range_with_len}
 use Rattle.std.proofs.lemmas.List.Elements.{All-append}
+use Rattle.std.proofs.lemmas.Bool.{or_parts}
 use Rattle.lists.specs.Rows.{Rows}
-use Rattle.lists.proofs.Ranges.{range_more}
 use Rattle.net_turns.specs.Progress.{cycles_run, enough_rounds}
 use Rattle.net_turns.specs.Turns.{Point, point_of, period_of, lacks, after_turns, some_runs}
 use Rattle.net_turns.proofs.Rounds.{cycles_bound, turns_add, turns_keep}
@@ -16,6 +16,7 @@ use Rattle.proc_net.proofs.SampleTurns.{all_same_number, turns_after, runs_after
 use Rattle.proc_net.proofs.SampleTurns.{turns_later}
 use Rattle.proc_net.proofs.SampleTurns.{turns_push}
 use Rattle.proc_net.proofs.Standing.{feeds_length, at_solution}
+use Rattle.proc_net.proofs.Rounding.{numbers_more}
 
 pub none_took : (net : NetState) → TookTurns net net [] false
 none_took net =
@@ -80,13 +81,6 @@ pub record IsSoFar (old new : NetState) (number : ℕ) (moved : Bool) : Type 0 w
 pub none_so_far : (net : NetState) → IsState net → IsSoFar net net 0 false
 none_so_far net is = record { took = none_took net; stays = λ none. refl; at = at_solution net is }
 
-neither : (a b : Bool) → (a || b) ≡ false → (a ≡ false) × (b ≡ false)
-neither false b none = (refl, none)
-neither true b none = absurd (cc)
-
-numbers_more : (n : ℕ) → range_with_len 0 (n + 1) ≡ range_with_len 0 n ++ n ∷ []
-numbers_more n = range_more 0 n ∙ ap (λ (k : ℕ). range_with_len 0 n ++ k ∷ []) (zero-add n)
-
 turns_more : (old mid : NetState) (number : ℕ) (moved : Bool)
     → TookTurns old mid (turns_so_far old number) moved
     → turns_so_far old (number + 1)
@@ -113,7 +107,7 @@ one_sample_more old mid new number moved ran more so one stays at is = record {
       (took_more old mid new (turns_so_far old number)
       (sample_turns (shape_of (parts_of mid)) (points_of mid) number) moved ran so.took one));
   stays = λ none.
-      (let both = neither moved ran (sym is ∙ none) in stays both.1 ∙ so.stays both.0);
+      (let both = or_parts moved ran (sym is ∙ none) in stays both.1 ∙ so.stays both.0);
   at = at;
 }
 

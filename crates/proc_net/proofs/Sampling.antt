@@ -19,17 +19,16 @@ use Rattle.cycle_sim.specs.Machine.{state_of, sample_rows, IsAtSample, IsFirstOf
 use Rattle.cycle_sim.specs.Microcode.{micro_of}
 use Rattle.net_core.specs.declared.types.Wire.{Wire}
 use Rattle.net_turns.specs.Turns.{Point, start, point_of, period_of, lacks, after_turns}
-use Rattle.net_turns.specs.Marking.{IsMarking}
 use Rattle.net_turns.proofs.Rounds.{turns_keep}
 use Rattle.proc_net.specs.declared.processor.Processor.{Processor}
 use Rattle.net_solution.specs.RowLists.{row_in, count_in}
-use Rattle.net_solution.specs.Solutions.{Parts, program_of, shape_of, fed}
+use Rattle.net_solution.specs.Solutions.{program_of, shape_of, fed}
 use Rattle.net_solution.proofs.Cycles.{all_cycles, length-so_far, row_put}
 use Rattle.proc_net.specs.Nets.{NetState, parts_of, points_of, IsProcessorAt, sample_turns}
 use Rattle.proc_net.specs.Private.Reading.{point_at, points_by, shape_by}
 use Rattle.proc_net.specs.Private.Runs.{RanSample, CanRunSample}
 use Rattle.proc_net.specs.Private.States.{IsProcessorIn, IsState, TookTurns}
-use Rattle.proc_net.proofs.Changing.{parts_kept, state_kept}
+use Rattle.proc_net.proofs.Changing.{parts_kept, state_kept, with_processor, marking_kept}
 use Rattle.proc_net.proofs.Keeping.{keeps_more}
 use Rattle.proc_net.proofs.Reading.{feed_is}
 use Rattle.proc_net.proofs.SampleTurns.{all_same_number, turns_of_sample, sample_runs, turns_first}
@@ -155,14 +154,6 @@ module _ (net : NetState) (is : IsState net) (p : ℕ) (own : Processor) (old_ro
 
   -- after the sample
   module _ (new : Processor) (ran : RanSample row own new) where
-    abbrev after : NetState
-    after = record {
-      processors = slice_set net.processors p new;
-      rows = slice_set net.rows p row;
-      stream = net.stream;
-      capacity = net.capacity;
-    }
-
     abbrev turns : List ℕ
     turns = replicate (period_of (shape_of (parts_of net)) p) p
 
@@ -170,9 +161,6 @@ module _ (net : NetState) (is : IsState net) (p : ℕ) (own : Processor) (old_ro
     some_turns =
         let below = cycle net is p own old_row row there old_there runs_now row_is same in
         omega (arith, below, period net is p own old_row row there old_there runs_now row_is same)
-
-    parts_same : parts_of after ≡ parts_of net
-    parts_same = parts_kept net p own new row there ran.code ran.feed
 
     point_now : point_of (points_of net) p ≡ point_at own
     point_now = point net is p own old_row row there old_there runs_now row_is same
@@ -187,7 +175,7 @@ module _ (net : NetState) (is : IsState net) (p : ℕ) (own : Processor) (old_ro
         let here = inside net is p own old_row row there old_there runs_now row_is same in
         omega (arith, here, length-map net.processors point_at)
 
-    points_next : points_of after ≡ after_turns (shape_of (parts_of net)) (points_of net) turns
+    points_next : points_of (with_processor net p new row) ≡ after_turns (shape_of (parts_of net)) (points_of net) turns
     points_next =
         map-set point_at net.processors p new
         ∙ ap (λ (x : Point). slice_set (points_of net) p x) point_new
@@ -198,12 +186,6 @@ module _ (net : NetState) (is : IsState net) (p : ℕ) (own : Processor) (old_ro
     turns_within =
         all_same_number (λ q. q < length (shape_of (parts_of net)).feeds) (period_of (shape_of (parts_of net)) p) p
         (feed_inside net is p own old_row row there old_there runs_now row_is same)
-
-    marking_next : IsMarking (shape_of (parts_of after)) (points_of after)
-    marking_next =
-        subst (λ (parts : Parts). IsMarking (shape_of parts) (points_of after)) (sym parts_same)
-        (subst (λ (points : List Point). IsMarking (shape_of (parts_of net)) points) (sym points_next)
-        (turns_keep (shape_of (parts_of net)) is.solved.shape (points_of net) turns is.marking turns_within))
 
     is_ran : new.ran ≡ own.ran + 1
     is_ran = ap (λ (x : Point). x.ran) point_new
@@ -275,21 +257,27 @@ module _ (net : NetState) (is : IsState net) (p : ℕ) (own : Processor) (old_ro
           last = λ ends. omega (arith, old.last ends, ran.places);
         }
 
-    pub state_sampled : IsState after
-    state_sampled = state_kept net p own new row there ran.code ran.feed is marking_next new_in
+    pub state_sampled : IsState (with_processor net p new row)
+    state_sampled =
+        state_kept net p own new row there ran.code ran.feed is
+        (marking_kept net p own new row there ran.code ran.feed
+        (after_turns (shape_of (parts_of net)) (points_of net) turns)
+        points_next
+        (turns_keep (shape_of (parts_of net)) is.solved.shape (points_of net) turns is.marking turns_within)) new_in
 
-    turns_run : TookTurns net after turns true
+    turns_run : TookTurns net (with_processor net p new row) turns true
     turns_run = record {
-      parts = parts_same;
+      parts = parts_kept net p own new row there ran.code ran.feed;
       within = turns_within;
       points = points_next;
       some = sample_runs (shape_of (parts_of net)) p (points_of net) (point_at own) points_inside point_now first
           runs_now (period_of (shape_of (parts_of net)) p) some_turns;
     }
 
-    pub turns_taken : TookTurns net after (sample_turns (shape_of (parts_of net)) (points_of net) p) true
+    pub turns_taken :
+        TookTurns net (with_processor net p new row) (sample_turns (shape_of (parts_of net)) (points_of net) p) true
     turns_taken =
-        subst (λ (ps : List ℕ). TookTurns net after ps true)
+        subst (λ (ps : List ℕ). TookTurns net (with_processor net p new row) ps true)
         (sym (turns_first (shape_of (parts_of net)) (points_of net) p
         (ap (λ (x : Point). x.cycle) point_now ∙ first)))
         turns_run

@@ -4,7 +4,6 @@ use Rattle.std.proofs.Common.{replicate}
 use Rattle.std.proofs.Common.{take, Some, ℤ, refl, ap, ap₂, sym, ◌∙◌, subst, arith, inl, inr}
 use Rattle.std.specs.Prelude.{slice_get, slice_set}
 use Rattle.std.specs.List.{All}
-use Rattle.std.proofs.Math.ListN.{set}
 use Rattle.std.proofs.lemmas.List.{map-set, get_or-map, append-nil}
 use Rattle.std.proofs.lemmas.Bool.{cases_lt}
 use Rattle.std.proofs.Common.{mul-le-mul_left}
@@ -17,18 +16,17 @@ use Rattle.cycle_sim.specs.Machine.{IsOperand, state_of, MeetsConflict}
 use Rattle.cycle_sim.specs.Microcode.{micro_of, inputs_of}
 use Rattle.net_core.specs.declared.types.Wire.{Wire}
 use Rattle.net_turns.specs.Turns.{Point, point_of, period_of, next, lacks, after_turn}
-use Rattle.net_turns.specs.Marking.{IsMarking}
 use Rattle.net_turns.proofs.Kept.{Runs, runs, next-ends, next-goes, turn_keeps}
 use Rattle.proc_net.specs.declared.processor.Processor.{Processor}
 use Rattle.net_solution.specs.RowLists.{row_in}
-use Rattle.net_solution.specs.Solutions.{Parts, no_image, image_of, program_of, shape_of, fed}
+use Rattle.net_solution.specs.Solutions.{no_image, image_of, program_of, shape_of, fed}
 use Rattle.proc_net.specs.Nets.{NetState, parts_of, points_of, IsProcessorAt}
 use Rattle.proc_net.specs.Private.Reading.{point_at, HasRoom}
 use Rattle.proc_net.specs.Private.Runs.{Advanced, RanCycle}
 use Rattle.net_solution.specs.Private.Solved.{IsReadRow}
 use Rattle.proc_net.specs.Private.States.{Keeps, IsProcessorIn, IsState}
 use Rattle.net_solution.proofs.Cycles.{length-so_far, so_far-goes, so_far-ends, no_conflict, row_put}
-use Rattle.proc_net.proofs.Changing.{parts_kept, state_kept}
+use Rattle.proc_net.proofs.Changing.{parts_kept, state_kept, with_processor, marking_kept}
 use Rattle.proc_net.proofs.Keeping.{keeps_on, keeps_more}
 use Rattle.proc_net.proofs.Reading.{feed_is}
 use Rattle.net_solution.proofs.Solving.{length-fed}
@@ -141,33 +139,19 @@ module _ (net : NetState) (is : IsState net) (p : ℕ) (own : Processor) (old_ro
 
   -- after the cycle
   module _ (new : Processor) (ran : RanCycle row own new) where
-    abbrev pub after : NetState
-    after = record {
-      processors = slice_set net.processors p new;
-      rows = slice_set net.rows p row;
-      stream = net.stream;
-      capacity = net.capacity;
-    }
-
     advanced : Advanced (record own { machine = new.machine }) new
     advanced = ran.advanced
 
-    pub parts_same : parts_of after ≡ parts_of net
+    pub parts_same : parts_of (with_processor net p new row) ≡ parts_of net
     parts_same = parts_kept net p own new row there ran.code advanced.feed
 
-    pub points_next : points_of after ≡ after_turn (shape_of (parts_of net)) (points_of net) p
+    pub points_next : points_of (with_processor net p new row) ≡ after_turn (shape_of (parts_of net)) (points_of net) p
     unfolding after_turn
     points_next =
         map-set point_at net.processors p new
         ∙ ap (λ (x : Point). slice_set (points_of net) p x)
         (advanced.point ∙ ap₂ next (sym period) (sym point))
         ∙ rw runs_now refl
-
-    marking_next : IsMarking (shape_of (parts_of after)) (points_of after)
-    marking_next =
-        subst (λ (parts : Parts). IsMarking (shape_of parts) (points_of after)) (sym parts_same)
-        (subst (λ (points : List Point). IsMarking (shape_of (parts_of net)) points) (sym points_next)
-        (turn_keeps (shape_of (parts_of net)) is.solved.shape (points_of net) p is.marking feed_inside))
 
     -- the machine after the cycle
     stands_next :
@@ -270,5 +254,10 @@ module _ (net : NetState) (is : IsState net) (p : ℕ) (own : Processor) (old_ro
       last = λ ends. omega (arith, at.last ends, advanced.places);
     }
 
-    pub state_next : IsState after
-    state_next = state_kept net p own new row there ran.code advanced.feed is marking_next new_in
+    pub state_next : IsState (with_processor net p new row)
+    state_next =
+        state_kept net p own new row there ran.code advanced.feed is
+        (marking_kept net p own new row there ran.code advanced.feed
+        (after_turn (shape_of (parts_of net)) (points_of net) p)
+        points_next
+        (turn_keeps (shape_of (parts_of net)) is.solved.shape (points_of net) p is.marking feed_inside)) new_in
