@@ -8,10 +8,7 @@ use Rattle.signal_graph.specs.Flat.{Expr, Element, view_expr, view_elem, view_bo
 use Rattle.signal_graph.specs.Expressions.{parts_of, view_exprs}
 use Rattle.signal_graph.specs.GraphOf.{delays, parts_delay, body_delays, are_delayed}
 use Rattle.flow_graph.specs.Private.Delayed.{Marks}
-
-or_false : (b : Bool) → (b || false) ≡ b
-or_false true = refl
-or_false false = refl
+use mathlib.Core.Bool.{or-false}
 
 or_assoc : (a b c : Bool) → ((a || b) || c) ≡ (a || (b || c))
 or_assoc true b c = refl
@@ -36,7 +33,7 @@ marks_as old new f g same a =
 
 parts_delay_more : (e : ℕ) (xs : List Expr) (x : Expr)
     → (parts_delay e (parts_of xs) || delays e x) ≡ parts_delay e (parts_of (xs ++ x ∷ []))
-parts_delay_more e [] x = sym (or_false (delays e x))
+parts_delay_more e [] x = sym (or-false (delays e x))
 parts_delay_more e (y ∷ ys) x =
     or_assoc (delays e y) (parts_delay e (parts_of ys)) (delays e x)
     ∙ ap (λ b. delays e y || b) (parts_delay_more e ys x)
@@ -53,7 +50,7 @@ exprs_delay_more e xs i x within is =
 
 are_delayed_more : (e : ℕ) (xs : List Element) (x : Element)
     → (are_delayed e xs || body_delays e x.body) ≡ are_delayed e (xs ++ x ∷ [])
-are_delayed_more e [] x = sym (or_false (body_delays e x.body))
+are_delayed_more e [] x = sym (or-false (body_delays e x.body))
 are_delayed_more e (y ∷ ys) x =
     or_assoc (body_delays e y.body) (are_delayed e ys) (body_delays e x.body)
     ∙ ap (λ b. body_delays e y.body || b) (are_delayed_more e ys x)

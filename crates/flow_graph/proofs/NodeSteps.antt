@@ -3,7 +3,7 @@ use Rattle.std.proofs.Common.{◌≡◌, refl, sym, ap, subst, ◌∙◌, ℕ, �
 use Rattle.std.proofs.Common.{[], ◌∷◌, ◌++◌, Option, Some, None, length, take, map, arith}
 use Rattle.std.specs.Prelude.{ℤ, pos, ◌==◌, not, is_none, slice_get, slice_index_or}
 use Rattle.std.specs.List.{AllZip}
-use Rattle.std.proofs.lemmas.Bool.{cases_lt, eqb-true, eq-eqb}
+use Rattle.std.proofs.lemmas.Bool.{cases_lt, eqb-true, eq-eqb, ne_eqb}
 use Rattle.std.proofs.lemmas.Bool.Decides.{Decides-int_eq}
 use Rattle.std.proofs.lemmas.List.{take_more, take_all}
 use Rattle.std.proofs.lemmas.List.Quantifiers.{position-Some}
@@ -70,13 +70,6 @@ operation_by width inits edge o fmt os made f es is w same a b c d =
     (same_node o (pos 0) f (node_format (class_of o) fmt) es (map edge os) is inits w (node_width (class_of o) fmt)
     a b c d)
 
-unequal : (a b : ℕ) → (a ≡ b → ⊥) → (a == b) ≡ false
-unequal a b apart = by (a == b) refl
-  where
-    by : (x : Bool) → (a == b) ≡ x → (a == b) ≡ false
-    by false is = is
-    by true is = absurd (apart (eqb-true a b is))
-
 same_test : (nodes : List Site) (s : Site) (made : Made) (v : ℕ)
     → s.made ≡ made
     → IsPlaceNumber nodes s made v
@@ -96,7 +89,7 @@ same_test nodes s (constant m) v is h = by (word_position m nodes) refl
     by (Some w) e =
         let as_before = kept nodes s (constant m) is (ap (λ (o : Option ℕ). is_none o) e) in
         let low = (position-Some (is_target (word_node m)) nodes v s (sym (ap (word_position m) as_before) ∙ h)).0 in
-        unequal v (length nodes) (λ same. omega arith) ∙ sym (ap (λ (o : Option ℕ). is_none o) e)
+        ne_eqb v (length nodes) (λ same. omega arith) ∙ sym (ap (λ (o : Option ℕ). is_none o) e)
 
 module _ (p : Program) (i : ℕ) (s : Site) (at : slice_get (sites p) i ≡ Some s) where
   next_nodes : nodes_of (take (i + 1) (sites p)) ≡ with_site (nodes_of (take i (sites p))) s
@@ -191,7 +184,7 @@ module _ (p : Program) (i : ℕ) (s : Site) (at : slice_get (sites p) i ≡ Some
               let there = in_place p t (at_member (sites p) (i + 1) t e) in
               let low = slice_get_within (made_of p t.element) t.place t.made there.made in
               let size = ap (λ (d : ℕ). length (made_of p d)) same in
-              sym (unequal (s.place + 1) _ (λ end. elim
+              sym (ne_eqb (s.place + 1) _ (λ end. elim
               (later_above (sites p) 0 0 (elements_rise p 0 p.elems) i (i + 1) s t (omega arith) at e) [
                 | inl above ↦ omega arith
                 | inr above ↦ (let high = above.1 in omega (arith, count))

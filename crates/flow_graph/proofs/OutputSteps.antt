@@ -1,23 +1,19 @@
 -- The nodes of output words are added one after another, and then the graph is that of the program.
 use Rattle.std.proofs.Common.{◌≡◌, refl, sym, ap, subst, ◌∙◌, ℕ, ◌+◌, ◌<◌, ◌≤◌, inl, inr, List, [], ◌∷◌, ◌++◌, length}
 use Rattle.std.proofs.Common.{arith}
-use Rattle.std.specs.Prelude.{slice_get, slice_index_or, flat_map, sum_by, Some}
-use Rattle.std.specs.List.{enumerate_from}
+use Rattle.std.specs.Prelude.{slice_get, slice_index_or, sum_by, Some}
 use Rattle.std.proofs.lemmas.Bool.{cases_eq}
-use Rattle.std.proofs.lemmas.List.{length_push, length-append, get_or_push, get_or_append_left}
-use Rattle.std.proofs.lemmas.List.Sums.{sum_by-cons}
+use Rattle.std.proofs.lemmas.List.{length_push, get_or_push, get_or_append_left}
 use Rattle.std.proofs.lemmas.Option.{slice_get_within, get_or_from_slice_get}
 use Rattle.lists.proofs.Places.{some_once}
 use Rattle.signal_graph.specs.Flat.{Element, Program, size_of_body}
 use Rattle.signal_graph.specs.FlatRules.{IsFlat}
-use Rattle.signal_graph.specs.GraphOf.{Site, element_sites, sites, made_by_body, node_sites, IsMade, IsGraphOf}
+use Rattle.signal_graph.specs.GraphOf.{Site, sites, node_sites, IsMade, IsGraphOf}
 use Rattle.signal_graph.specs.GraphSolves.{no_node, node_of}
-use Rattle.signal_graph.specs.Rules.{width_of}
 use Rattle.signal_graph.specs.declared.graph.Graph.{Graph}
 use Rattle.signal_graph.specs.declared.graph.Node.{Node}
-use Rattle.signal_graph.proofs.GraphSound.{body_size}
+use Rattle.signal_graph.proofs.GraphSound.{sites_most}
 use Rattle.signal_graph.proofs.Members.{zip_length, zip_at}
-use Rattle.signal_graph.proofs.Nodes.{length_sites_from}
 use Rattle.signal_graph.proofs.Numbers.{number_below}
 use Rattle.flow_graph.specs.Private.ElementNodes.{AreElementNumbers}
 use Rattle.flow_graph.specs.Private.NodesBy.{AreMade}
@@ -65,22 +61,8 @@ one_output old now new elements outs k d node here low is push h =
     }
 
 module _ (p : Program) where
-  sites_most : (n : ℕ) (xs : List Element)
-      → length (flat_map (element_sites p) (enumerate_from n xs))
-      ≤ sum_by (λ (x : Element). size_of_body x.body) xs + length xs
-  sites_most n [] = omega arith
-  sites_most n (x ∷ xs) =
-      omega (
-        arith,
-        length-append (element_sites p (n, x)) (flat_map (element_sites p) (enumerate_from (n + 1) xs)),
-        length_sites_from n 0 (made_by_body p n (width_of x.ty) x.body),
-        body_size p n (width_of x.ty) x.body,
-        sum_by-cons (λ (y : Element). size_of_body y.body) x xs,
-        sites_most (n + 1) xs,
-      )
-
   pub few_sites : length (sites p) ≤ sum_by (λ (x : Element). size_of_body x.body) p.elems + length p.elems
-  few_sites = sites_most 0 p.elems
+  few_sites = sites_most p 0 p.elems
 
   pub outs_there : IsFlat p → (j e : ℕ) → slice_get p.outs j ≡ Some e → e < length p.elems
   outs_there sound j e at =

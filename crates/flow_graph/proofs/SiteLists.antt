@@ -1,34 +1,12 @@
 -- What is made at the places of expressions, one part after another.
-use Rattle.std.proofs.Common.{◌≡◌, ℕ, ◌+◌, ◌-◌, ◌<◌, List, [], ◌∷◌, ◌++◌, length, get_or, take, refl, sym, ap, ◌∙◌, map}
+use Rattle.std.proofs.Common.{◌≡◌, ℕ, ◌+◌, ◌-◌, ◌<◌, List, [], ◌∷◌, ◌++◌, length, get_or, take, sym, ap, ◌∙◌, map}
 use Rattle.std.proofs.Common.{arith}
-use Rattle.std.proofs.lemmas.List.{append-nil, take_more, map-append, length-append}
+use Rattle.std.proofs.lemmas.List.{append-nil, take_more, map-append}
 use mathlib.Core.List.{append_assoc}
 use Rattle.signal_graph.specs.declared.flat.FlatExpr.{FlatExpr}
-use Rattle.signal_graph.specs.Flat.{Expr, raw, read, calculation, Parts, no_part, part, size, size_of_parts, view_expr}
+use Rattle.signal_graph.specs.Flat.{Expr, part, size, size_of_parts, view_expr}
 use Rattle.signal_graph.specs.Expressions.{parts_of}
-use Rattle.signal_graph.specs.GraphOf.{Made, operation, operand_at, operands_from, made_by, made_by_parts, sites_from}
-
--- as many places as an expression has raw words, reads and calculations
-mutual
-  pub length_made : (k : ℕ) (x : Expr) → length (made_by k x) ≡ size x
-  length_made k (raw m) = refl
-  length_made k (read e ago) = refl
-  length_made k (calculation o fmt parts) =
-      let all = length_made_parts k parts in
-      let more = length-append (made_by_parts k parts) (operation o fmt (operands_from k parts) ∷ []) in
-      omega arith
-
-  pub length_made_parts : (k : ℕ) (parts : Parts) → length (made_by_parts k parts) ≡ size_of_parts parts
-  length_made_parts k no_part = refl
-  length_made_parts k (part x rest) =
-      let one = length_made k x in
-      let all = length_made_parts (k + size x) rest in
-      let more = length-append (made_by k x) (made_by_parts (k + size x) rest) in
-      omega arith
-
-pub length_sites : (e k : ℕ) (made : List Made) → length (sites_from e k made) ≡ length made
-length_sites e k [] = refl
-length_sites e k (x ∷ xs) = let rest = length_sites e (k + 1) xs in omega arith
+use Rattle.signal_graph.specs.GraphOf.{Made, operand_at, operands_from, made_by, made_by_parts, sites_from}
 
 pub sites_append : (e k : ℕ) (xs ys : List Made)
     → sites_from e k (xs ++ ys) ≡ sites_from e k xs ++ sites_from e (k + length xs) ys

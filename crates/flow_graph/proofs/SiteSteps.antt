@@ -9,11 +9,13 @@ use Rattle.signal_graph.specs.Flat.{Expr, calculation, Parts, no_part, size, siz
 use Rattle.signal_graph.specs.Expressions.{parts_of}
 use Rattle.signal_graph.specs.GraphOf.{Operand, place, Made, operation, operand_at, operands_from, made_by}
 use Rattle.signal_graph.specs.GraphOf.{made_by_parts, Site, sites_from}
+use Rattle.signal_graph.proofs.Parts.{length_made, length_made_parts}
+use Rattle.signal_graph.proofs.Nodes.{length_sites_from}
 use Rattle.flow_graph.specs.declared.sites.Operand.{Operand as CodeOperand}
 use Rattle.flow_graph.specs.declared.sites.Operand.TheVariants as is
 use Rattle.flow_graph.specs.declared.sites.Site.{Site as CodeSite}
 use Rattle.flow_graph.specs.Private.Sites.{view_operand, view_site, Extends, AddsSite, AddsPlaces, AddsParts}
-use Rattle.flow_graph.proofs.SiteLists.{length_made, length_made_parts, length_sites, sites_append, made_more}
+use Rattle.flow_graph.proofs.SiteLists.{sites_append, made_more}
 use Rattle.flow_graph.proofs.SiteLists.{operands_more}
 
 pub extends_length : (old new : List CodeSite) (e start : ℕ) (made : List Made)
@@ -22,7 +24,7 @@ pub extends_length : (old new : List CodeSite) (e start : ℕ) (made : List Made
 extends_length old new e start made h =
     let all = ap length h.is in
     let sum = length-append (map view_site old) (sites_from e (length old - start) made) in
-    let more = length_sites e (length old - start) made in
+    let more = length_sites_from e (length old - start) made in
     let before = length-map old view_site in
     let after = length-map new view_site in
     omega arith

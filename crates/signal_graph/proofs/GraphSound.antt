@@ -82,7 +82,7 @@ module _ (p : Program) where
       by true = omega (arith, length-append (made_by 0 x) (pass width x ∷ []), length_made 0 x)
       by false = omega (arith, length-append (made_by 0 x) [], length_made 0 x)
 
-  sites_most : (n : ℕ) (xs : List Element)
+  pub sites_most : (n : ℕ) (xs : List Element)
       → length (flat_map (element_sites p) (enumerate_from n xs))
       ≤ sum_by (λ (x : Element). size_of_body x.body) xs + length xs
   sites_most n [] = omega arith

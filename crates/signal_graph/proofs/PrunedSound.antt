@@ -38,7 +38,7 @@ argument_sound g h constant arg inputs outs is = is
 argument_sound g h _ arg inputs outs is = is
 
 module _ (g : Graph) (sound : IsGraph g) where
-  output_at : (j : ℕ) → j < g.outs → IsOutput j (node_of g (first_output g + j))
+  pub output_at : (j : ℕ) → j < g.outs → IsOutput j (node_of g (first_output g + j))
   output_at j lt = by (slice_get g.nodes (first_output g + j)) refl (sound.outputs j lt)
     where
       by : (o : Option Node)
@@ -64,7 +64,7 @@ module _ (g : Graph) (sound : IsGraph g) where
       by (Some node) h is =
           omega (arith, sound.out_count.0, slice_get_within g.nodes (first_output g + (g.outs - 1)) node h)
 
-  other_op : (v : ℕ) → v < first_output g → (node_of g v).op ≢ op.Output
+  pub other_op : (v : ℕ) → v < first_output g → (node_of g v).op ≢ op.Output
   other_op v lt =
       let fit = outputs_fit in
       let below : v < length (take (first_output g) g.nodes) = omega (arith, length-take (first_output g) g.nodes) in
