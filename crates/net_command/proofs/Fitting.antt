@@ -10,6 +10,7 @@ use Rattle.std.proofs.lemmas.List.FromFn.{length-map-range_with_len, get_or-map-
 use Rattle.std.proofs.lemmas.Option.{slice_get-get_or, slice_get_within}
 use Rattle.lists.specs.Rows.{Rows}
 use Rattle.lists.proofs.Zips.{zip_length}
+use Rattle.lists.proofs.Places.{some_at}
 use Rattle.fault_order.specs.Ranked.{IsClear}
 use Rattle.fault_order.specs.Rules.{faults}
 use Rattle.fix_word.specs.declared.types.SigType.{SigType}
@@ -22,7 +23,7 @@ use Rattle.net_command.specs.Nets.{row_channels, net_parts, IsSolvedNet}
 use Rattle.net_command.specs.Ports.{program_ports}
 use Rattle.net_command.specs.Processors.{ProcPlan, programs_of, images_of, ports_of}
 use Rattle.net_command.specs.Private.Prepared.{IsPrepared}
-use Rattle.net_command.proofs.Places.{at_place, all_at, get_or-map_at, map_from}
+use Rattle.net_command.proofs.Places.{all_at, get_or-map_at, map_from}
 use Rattle.net_command.proofs.TypeRanges.{same_width, alike_type, in_range}
 use Rattle.net_core.specs.Allowed.{IsNetFile, IsProc, IsWire, AreProcsFrom}
 use Rattle.net_core.specs.declared.types.NetFile.{NetFile}
@@ -194,8 +195,8 @@ module _ (file : NetFile) (allowed : IsNetFile file) (plans : List ProcPlan)
   is_part : (p : ℕ) → p < length (images_of plans) → IsPart parts p
   is_part p h =
       let inside : p < length plans = omega (arith, h, images_count) in
-      let (its, there) = at_place plans p inside in
-      let (proc, proc_is) = at_place file.procs p (omega (arith, inside, count)) in
+      let (its, there) = some_at plans p inside in
+      let (proc, proc_is) = some_at file.procs p (omega (arith, inside, count)) in
       let own = its_prepared p its there in
       let feed : feed_to parts p ≡ proc.feed =
       get_or-map_at (λ (x : NetProc). x.feed) file.procs p proc [] proc_is in

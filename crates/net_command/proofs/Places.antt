@@ -1,15 +1,10 @@
 -- What stands at a place of a list.
-use Rattle.std.proofs.Common.{◌≡◌, ◌<◌, ℕ, zero, suc, List, [], ◌∷◌, length, map, get_or, Some, refl, subst, arith}
+use Rattle.std.proofs.Common.{◌≡◌, ℕ, zero, suc, List, [], ◌∷◌, map, get_or, Some, refl, subst}
 use Rattle.std.specs.Prelude.{slice_get}
 use Rattle.std.specs.List.{All}
 use Rattle.std.proofs.lemmas.Option.{slice_get_within, get_or_from_slice_get}
 
 module _ {A : Type 0} where
-  pub at_place : (xs : List A) (i : ℕ) → i < length xs → (x : A) × (slice_get xs i ≡ Some x)
-  at_place [] i h = absurd (omega (arith, h))
-  at_place (x ∷ xs) zero h = (x, refl)
-  at_place (x ∷ xs) (suc i) h = at_place xs i (omega (arith, h))
-
   pub all_at : (P : A → Type 0) (xs : List A) (i : ℕ) (x : A) → All P xs → slice_get xs i ≡ Some x → P x
   all_at P xs i x all is =
       subst P (get_or_from_slice_get xs i x x is) (all i x (slice_get_within xs i x is))

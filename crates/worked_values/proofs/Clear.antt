@@ -4,7 +4,7 @@ use Rattle.std.proofs.Common.{not, ◌||◌, cond, if◌then◌else◌, length, 
 use Rattle.std.proofs.Common.{Option, ℤ, pos, negsuc, nat_lt}
 use Rattle.std.proofs.Common.{true≢false, inl, inr}
 use Rattle.std.specs.List.{list_all, list_any}
-use Rattle.std.proofs.lemmas.Bool.{and_parts, cases_lt}
+use Rattle.std.proofs.lemmas.Bool.{and_parts, cases_lt, eqb-true}
 use Rattle.std.proofs.lemmas.List.Sums.{sum_by-cons}
 use Rattle.std.proofs.lemmas.Bool.Decides.{nat_tests}
 use Rattle.lists.specs.Rows.{Rows}
@@ -45,15 +45,12 @@ one_here : (b : Bool) (n : ℕ) → (b ≡ true → n ≡ 0) → n < 2 → cond 
 one_here true n none rest = omega (arith, none refl)
 one_here false n none rest = omega (arith, rest)
 
-same_number : (m n : ℕ) → (m == n) ≡ true → m ≡ n
-same_number m n e = grind (arith, nat_tests)
-
 at_most_once : {A : Type 0} (f : A → ℕ) (xs : List A) → apart f xs ≡ true → (k : ℕ) → count_by (λ y. f y == k) xs < 2
 at_most_once f [] h k = omega arith
 at_most_once f (x ∷ xs) h k =
     let parts = and_parts (list_all (λ y. not (f y == f x)) xs) (apart f xs) h in
     rw (counted f k x xs) (one_here (f x == k) (count_by (λ y. f y == k) xs)
-    (λ e. subst (λ n. count_by (λ y. f y == n) xs ≡ 0) (same_number (f x) k e) (none_counted f (f x) xs parts.0))
+    (λ e. subst (λ n. count_by (λ y. f y == n) xs ≡ 0) (eqb-true (f x) k e) (none_counted f (f x) xs parts.0))
     (at_most_once f xs parts.1 k))
 
 -- an element that is counted, with what holds of each
@@ -74,7 +71,7 @@ some_counted f k p [] all some = absurd (omega (arith, some))
 some_counted f k p (x ∷ xs) all some =
     let parts = and_parts (p x) (list_all p xs) all in
     this_or_later (f x == k) (count_by (λ y. f y == k) xs)
-    (λ e. record { element = x; number = same_number (f x) k e; passes = parts.0 }) (some_counted f k p xs parts.1)
+    (λ e. record { element = x; number = eqb-true (f x) k e; passes = parts.0 }) (some_counted f k p xs parts.1)
     (rw (counted f k x xs) at some)
 
 any_here : (a b : Bool) (n : ℕ) → (a || b) ≡ true → (b ≡ true → 0 < n) → 0 < cond a 1 0 + n
@@ -204,7 +201,7 @@ module _ (micro : Microprogram) (z : Rows) where
       let cells = memory_passes issue.op _ passes memory in
       not_outside _ _ cells
       (subst (λ n. IsOutside (length (unit_of micro n).cells) (operand micro (Log micro z t) t issue 0))
-      (sym (same_number issue.unit u on)) outside)
+      (sym (eqb-true issue.unit u on)) outside)
 
   abbrev all_quiet : ℕ → Bool
   all_quiet zero = true

@@ -3,16 +3,16 @@ use Rattle.std.proofs.Common.{◌≡◌, ◌<◌, ◌≤◌, ◌+◌, ◌-◌, �
 use Rattle.std.proofs.Common.{false, not, true≢false, inl, inr, ◌++◌, List, [], length, Some}
 use Rattle.std.specs.Prelude.{slice_get, slice_index, slice_index_or, slice_range, Contains, bytes_eq}
 use Rattle.std.specs.List.{list_all}
-use Rattle.std.proofs.lemmas.Bool.{and_parts, cases_lt}
+use Rattle.std.proofs.lemmas.Bool.{and_parts, cases_lt, not-true}
 use Rattle.std.proofs.lemmas.List.{get_or_default}
 use Rattle.std.proofs.lemmas.List.Sums.{AllPass-from_list_all}
-use Rattle.silage_lex.specs.Bytes.{is_digit, is_letter, is_name_byte, begins_fraction, closes_comment}
+use Rattle.silage_lex.specs.Bytes.{is_letter, is_name_byte, begins_fraction, closes_comment}
 use Rattle.silage_lex.specs.Scan.{stands_at, IsDigitSpan}
 use Rattle.silage_lex.specs.Texts.{reserved_words, symbols, is_digits, digit_count, decimal}
 use Rattle.silage_lex.specs.Tokens.{IsSpan, NoCloseBetween}
 use Rattle.silage_lex.specs.declared.TokenKind.TheVariants.{Name, Whole, Point, Reserved, Symbol}
 use Rattle.silage_lex.proofs.Longest.{word_span, symbol_span}
-use Rattle.silage_lex.proofs.Numbers.{digit_span, whole_span, pointed_span, pointed_text}
+use Rattle.silage_lex.proofs.Numbers.{whole_span, pointed_span, pointed_text}
 
 -- what a test says of each number below n
 abbrev each : ℕ → (ℕ → Bool) → Bool
@@ -28,10 +28,6 @@ each_passes (suc n) test h k below =
       | inr more ↦ let same : n ≡ k = omega (arith, below, more) in subst (λ m. test m ≡ true) same parts.0
     ]
 
-is_false : (b : Bool) → not b ≡ true → b ≡ false
-is_false true h = absurd (true≢false (sym h))
-is_false false h = refl
-
 -- no text of the table is this one
 absent : (table : List (List ℕ)) (text : List ℕ)
     → list_all (λ row. not (bytes_eq row text)) table ≡ true
@@ -41,7 +37,7 @@ absent : (table : List (List ℕ)) (text : List ℕ)
 absent table text h same has =
     let row : slice_index_or table has.0 [] ≡ text = get_or_default table has.0 [] text has.1 ∙ has.2 in
     let passes = AllPass-from_list_all (λ r. not (bytes_eq r text)) table h has.0 [] has.1 in
-    true≢false (sym same ∙ is_false _ (subst (λ r. not (bytes_eq r text) ≡ true) row passes))
+    true≢false (sym same ∙ not-true _ (subst (λ r. not (bytes_eq r text) ≡ true) row passes))
 
 -- a word stands there, up to a byte of no name
 pub record IsWordAt (bytes : List ℕ) (from to : ℕ) : Type 0 where
@@ -83,15 +79,6 @@ pub reserved_span : (bytes : List ℕ) (n from to : ℕ)
 reserved_span bytes n from to w row =
     let span = word_span bytes from to w.order w.within w.letter w.all w.stop in
     record { rises = span.rises; within = w.within; text = row; longest = span.longest; ends = tt }
-
-pub digits_at : (bytes : List ℕ) (from to : ℕ)
-    → from ≤ to
-    → to ≤ length bytes
-    → is_digit (slice_index bytes from) ≡ true
-    → list_all is_digit (slice_range bytes from to) ≡ true
-    → is_digit (slice_index bytes to) ≡ false
-    → IsDigitSpan bytes from to
-digits_at = digit_span
 
 pub whole_number_span : (bytes : List ℕ) (from to : ℕ)
     → IsDigitSpan bytes from to
@@ -151,7 +138,7 @@ mark_span bytes n from within listed stands before =
       stands = stands;
       first =
           λ m less.
-          is_false _ (each_passes n (λ k. not (stands_at bytes from (slice_index_or symbols k []))) before m less);
+          not-true _ (each_passes n (λ k. not (stands_at bytes from (slice_index_or symbols k []))) before m less);
     })
 
 pub no_close : (bytes : List ℕ) (from count : ℕ)
@@ -161,4 +148,4 @@ no_close bytes from count h at low high =
     let passes =
     each_passes count (λ k. not (closes_comment bytes (from + k))) h (at - from) (omega (arith, low, high)) in
     let same : from + (at - from) ≡ at = omega (arith, low) in
-    is_false _ (subst (λ m. not (closes_comment bytes m) ≡ true) same passes)
+    not-true _ (subst (λ m. not (closes_comment bytes m) ≡ true) same passes)

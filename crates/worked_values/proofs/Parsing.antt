@@ -2,6 +2,7 @@
 use Rattle.std.proofs.Common.{◌≡◌, ◌+◌, ◌++◌, refl, subst, ℕ, zero, suc, Bool, true, false, List, [], ◌∷◌, Option, Some}
 use Rattle.std.proofs.Common.{None}
 use Rattle.std.specs.Prelude.{slice_get}
+use Rattle.std.proofs.lemmas.Option.{same_Some}
 use Rattle.silage_lex.specs.declared.Token.{Token}
 use Rattle.silage_syntax.specs.Grammar.{kind_at}
 use Rattle.silage_syntax.specs.Tree.{Program}
@@ -14,9 +15,6 @@ use Rattle.silage_parse.specs.Private.ParseTable as the
 use Rattle.silage_parse.proofs.CompletePrograms.{reads_of}
 use Rattle.silage_parse.proofs.Outcomes.{program_answer}
 use Rattle.silage_parse.proofs.SoundPrograms.{program_of}
-
-some_once : {A : Type 0} {x y : A} → Some x ≡ Some y → x ≡ y
-some_once e = cc
 
 module _ (ts : List Token) where
   -- the values that the machine ends with in so many steps, if it does and meets no fault
@@ -47,7 +45,7 @@ module _ (ts : List Token) where
       → Runs ts ss i c vs (done ws)
   unfolding run
   runs zero ss i c vs ws e = absurd (cc)
-  runs (suc steps) [] i c vs ws e = subst (λ us. Runs ts [] i c vs (done us)) (some_once e) ends
+  runs (suc steps) [] i c vs ws e = subst (λ us. Runs ts [] i c vs (done us)) (same_Some _ _ e) ends
   runs (suc steps) (Match ks effect ∷ ss) i c vs ws e =
       let h = both_hold (is_one ks (kind_at ts i)) (allowed effect (slice_get ts i) c) _ ws e in
       matches h.0 h.1

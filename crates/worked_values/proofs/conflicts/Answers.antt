@@ -1,5 +1,6 @@
 -- Each conflict is counted in the word, or read from the log.
-use Rattle.std.proofs.Common.{◌≡◌, ◌≤◌, refl, sym, subst, arith, [], ◌∷◌, Some, pos}
+use Rattle.std.proofs.Common.{◌≡◌, ◌≤◌, refl, sym, subst, arith, [], ◌∷◌, pos}
+use Rattle.std.proofs.lemmas.Option.{same_Some}
 use Rattle.micro_image.specs.Log.{value, entries_by, Log, operand}
 use Rattle.micro_image.specs.Fields.{Microprogram, microprogram_of}
 use Rattle.micro_image.specs.Conflict.{IsOutside}
@@ -23,9 +24,6 @@ returns-clause-bare _ = ((omega arith, refl), λ h. omega (arith, h.1))
 pub returns-clause-results : goal.returns-clause-results
 returns-clause-results _ = ((omega arith, refl), λ h. omega (arith, h.0))
 
-some_once : {A : Type 0} {x y : A} → Some x ≡ Some y → x ≡ y
-some_once e = cc
-
 -- the ram whose register 2 has the number of its cell 1, and the load by it
 abbrev loading : Microprogram
 loading =
@@ -36,7 +34,7 @@ loading =
 within : Loads (pos 1) → ⊥
 unfolding value entries_by
 within (issue, is, memory_is, outside) =
-    let same : record load { regs = 2 ∷ 0 ∷ [] } ≡ issue = some_once is in
+    let same : record load { regs = 2 ∷ 0 ∷ [] } ≡ issue = same_Some _ _ is in
     let out : 2 ≤ 1 =
     subst (λ s. IsOutside 2 (operand loading (Log loading cycles 2) 2 s 0)) (sym same) outside in
     omega (arith, out)

@@ -1,6 +1,7 @@
 -- Each way by its rule, from where the item stands.
 use Rattle.std.proofs.Common.{◌≡◌, refl, arith, ℕ, inl, inr, codes, [], ◌∷◌, Some, pos}
 use Rattle.std.proofs.lemmas.Int.{ints}
+use Rattle.std.proofs.lemmas.Option.{same_Some}
 use Rattle.silage_syntax.specs.Names.{IsOffset}
 use Rattle.silage_syntax.specs.Tree.{whole, counter}
 use Rattle.silage_meaning.specs.Instances.{main_is, Call}
@@ -8,9 +9,6 @@ use Rattle.silage_meaning.specs.Solves.{input, equated, argument, array, table, 
 use Rattle.worked_values.specs.Trees.{declaration, bare, entry_of, now}
 use Rattle.worked_values.specs.Definitions.{byte, called, calls, in_main}
 use Rattle.worked_values.proofs.definitions.Goals as goal
-
-some_once : {A : Type 0} {x y : A} → Some x ≡ Some y → x ≡ y
-some_once e = cc
 
 abbrev the_call : Call calls in_main
 the_call = record {
@@ -81,10 +79,10 @@ returns-clause-turns _ = λ turn. (
     begun = omega (arith, ints);
     ended = omega (arith, ints);
   },
-  λ h. let last_is : pos 1 ≡ h.last = some_once h.to in omega (arith, ints, last_is, h.ended),
+  λ h. let last_is : pos 1 ≡ h.last = same_Some _ _ h.to in omega (arith, ints, last_is, h.ended),
   λ h.
-      let first_is : pos 1 ≡ h.first = some_once h.from in
-      let last_is : pos 0 ≡ h.last = some_once h.to in
+      let first_is : pos 1 ≡ h.first = same_Some _ _ h.from in
+      let last_is : pos 0 ≡ h.last = same_Some _ _ h.to in
       omega (arith, ints, first_is, last_is, h.begun, h.ended),
 )
 

@@ -1,5 +1,5 @@
 -- The bytes are read by the definition of TOML, and each key by its row.
-use Rattle.std.proofs.Common.{◌≡◌, ◌≢◌, ◌<◌, refl, sym, subst, ap, arith, lit≤, ℕ, List, [], ◌∷◌, codes, Some, Ok}
+use Rattle.std.proofs.Common.{◌≡◌, ◌≢◌, ◌<◌, refl, sym, subst, ap, arith, lit≤, ℕ, List, [], ◌∷◌, codes, Ok}
 use Rattle.std.proofs.Common.{Result}
 use Rattle.std.proofs.Common.{ltb, true, false, true≢false, length, ◌∙◌}
 use Rattle.std.specs.Prelude.{slice_index, bytes_eq}
@@ -9,6 +9,7 @@ use Rattle.std.proofs.lemmas.List.Sums.{AllPass-from_list_all}
 use Rattle.std.proofs.lemmas.Str.{is_utf8-from_IsUtf8, IsUtf8-from_ascii}
 use Rattle.std.proofs.lemmas.Str.Ascii.{IsAscii-from_reads}
 use Rattle.std.proofs.lemmas.List.Kept.{AllPairs-cons}
+use Rattle.std.proofs.lemmas.Option.{same_Some}
 use Rattle.toml.proofs.OnLiterals.{toml_on_literals}
 use Rattle.operations.specs.declared.units.PortRef.{PortRef}
 use Rattle.datapath.specs.Allowed.{IsDistinct}
@@ -28,9 +29,6 @@ apart x {xs} differ rest = AllPairs-cons (λ a b. a ≢ b) x xs (All-from_Each (
 
 other : (s t : List ℕ) → bytes_eq s s ≡ true → bytes_eq t s ≡ false → s ≢ t
 other s t same differ e = true≢false (sym same ∙ ap (λ u. bytes_eq u s) e ∙ differ)
-
-some_once : {A : Type 0} {x y : A} → Some x ≡ Some y → x ≡ y
-some_once e = cc
 
 zero_is_not_one : ◌≡◌ {A = ℕ} 0 1 → ⊥
 zero_is_not_one e = omega (arith, e)
@@ -139,10 +137,11 @@ returns-clause-others _ = λ d. (λ h. no_period d h, λ h. other_period h)
   where
     no_period : (d : Datapath) → IsPathOf (line (codes "word = 8")) d → ⊥
     no_period d h =
-        let period = subst (λ t. IsValue row.period t d.period) (sym (some_once h.toml)) h.path.period in absurd (cc)
+        let period = subst (λ t. IsValue row.period t d.period) (sym (same_Some _ _ h.toml)) h.path.period in
+        absurd (cc)
 
     other_period : IsPathOf path_file (record path_described { period = 7 }) → ⊥
     other_period h =
-        let period = subst (λ t. IsValue row.period t 7) (sym (some_once h.toml)) h.path.period in
+        let period = subst (λ t. IsValue row.period t 7) (sym (same_Some _ _ h.toml)) h.path.period in
         let same : ◌≡◌ {A = ℕ} 6 7 = ok_once period in
         omega (arith, same)

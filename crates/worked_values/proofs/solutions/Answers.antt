@@ -3,6 +3,7 @@ use Rattle.std.proofs.Common.{◌≡◌, ◌<◌, ◌≤◌, ◌+◌, ◌⊎◌,
 use Rattle.std.proofs.Common.{ℤ, pos, negsuc, ◌+ℤ◌, ◌-ℤ◌, [], ◌∷◌, Some, false}
 use Rattle.std.specs.Prelude.{slice_get}
 use Rattle.std.proofs.lemmas.Int.{ints}
+use Rattle.std.proofs.lemmas.Option.{same_Some}
 use Rattle.fix_word.specs.Values.{wrap_of, fit_of}
 use Rattle.fix_word.specs.Words.{IsWord}
 use Rattle.fix_word.specs.declared.types.Mode.TheVariants.{Trunc}
@@ -26,9 +27,6 @@ use Rattle.silage_meaning.proofs.Values.{value_once}
 use Rattle.worked_values.specs.Trees.{fix, fix_type, declaration, bare, decimal_number}
 use Rattle.worked_values.specs.Solutions.{sum, summing, summed, one_two_three, sums}
 use Rattle.worked_values.proofs.solutions.Goals as goal
-
-some_once : {A : Type 0} {a b : A} → Some a ≡ Some b → a ≡ b
-some_once e = cc
 
 abbrev type : SigType
 type = fix 8 0 Trunc
@@ -61,7 +59,7 @@ no_call step f calls = by_place calls.occurs
     by_place (inr (inr never)) = never
 
 main_only : (i : Instance) (f : Func) → IsInstance summed i f → (i ≡ main) × (f ≡ summing)
-main_only i f (main_is e) = (refl, sym (some_once e))
+main_only i f (main_is e) = (refl, sym (same_Some _ _ e))
 main_only i f (inside_is {i = j} {g = g} {step = step} is calls) =
     let up = main_only j g is in absurd (no_call step f (subst (λ h. Calls summed h step f) up.1 calls))
 
@@ -71,12 +69,12 @@ which_at : (i : Instance) (d k : ℕ) (decl : Decl)
     → k < element_count decl.dims
     → (element i d k ≡ x) ⊎ (element i d k ≡ y)
 which_at i zero k decl m e below =
-    let same : of_x ≡ decl = some_once e in
+    let same : of_x ≡ decl = same_Some _ _ e in
     let first : k < 1 = subst (λ (d : Decl). k < element_count d.dims) (sym same) below in
     let k_is : k ≡ 0 = omega (arith, first) in
     inl (ap (λ j. element j 0 k) m ∙ ap (λ n. element main 0 n) k_is)
 which_at i (suc zero) k decl m e below =
-    let same : of_y ≡ decl = some_once e in
+    let same : of_y ≡ decl = same_Some _ _ e in
     let first : k < 1 = subst (λ (d : Decl). k < element_count d.dims) (sym same) below in
     let k_is : k ≡ 0 = omega (arith, first) in
     inr (ap (λ j. element j 1 k) m ∙ ap (λ n. element main 1 n) k_is)
@@ -162,7 +160,7 @@ the_signal s place d k decl at name is =
     let named : declared here.function (codes "y") ≡ Some (d, decl) =
     subst (λ (p : Place). declared here.function p.name ≡ Some (d, decl)) (sym name)
     (subst (λ (t : Site). declared t.function place.name ≡ Some (d, decl)) (sym at) is.named) in
-    let pair : (1, of_y) ≡ (d, decl) = some_once named in
+    let pair : (1, of_y) ≡ (d, decl) = same_Some _ _ named in
     let decl_is : of_y ≡ decl = ap (λ (q : ℕ × Decl). q.1) pair in
     let placed : IsOffset [] of_y.dims [] k =
     subst (λ (c : Decl). IsOffset [] c.dims [] k) (sym decl_is)
@@ -221,7 +219,7 @@ present : (e : Element) (n : ℕ) (source : Source)
     → IsDefined summed e source
     → Gives summed one_two_three sums n source (sums e (pos n))
 present e n source below (input {j = zero} is) =
-    subst (λ (i : Element). Gives summed one_two_three sums n (word 0) (sums i (pos n))) (some_once is)
+    subst (λ (i : Element). Gives summed one_two_three sums n (word 0) (sums i (pos n))) (same_Some _ _ is)
     (our_input n below)
 present e n source below (input {j = suc j} is) = absurd (cc)
 present e n source below (equated {s = s} {x = right} place d k decl at is e_is) =
@@ -250,7 +248,7 @@ our_preset e j l ty is =
     let named = the_signal is.site is.place is.declaration is.offset is.decl found.site found.place_is is.signal in
     let one : Some (pos 1) ≡ Some (pos j) =
     subst (λ m. HasValue is.site.indices m j) (sym found.amount_is) is.sample in
-    let one_is : pos 1 ≡ pos j = some_once one in
+    let one_is : pos 1 ≡ pos j = same_Some _ _ one in
     record {
       element_is =
           ap (λ m. element main m 0) named.declaration_is ∙ ap (λ m. element main is.declaration m) named.offset_is

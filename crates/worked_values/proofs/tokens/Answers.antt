@@ -4,8 +4,9 @@ use Rattle.silage_lex.specs.Tokens.{IsSpan, IsToken, line_at, Gap, none, blank, 
 use Rattle.silage_lex.specs.declared.TokenKind.{TokenKind}
 use Rattle.silage_lex.specs.declared.keywords.TheConstants.{FUNC}
 use Rattle.silage_lex.specs.declared.punctuation.TheConstants.{AT_AT, LESS_EQUAL, PIPE_PIPE}
+use Rattle.silage_lex.proofs.Numbers.{digit_span}
 use Rattle.worked_values.specs.Tokens.{each_kind, token}
-use Rattle.worked_values.proofs.Lexing.{word_at, name_span, reserved_span, digits_at, whole_number_span, point_span}
+use Rattle.worked_values.proofs.Lexing.{word_at, name_span, reserved_span, whole_number_span, point_span}
 use Rattle.worked_values.proofs.Lexing.{mark_span, no_close}
 use Rattle.worked_values.proofs.tokens.Goals as goal
 
@@ -45,7 +46,7 @@ returns-clause-each _ = (
         none,
         on_line 1 refl
             (point_span each_kind 18 19 22 (omega arith) refl refl
-            (digits_at each_kind 20 22 (omega arith) (omega arith) refl refl refl) (omega arith) refl),
+            (digit_span each_kind 20 22 (omega arith) (omega arith) refl refl refl) (omega arith) refl),
         (
           none,
           on_line 1 refl (mark_span each_kind LESS_EQUAL 22 (omega arith) (omega arith) refl refl),
@@ -53,7 +54,7 @@ returns-clause-each _ = (
             none,
             on_line 1 refl
                 (whole_number_span each_kind 24 25
-                (digits_at each_kind 24 25 (omega arith) (omega arith) refl refl refl) (omega arith) refl refl),
+                (digit_span each_kind 24 25 (omega arith) (omega arith) refl refl refl) (omega arith) refl refl),
             (
               blank refl none,
               on_line 2 refl (mark_span each_kind PIPE_PIPE 26 (omega arith) (omega arith) refl refl),
