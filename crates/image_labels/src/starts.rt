@@ -133,13 +133,7 @@ fn are_settled(image: &Image, certificate: &Certificate, unit: u32, turn: u16) -
 }
 
 /// The label of a cell at the end of a turn, of a unit whose cells are settled.
-fn settled_label(
-    image: &Image,
-    certificate: &Certificate,
-    unit: u32,
-    cell: u32,
-    turn: u16,
-) -> Label
+fn settled_label(image: &Image, certificate: &Certificate, unit: u32, cell: u32, turn: u16) -> Label
     requires turn { turn ≡ length image.now.words }
     requires settled { AreSettled image.now certificate.now turn unit }
     ensures { result ≡ label_of_cell image.now certificate.now unit cell turn }
@@ -287,16 +281,7 @@ fn check_ram(
 {
     let settled = are_settled(image, certificate, unit, turn);
     for cell in 0..cells {
-        if !is_cell_start(
-            graph,
-            image,
-            certificate,
-            unit,
-            cells,
-            cell,
-            turn,
-            settled,
-        ) {
+        if !is_cell_start(graph, image, certificate, unit, cells, cell, turn, settled) {
             return Err(Mismatch::Cell(unit, cell));
         }
     }
