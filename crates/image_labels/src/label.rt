@@ -25,4 +25,7 @@ pub struct Certificate {
     pub registers: List<Label>,
     /// What each cell of a ram holds when a turn starts: cell x of unit u is at 65536 u + x.
     pub cells: List<Label>,
+    /// In which cycle of the turn each cell has what it holds when the turn ends, in the order of `cells`: the one after
+    /// the last store into it ends, or 0. No answer rests on it: where it is another one, the answer takes longer.
+    pub settled: List<u16>,
 }

@@ -4,6 +4,7 @@ ghost use Rattle.image_labels.specs.declared.label.Label.{Label as LabelOf};
 ghost use Rattle.micro_image.specs.Fields.{nth};
 ghost use Rattle.image_labels.specs.declared.label.Label.TheVariants.{Unknown, Signal};
 ghost use Rattle.image_labels.specs.Labels.{issue_label as label_of_issue, driven_label as label_of_bus, register_label as label_of_register, operand_label as label_of_operand, cell_label as label_of_cell, stored_label, word_in as word_of, is_address as is_address_of};
+ghost use Rattle.image_labels.specs.Private.Settled.{settled_at};
 
 use crate::hardware::{delay_on, driver_of, ended_in, issued_in, register_at, take_into, word_in};
 use crate::label::{Certificate, Label};
@@ -66,6 +67,18 @@ pub fn first_cell(certificate: &Certificate, unit: u32, cell: u32) -> Label
     ensures { result ≡ nth certificate.now.cells (unit * 65536 + cell) Unknown }
 {
     label_at(&certificate.cells, unit as usize * 65536 + cell as usize)
+}
+
+/// The cycle from which on a cell has what it holds at the end of a turn, as the certificate has it.
+pub fn settled_in(certificate: &Certificate, unit: u32, cell: u32) -> u16
+    ensures { result ≡ settled_at certificate.now unit cell }
+{
+    let index = unit as usize * 65536 + cell as usize;
+    if index < certificate.settled.len() {
+        certificate.settled[index]
+    } else {
+        0
+    }
 }
 
 /// The label of what a bus carries in a cycle.

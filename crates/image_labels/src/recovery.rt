@@ -1,6 +1,6 @@
 //! Finds labels for an image by its graph: from each output to the nodes that it reads, and so on to what these read.
 //! Nothing rests on what is found, as `validate` asks nothing of it.
-ghost use Rattle.std.specs.Prelude.{◌≤◌, length};
+ghost use Rattle.std.specs.Prelude.{◌<◌, ◌≤◌, length};
 ghost use Rattle.micro_image.specs.Valid.{IsValid};
 
 use crate::fits::{first_output, sample_at};
@@ -9,7 +9,7 @@ use crate::hardware::{
     register_at, take_into, word_in,
 };
 use crate::label::{Certificate, Label};
-use crate::labels::{first_cell, issue_label, operand_label, stores_into};
+use crate::labels::{first_cell, issue_label, operand_label, settled_in, stores_into};
 use crate::misfits::does_node;
 use crate::operands::{commutes, edge_at};
 use fix_word::Op;
@@ -71,6 +71,15 @@ enum Writer {
 struct Search {
     certificate: Certificate,
     known: List<Known>,
+}
+
+/// So many zeros.
+fn zeros(alloc: Global, count: usize) -> Result<List<u16>, AllocError> {
+    let mut zeros = List::new(alloc);
+    for _ in 0..count {
+        zeros.push(0)?;
+    }
+    Ok(zeros)
 }
 
 /// So many labels of which nothing is known.
@@ -138,6 +147,15 @@ fn storer_of(
         }
     }
     None
+}
+
+/// The cycle in which the last store of a turn into a cell was issued.
+fn last_storer_of(image: &Image, certificate: &Certificate, unit: u32, cell: u32) -> Option<u16> {
+    let delay = u16::from(delay_on(image, unit));
+    match settled_in(certificate, unit, cell) {
+        0 => None,
+        settled => Some((settled - 1).saturating_sub(delay)),
+    }
 }
 
 /// The register whose word a unit stores that is issued a store in a cycle.
@@ -324,7 +342,6 @@ fn want_kept(
 ) -> Result<(), AllocError>
     requires { IsValid image.now }
 {
-    let turn = image.words.len() as u16;
     let cells = cells_on(image, unit);
     if cells == 0 || cells > CELLS {
         return Ok(());
@@ -338,7 +355,7 @@ fn want_kept(
         put_signal(&mut search.certificate.cells, index, signal);
         cell = cell_in(cells as u32, u64::from(cell), u16::from(image.unroll)) as u32;
         signal = a_turn_later(image, signal);
-        if let Some(issued) = storer_of(image, &search.certificate, unit, cell, turn) {
+        if let Some(issued) = last_storer_of(image, &search.certificate, unit, cell) {
             let register = stored_register(image, issued, unit);
             return want_stored(search, graph, image, register, issued, signal);
         }
@@ -651,6 +668,37 @@ fn put_addresses(image: &Image, labels: &mut List<Label>, turn: u16)
     }
 }
 
+/// The cell that a store is into which ends on a unit in a cycle.
+fn cell_stored(image: &Image, certificate: &Certificate, cycle: u16, unit: u32) -> Option<u32>
+    requires { cycle < length image.now.words }
+{
+    let issue = ended_in(image, cycle, unit)?;
+    if !matches!(issue.op, Op::Store) {
+        return None;
+    }
+    let issued = cycle.saturating_sub(u16::from(delay_on(image, unit)));
+    match operand_label(image, certificate, issued, issue, 0) {
+        Label::Address(_, cell) => Some(cell),
+        _ => None,
+    }
+}
+
+/// Notes from which cycle on each cell has what it holds at the end of a turn.
+fn put_settled(image: &Image, certificate: &mut Certificate, turn: u16)
+    requires { turn ≤ length image.now.words }
+{
+    for cycle in 0..turn {
+        for unit in 0..UNITS {
+            if let Some(cell) = cell_stored(image, certificate, cycle, unit) {
+                let index = unit as usize * CELLS + cell as usize;
+                if index < certificate.settled.len() {
+                    certificate.settled[index] = cycle + 1;
+                }
+            }
+        }
+    }
+}
+
 /// The node whose word an output puts.
 fn output_node(graph: &Graph, issue: &Issue) -> Option<u32> {
     let first = first_output(graph);
@@ -706,10 +754,12 @@ pub fn recover(alloc: Global, graph: &Graph, image: &Image) -> Result<Certificat
             issues: unknowns(alloc, issues)?,
             registers: unknowns(alloc, units * UNIT_REGISTERS)?,
             cells: unknowns(alloc, units * CELLS)?,
+            settled: zeros(alloc, units * CELLS)?,
         },
         known: List::new(alloc),
     };
     put_addresses(image, &mut search.certificate.issues, turn);
+    put_settled(image, &mut search.certificate, turn);
     if !reads_constants_late(graph) {
         put_constants(image, &mut search.certificate.issues, turn);
     }
