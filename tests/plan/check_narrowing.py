@@ -93,9 +93,9 @@ def check_windows(name: str, problem: Problem) -> list[str]:
 def check_dive(name: str, problem: Problem, rng: Random) -> list[str]:
     """A dive comes to a plan, which passes."""
     period = problem.datapath["period"]
-    until, turn = time.monotonic() + DIVED, 0
+    until, weight, turn = time.monotonic() + DIVED, [0] * len(problem.nodes), 0
     while time.monotonic() < until:
-        cycles = Dive(Narrowed(problem, period), rng, turn).go_on(until)
+        cycles = Dive(Narrowed(problem, period), weight, rng, turn).go_on(until)
         turn += 1
         if cycles:
             places = Places(problem, period, [node.units[0] for node in problem.nodes], cycles)

@@ -1,5 +1,6 @@
 """Dives: nodes get their cycles one after another, and after each the windows of all others are narrowed. So most of what
-would be in the way of one is seen before it is placed, and a dive seldom has to go back."""
+would be in the way of one is seen before it is placed, and a dive seldom has to go back. Where it has to, the node
+weighs more, and is placed earlier by the dives that follow."""
 from __future__ import annotations
 
 import time
@@ -13,6 +14,8 @@ from silc.planning.windows import TooShort
 Order = Callable[[int, int, float], tuple[float, ...]]
 # After so many cycles that were wrong a dive begins anew, in another order.
 MOST_WRONG = 60
+# So many cycles sooner a node is taken for each cycle of it that was wrong.
+WEIGHT = 0.5
 NOISE = (0.5, 1.0, 2.0, 4.0, 8.0, 16.0)
 
 
@@ -39,12 +42,13 @@ ORDERS: tuple[Order, ...] = (soonest, latest, narrowest, urgent)
 class Dive:
     """One dive. It may be gone on with until it is over, with a cycle for each node or without."""
 
-    def __init__(self, narrowed: Narrowed, rng: Random, turn: int) -> None:
-        self.narrowed, self.period = narrowed, narrowed.period
+    def __init__(self, narrowed: Narrowed, weight: list[int], rng: Random, turn: int) -> None:
+        """The weights of the nodes grow."""
+        self.narrowed, self.weight = narrowed, weight
         self.first, self.last = narrowed.windows()
         self.order = ORDERS[turn % len(ORDERS)]
         noise = 0.0 if turn < len(ORDERS) else rng.choice(NOISE)
-        self.chance = [noise * rng.random() for _ in self.first]
+        self.chance = [noise * rng.random() - WEIGHT * weight for weight in self.weight]
         # What was there before each choice.
         self.before: list[tuple[list[int], list[int], int]] = []
         self.wrong, self.is_over = 0, False
@@ -60,6 +64,7 @@ class Dive:
             self.before.append((self.first[:], self.last[:], v))
             cycle = self.last[v] if self.order is latest else self.first[v]
             if not self.stands(v, cycle, cycle):
+                self.weight[v] += 1
                 self.go_back()
         return None
 

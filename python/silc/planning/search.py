@@ -90,13 +90,17 @@ class Finder:
         bound = bounds.least()
         self.known = Known(bound, bounds.reason(bound))
         self.rng, self.turn, self.began = Random(wanted.seed), 0, time.monotonic()
+        # When the search for periods ends.
+        self.end = self.began
         # Of periods plans for whose registers there is no room.
         self.crowded: dict[int, Places] = {}
         # Periods in which the solver's plan has other buses than the first that are free.
         self.unrouted: set[int] = set()
         self.radius, self.is_stopped = RADIUS, False
-        # Over one stage the windows of periods, as far as they are narrowed, and how many dives there were in each.
+        # Over one stage the windows of periods, as far as they are narrowed, the weights of their nodes for dives, and
+        # how many dives there were.
         self.narrowed: dict[int, Narrowed] = {}
+        self.weights: dict[int, list[int]] = {}
         self.dives: Counter[int] = Counter()
 
     def run(self) -> None:
@@ -128,7 +132,7 @@ class Finder:
     def find(self, until: float) -> None:
         """Looks by heuristics first, and then solves periods, each in its turn for twice as long as before. Where only
         plans without room for their registers are left, it looks for room again."""
-        now = time.monotonic()
+        now, self.end = time.monotonic(), until
         self.refute(now + PROBED * (until - now))
         self.look(now + FIRST * (until - now))
         share = max(LEAST_SHARE, FIRST_SHARE * (until - now))
@@ -138,8 +142,8 @@ class Finder:
                 self.descend(until, share)
                 for period in turns(self.left()):
                     if time.monotonic() < until and period in self.left():
-                        self.dive(period, until)
-                        self.settle(period, min(until, time.monotonic() + share))
+                        is_last = len(self.left()) == 1
+                        self.settle(period, until if is_last else min(until, time.monotonic() + share))
                 share, self.radius = 2 * share, 2 * self.radius
             elif left:
                 self.slice(until)
@@ -191,7 +195,8 @@ class Finder:
         """One dive in a period over one stage, in the next order. Whether it comes to a plan."""
         if self.problem.stages > 1 or not self.windows(period, time.monotonic()):
             return False
-        dive = Dive(self.narrowed[period], self.rng, self.dives[period])
+        weight = self.weights.setdefault(period, [0] * len(self.problem.nodes))
+        dive = Dive(self.narrowed[period], weight, self.rng, self.dives[period])
         self.dives[period] += 1
         cycles = dive.go_on(until)
         return cycles is not None and self.fits(period, cycles, until)
@@ -227,6 +232,8 @@ class Finder:
 
     def tried(self, period: int, until: float) -> bool:
         """A dive in each order, and then several short searches for a plan in a period."""
+        if self.problem.stages == 1 and period in self.left():
+            self.windows(period, time.monotonic() + PROBED * (until - time.monotonic()))
         for _ in ORDERS:
             if period in self.left() and time.monotonic() < until and self.dive(period, until):
                 return True
@@ -251,12 +258,15 @@ class Finder:
             self.searched(period, min(until, time.monotonic() + SLICE))
 
     def solve(self, encoding: Encoding, until: float) -> None:
-        """Has the solver say whether a period has a plan, or near the best plan one."""
+        """Has the solver say whether a period has a plan, or near some cycles one. Meanwhile it dives in the period."""
         assert self.wanted.solver
         solving = Solving(self.wanted.solver, encoding)
         try:
             while solving.status() is None and time.monotonic() < until and encoding.period < self.limit():
-                time.sleep(WAIT)
+                if not encoding.is_whole or self.problem.stages > 1:
+                    time.sleep(WAIT)
+                elif self.dive(encoding.period, self.end):
+                    return
             self.told(encoding, solving)
         finally:
             solving.stop()
