@@ -45,8 +45,10 @@ class Narrowed:
         for number, turns in enumerate(self.turns):
             for node in turns.nodes:
                 self.turns_with[node].append(number)
-        # Whether probing narrows it no more.
-        self.is_probed = False
+        # The nodes that are still to be probed in this round, by which length of all windows it began, and whether
+        # probing narrows them no more.
+        self.unprobed: list[int] = []
+        self.before_round, self.is_probed = -1, False
         self.settle(self.first, self.last, range(count))
 
     def windows(self) -> Windows:
@@ -107,13 +109,17 @@ class Narrowed:
     def probe(self, until: float) -> bool:
         """Shortens windows at their ends, and says whether it ended in time. `TooShort` where it refutes the period."""
         while not self.is_probed:
-            before = sum(self.first) - sum(self.last)
-            for v in sorted(range(len(self.first)), key=lambda v: self.last[v] - self.first[v]):
+            while self.unprobed:
                 if time.monotonic() > until:
                     return False
+                v = self.unprobed.pop()
                 self.probe_end(v, True)
                 self.probe_end(v, False)
-            self.is_probed = sum(self.first) - sum(self.last) == before
+            length = sum(self.last) - sum(self.first)
+            self.is_probed = length == self.before_round
+            self.before_round = length
+            # The shortest windows come first.
+            self.unprobed = sorted(range(len(self.first)), key=lambda v: self.first[v] - self.last[v])
         return True
 
     def probe_end(self, v: int, is_first: bool) -> None:

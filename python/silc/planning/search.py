@@ -17,11 +17,12 @@ from silc.planning.registers import Annealing
 from silc.planning.sat import FOUND, REFUTED, Encoding, Solving
 from silc.planning.windows import Bounds, TooShort, Windows
 
-# The shares of the time: of probing, of the first look by heuristics, of the periods where registers come after, of a
-# fit.
-PROBED, FIRST, PERIODS, FIT = 0.2, 0.5, 0.6, 0.1
-# The share of the time that a solver has for a period at first.
-FIRST_SHARE, LEAST_SHARE = 0.03, 1.0
+# The shares of the time: of probing at first, of the first look by heuristics, of the periods where registers come
+# after, of a fit. Then of probing before a period is solved.
+PROBED, FIRST, PERIODS, FIT = 0.1, 0.5, 0.6, 0.1
+SOLVED_PROBED = 0.3
+# The share of the time that a solver has for a period at first, and where it is dived in meanwhile.
+FIRST_SHARE, DIVED_SHARE, LEAST_SHARE = 0.03, 0.1, 1.0
 LONGEST_LOOK, SLICE, WAIT = 2.0, 0.2, 0.01
 # How far a plan is at first from that of a longer period beside which it is looked for, and from the cycles of a dive.
 RADIUS, NEAR = 6, (0, 2, 5)
@@ -135,7 +136,7 @@ class Finder:
         now, self.end = time.monotonic(), until
         self.refute(now + PROBED * (until - now))
         self.look(now + FIRST * (until - now))
-        share = max(LEAST_SHARE, FIRST_SHARE * (until - now))
+        share = max(LEAST_SHARE, (FIRST_SHARE if self.problem.stages > 1 else DIVED_SHARE) * (until - now))
         while time.monotonic() < until:
             left = self.left()
             if left and self.wanted.solver:
@@ -178,16 +179,16 @@ class Finder:
         """Solves a period, with its windows as far as they are narrowed in a part of the time."""
         windows = None
         if self.problem.stages == 1:
-            windows = self.windows(period, time.monotonic() + PROBED * (until - time.monotonic()))
+            windows = self.windows(period, time.monotonic() + SOLVED_PROBED * (until - time.monotonic()))
         if period in self.left():
-            self.solve(Encoding(self.problem, period, windows), until)
+            self.solve(Encoding(self.problem, period, windows), until, self.problem.stages == 1)
 
     def descend(self, until: float, share: float) -> None:
         """Solves the next shorter period near the best plan, as often as that goes."""
         while self.best and (left := self.left()) and time.monotonic() < until:
             near = [cycle * left[-1] // self.best.period for cycle in self.best.cycles]
             encoding = Encoding(self.problem, left[-1], None, near, self.radius)
-            self.solve(encoding, min(until, time.monotonic() + share))
+            self.solve(encoding, min(until, time.monotonic() + share), self.problem.stages == 1)
             if left[-1] in self.left():
                 return
 
@@ -232,12 +233,13 @@ class Finder:
 
     def tried(self, period: int, until: float) -> bool:
         """A dive in each order, and then several short searches for a plan in a period."""
-        if self.problem.stages == 1 and period in self.left():
+        stages = self.problem.stages
+        if stages == 1 and period in self.left():
             self.windows(period, time.monotonic() + PROBED * (until - time.monotonic()))
         for _ in ORDERS:
             if period in self.left() and time.monotonic() < until and self.dive(period, until):
                 return True
-        return self.searched(period, min(until, time.monotonic() + LONGEST_LOOK))
+        return self.searched(period, min(until, time.monotonic() + (LONGEST_LOOK if stages > 1 else SLICE)))
 
     def searched(self, period: int, until: float) -> bool:
         """Several short searches for a plan in a period."""
@@ -257,13 +259,14 @@ class Finder:
         if not self.dive(period, until):
             self.searched(period, min(until, time.monotonic() + SLICE))
 
-    def solve(self, encoding: Encoding, until: float) -> None:
-        """Has the solver say whether a period has a plan, or near some cycles one. Meanwhile it dives in the period."""
+    def solve(self, encoding: Encoding, until: float, is_dived: bool = False) -> None:
+        """Has the solver say whether a period has a plan, or near some cycles one, and dives in the period meanwhile
+        where that is meant."""
         assert self.wanted.solver
         solving = Solving(self.wanted.solver, encoding)
         try:
             while solving.status() is None and time.monotonic() < until and encoding.period < self.limit():
-                if not encoding.is_whole or self.problem.stages > 1:
+                if not is_dived:
                     time.sleep(WAIT)
                 elif self.dive(encoding.period, self.end):
                     return
