@@ -3,10 +3,10 @@
 
 usage: tests/plan/check_narrowing.py [SEED]
 
-Of small sets of tasks all ways to place them are tried: the first and the last cycle that each has in some way are those
-of the rule, and tasks that have no room at all are refused. Of the best plans of the examples each node stands in its
-window, in the plan's period and in longer ones, before the windows are probed and after. A dive comes to a plan in the
-periods of some, which passes the checker of plans. It runs no program.
+Of small sets of tasks all ways to place them are tried: the first and the last cycle that each has in some way are
+those of the rule, and tasks that have no room at all are refused. Of the best plans of the examples each node stands in
+its window, in the plan's period and in longer ones, before the windows are probed and after. A dive comes to a plan in
+the periods of some, which passes the checker of plans. It runs no program.
 """
 from __future__ import annotations
 

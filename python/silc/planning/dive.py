@@ -1,6 +1,8 @@
-"""Dives: nodes get their cycles one after another, and after each the windows of all others are narrowed. So most of what
-would be in the way of one is seen before it is placed, and a dive seldom has to go back. Where it has to, the node
-weighs more, and is placed earlier by the dives that follow."""
+"""Dives: nodes get their cycles one after another, and after each the windows of all others are narrowed.
+
+So most of what would be in the way of a node is seen before it is placed, and a dive seldom has to go back. Where it
+has to, the node weighs more, and is placed earlier by the dives that follow.
+"""
 from __future__ import annotations
 
 import time

@@ -40,7 +40,8 @@ def check(one: Kept, row: str | None) -> None:
 
 
 def ran(one: Kept) -> str:
-    """Runs the core of a plan: `silc sim` puts the rows of `silc eval` on its microcode, and the core those of `sim`."""
+    """Runs the core of a plan, and gives its row: `silc sim` puts the rows of `silc eval`, and the core those of `sim`.
+    """
     microcode, samples = one.microcode(), one.source.parent / "samples.txt"
     one.check_rows(microcode, samples.read_bytes())
     in_verilog(microcode, samples)
