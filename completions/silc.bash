@@ -13,7 +13,7 @@ stages *.sil *.toml -
 pipe *.sil *.toml - * *
 frame *.sil *.toml - - - *
 net *.toml * *
-explain run|eval|compile|sim|schedule|list|demo|stages|pipe|frame|net
+explain run|eval|compile|sim|schedule|list|demo|stages|pipe|frame|net|place
 check *.sil
 draw datapath *.toml *.sil
 draw schedule * *.toml *.sil

@@ -22,7 +22,7 @@ from silc.planning.check import NoPlan, check
 from silc.planning.places import Places
 from silc.planning.registers import bits_of
 from silc.planning.ruled import Ruled, fitted, places_of
-from silc.planning.search import Finder, Known, Wanted, spans
+from silc.planning.search import PROBING, Finder, Known, Wanted, spans
 from silc.planning.windows import Bounds
 from silc.programs import command, in_checkout, with_package
 from silc.running import STDIN, STDOUT, ran
@@ -38,7 +38,7 @@ CORES = {"ice40": ("logic cells", "flip-flops", "block memories"),
          "xilinx": ("logic cells", "flip-flops", "memories in cells", "block memories", "multipliers")}
 CORES_HEAD = ("| Example | Processor | Plan | Period | LUT4 | Flip-flops | RAM40 | xilinx: cells | Flip-flops | LUTRAM "
               "| RAMB | DSP48 |\n|---|---|---|---|---|---|---|---|---|---|---|---|\n")
-BY_BOUND, BY_SOLVER, OPEN = "yes, by the bound", "yes, by the solver", "open: "
+BY_BOUND, BY_PROBING, BY_SOLVER, OPEN = "yes, by the bound", "yes, by probing", "yes, by the solver", "open: "
 # The share of the time that goes to the registers, beside that for the period.
 REGISTERS = 0.25
 Say = Callable[[str], None]
@@ -145,7 +145,7 @@ class Kept:
     def check_row(self, row: str | None, best: Places) -> None:
         least = row.split(" | ")[-1].rstrip(" |\n") if row else ""
         if row != self.row(best, least) or (least == BY_BOUND) != (best.period == self.known.bound) or \
-                least not in (BY_BOUND, BY_SOLVER) and not least.startswith(OPEN):
+                least not in (BY_BOUND, BY_PROBING, BY_SOLVER) and not least.startswith(OPEN):
             raise Wrong(f"its row is {row and row.strip()}, and not {self.row(best, least).strip()}")
 
     def check_rows(self, microcode: bytes, samples: bytes) -> None:
@@ -181,8 +181,9 @@ def least_of(places: Places, known: Known) -> str:
     """The last cell of a row: whether the period is the least."""
     if places.period == known.bound:
         return BY_BOUND
-    left = known.open(places.period)
-    return OPEN + spans(left) if left else BY_SOLVER
+    if left := known.open(places.period):
+        return OPEN + spans(left)
+    return BY_PROBING if known.refuted.get(places.period - 1) == PROBING else BY_SOLVER
 
 
 def periods_in(text: str) -> set[int]:
