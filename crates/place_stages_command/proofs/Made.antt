@@ -1,12 +1,15 @@
 -- The machine of a plan over several stages with places that a text gives, and its run over the files.
-use Rattle.std.proofs.Common.{◌≡◌, ◌∙◌, ◌-◌, ◌≤◌, sym, subst, inr, ℕ, [], ◌∷◌, Result, Ok, Err, IfOk}
-use Rattle.cycle_sim.specs.Machine.{Snapshot}
+use Rattle.std.proofs.Common.{◌≡◌, ◌∙◌, ◌-◌, ◌≤◌, sym, ap, subst, inr, ℕ, [], Result, Ok, Err}
+use Rattle.std.specs.Prelude.{IfOk}
+use Rattle.cycle_sim.specs.Machine.{Snapshot, state_of}
 use Rattle.cycle_sim.specs.Microcode.{micro_of, inputs_of}
 use Rattle.datapath.specs.Allowed.{IsDatapath}
 use Rattle.datapath.specs.declared.types.Datapath.{Datapath}
 use Rattle.desk_core.specs.View.{Name, Content, View}
 use Rattle.desk_core.specs.Desk.{WhereSpecified, content_of}
 use Rattle.loop_expand.specs.GraphFor.{IsGraphFor}
+use Rattle.micro_image.specs.Fields.{Microprogram}
+use Rattle.micro_image.specs.Run.{Stands, IsRunOut, spread}
 use Rattle.signal_graph.specs.declared.graph.Graph.{Graph}
 use Rattle.silage_syntax.specs.Tree.{Program}
 use Rattle.plan_soundness.specs.Run.{RunsSolutionLate}
@@ -23,12 +26,14 @@ use Rattle.plan_commands.specs.declared.planning.Inputs.{Inputs}
 use Rattle.plan_commands.proofs.Errors.{read_plan}
 use Rattle.plan_commands.proofs.Plans.{input_plan_by}
 use Rattle.run_command.specs.Run.{HasPlanInBy}
-use Rattle.run_command.proofs.Executing.{its_channels, valid_stream, ran_through, run_error_by}
+use Rattle.run_command.proofs.Executing.{its_channels, valid_stream, RanThrough, ran_through, run_error_by}
 use Rattle.sample_commands.specs.Streaming.{RunsFiles, IsNotRunOver}
+use Rattle.sample_commands.proofs.Simulating.{fresh_puts}
+use Rattle.sample_loops.specs.Private.MachineLaws.{runs_clear}
 use Rattle.silc_files.specs.Reading.{OnlyReads, IsInput}
 use Rattle.silc_files.specs.declared.files.Input.{Input}
-use Rattle.stage_commands.specs.Pipe.{staged_out}
-use Rattle.stage_commands.proofs.Piping.{staged_runs, guarded_run}
+use Rattle.stage_commands.specs.Pipe.{staged_out, HasGuardedRun}
+use Rattle.stage_commands.proofs.Piping.{staged_runs}
 use Rattle.statuses.specs.declared.status.Status.{Status}
 use Rattle.statuses.specs.declared.status.Status.TheVariants.{Done}
 use Rattle.place_stages_command.specs.Endings.{told}
@@ -133,6 +138,25 @@ module _ (stages : ℕ) (some : 1 ≤ stages) (src datapath plan : Name) (old ne
 module _ {Reads : Name → Type 0} (stages : ℕ) (src datapath plan samples out : Name) (old mid new : View)
     (machine : Snapshot) (first : OnlyReads Reads old mid)
     (is : IsGuardedMachine stages src datapath plan old mid machine) where
+  guarded_run : (after : Snapshot)
+      → (ran : RanThrough AreFilesRefused (IsPlacedOver stages is.text) (staged_out stages) src datapath samples out
+      old mid new machine first is.planned after)
+      → HasGuardedRun is.guarded ran.solved.stream after ran.solved.text
+  guarded_run after ran =
+      let fresh = is.planned.fresh in
+      let micro = micro_of machine.code in
+      record {
+        obeys = ap micro_of ran.code ∙ is.obeys;
+        stands =
+            subst (λ (m : Microprogram). Stands (state_of after) m (spread m.period ran.solved.stream)) is.obeys
+            (ran.given.stands [] fresh.stands);
+        rows = ran.puts;
+        run = subst (λ (m : Microprogram). IsRunOut m ran.solved.stream ran.puts) is.obeys
+            (fresh_puts machine fresh ran.solved.stream ran.puts
+            (runs_clear micro (state_of machine) (state_of after) ran.solved.stream ran.puts ran.given));
+        text_is = ran.text_is;
+      }
+
   pub pipe_done : (after : Snapshot)
       → RunsFiles samples out machine after mid new Done
       → IsPlacePiped stages src datapath plan samples out after old new
@@ -156,9 +180,7 @@ module _ {Reads : Name → Type 0} (stages : ℕ) (src datapath plan samples out
         narrow = is.narrow;
         guarded = is.guarded;
         guarded_of = is.guarded_of;
-        ran =
-            guarded_run AreFilesRefused (IsPlacedOver stages is.text) (staged_out stages) src datapath samples out old
-            mid new machine first is.planned is.guarded is.obeys after its;
+        ran = guarded_run after its;
       }
 
   pub pipe_stopped : (ending : Status)

@@ -2,14 +2,12 @@
 use Rattle.std.proofs.Common.{◌≡◌, ◌⊎◌, ◌∙◌, refl, sym, ap, subst, arith, inl, inr, ⊎_elim, ℕ, ◌<◌, ◌≤◌, List, [], ◌∷◌}
 use Rattle.std.proofs.Common.{length, Option, Some, None}
 use Rattle.std.proofs.lemmas.List.Elements.{All-get_or}
-use Rattle.datapath.specs.Allowed.{IsDatapath}
 use Rattle.datapath.specs.declared.types.Datapath.{Datapath}
 use Rattle.desk_core.specs.View.{Name, Content, Files, View}
 use Rattle.desk_core.specs.Desk.{WhereSpecified, content_of}
 use Rattle.desk_core.specs.Whole.{IsUnchangedButInput}
 use Rattle.desk_core.proofs.DeskLemmas.{rose_later}
 use Rattle.desk_core.proofs.WholeLemmas.{through_from}
-use Rattle.front_end.specs.GraphOf.{IsProgramGraph}
 use Rattle.operations.specs.declared.units.PortRef.{PortRef}
 use Rattle.signal_graph.specs.GraphRules.{IsGraph}
 use Rattle.signal_graph.specs.declared.graph.Edge.{Edge}
@@ -50,8 +48,7 @@ use Rattle.statuses.specs.declared.status.Status.{Status}
 use Rattle.statuses.specs.declared.status.Status.TheVariants.{Memory, Desk, FrontEnd}
 use Rattle.place_stages_command.specs.Endings.{HasItsLine, told, misplaced_in, ungiven_in}
 use Rattle.place_stages_command.specs.Piped.{IsPlacedOver}
-use Rattle.place_stages_command.specs.Unpiped.{IsNever, AreFilesRefused, IsTextRefusal, AreMisplaced, IsStoppedPipe}
-use Rattle.place_stages_command.specs.Unpiped.{IsUnpiped}
+use Rattle.place_stages_command.specs.Unpiped.{IsNever, AreFilesRefused, AreMisplaced, IsUnpiped}
 use Rattle.place_stages_command.specs.Private.Placing.{IsGivenIn, IsRefusedFor, IsUngivenIn, IsUnplacedIn}
 use Rattle.place_stages_command.specs.Private.Placing.{IsNoInputPlacing, IsUnready}
 use Rattle.place_stages_command.specs.declared.ending.PipeEnding.{PipeEnding}

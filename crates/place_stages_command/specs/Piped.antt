@@ -1,5 +1,5 @@
 -- What `silc_place pipe SRC DP PLAN S SAMPLES OUT` runs and leaves.
-use Rattle.std.specs.Prelude.{◌≡◌, ℕ, ◌≤◌, List, length}
+use Rattle.std.specs.Prelude.{ℕ, ◌≤◌, List, length}
 use Rattle.cycle_sim.specs.Machine.{Snapshot}
 use Rattle.datapath.specs.declared.types.Datapath.{Datapath}
 use Rattle.desk_core.specs.View.{Name, View}

@@ -4,7 +4,7 @@ ghost use Rattle.desk_core.specs.Desk.{FaultsNeverFall, IsUnchanged};
 use crate::ending::{PipeEnding, PipeRefusal};
 use arrayvec::ArrayString;
 use desk_core::Desk;
-use place_command::PlaceEnding;
+use statuses::report_error;
 use std::fmt::Write;
 
 /// A line that is reported. The longest, of a full register file, has 71 bytes.
@@ -21,12 +21,12 @@ fn report_refusal<D: Desk>(desk: &mut D, refusal: &PipeRefusal)
 }
 
 /// Reports an error in one line. It takes no memory, and names of elements have any length.
-pub fn report<D: Desk>(desk: &mut D, ending: PipeEnding)
+pub fn report<D: Desk>(desk: &mut D, ending: &PipeEnding)
     ensures faults { FaultsNeverFall (D.view desk.old) (D.view desk.new) }
     ensures unchanged { IsUnchanged (D.view desk.old) (D.view desk.new) }
 {
     match ending {
-        PipeEnding::Told(ending) => place_command::report(desk, &PlaceEnding::Told(ending)),
-        PipeEnding::Refused(refusal) => report_refusal(desk, &refusal),
+        PipeEnding::Told(ending) => report_error(desk, "silc_place", ending),
+        PipeEnding::Refused(refusal) => report_refusal(desk, refusal),
     }
 }

@@ -93,9 +93,8 @@ fn carry_out_pipe(rt: HostRuntime, words: &[String]) -> ExitCode {
         }
         _ => PipeEnding::from(Status::Words),
     };
-    let code = pipe_code(&ending);
-    report_pipe(&mut desk, ending);
-    ExitCode::from(code)
+    report_pipe(&mut desk, &ending);
+    ExitCode::from(pipe_code(&ending))
 }
 
 /// Makes the microcode that the words name. An output that is an input is none.
