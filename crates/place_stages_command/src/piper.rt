@@ -83,12 +83,7 @@ fn placed_over(
 }
 
 /// The plan of the inputs over so many stages with the places that the text gives.
-fn placed_of(
-    alloc: Global,
-    inputs: &Inputs,
-    text: &Input,
-    stages: u8,
-) -> Result<Placed, PipeEnding>
+fn placed_of(alloc: Global, inputs: &Inputs, text: &Input, stages: u8) -> Result<Placed, PipeEnding>
     requires short { IsShort text.now }
     requires stages { (1 ≤ stages) × (stages ≤ 4) }
     ensures ok { IfOk result (IsInputPlacing stages inputs.now text.now) }

@@ -1,12 +1,13 @@
 //! The program `silc_place` over the host's files and standard streams.
 #![tactic(auto)]
 
-ghost use Rattle.std.specs.Prelude.{◌≤◌, IfSome};
+ghost use Rattle.std.specs.Prelude.{◌≡◌, ◌≤◌, length, IfSome};
 
 use host_desk::HostDesk;
 use place_command::{PlaceEnding, code, place, report};
 use place_stages_command::{PipeEnding, code as pipe_code, place_pipe, report as report_pipe};
 use statuses::Status;
+use std::alloc::Global;
 use std::env;
 use std::io::{self, ErrorKind};
 use std::process::ExitCode;
@@ -74,27 +75,42 @@ fn stages_of(word: &str) -> Option<u8>
     }
 }
 
-/// Runs the plan that the words behind `pipe` name. An output that is an input is none.
-fn carry_out_pipe(rt: HostRuntime, words: &[String]) -> ExitCode {
+/// Runs the plan that these words name over so many stages. An output that is an input is none.
+fn run_pipe(
+    alloc: Global,
+    desk: &mut HostDesk,
+    words: &[String],
+    stages: u8,
+) -> Result<(), PipeEnding>
+    requires { (1 ≤ stages) × (stages ≤ 4) }
+{
+    match words {
+        [src, dp, plan, _, samples, out]
+            if out != samples && out != plan && out != src && out != dp => {
+            place_pipe(alloc, desk, src, dp, plan, stages, samples, out)?;
+            Ok(())
+        }
+        _ => Err(PipeEnding::from(Status::Words)),
+    }
+}
+
+/// Runs the plan that the six words behind `pipe` name.
+fn carry_out_pipe(rt: HostRuntime, words: &[String]) -> ExitCode
+    requires { length words.now ≡ 6 }
+{
     let alloc = rt.alloc();
     let mut desk = HostDesk::new(rt);
-    let ending = match words {
-        [source, datapath, plan, stages, samples, output]
-            if output != samples && output != plan && output != source && output != datapath => {
-            match stages_of(stages) {
-                Some(stages) => {
-                    match place_pipe(alloc, &mut desk, source, datapath, plan, stages, samples, output) {
-                        Ok(_) => return ExitCode::SUCCESS,
-                        Err(ending) => ending,
-                    }
-                }
-                None => PipeEnding::from(Status::Words),
-            }
-        }
-        _ => PipeEnding::from(Status::Words),
+    let result = match stages_of(&words[3]) {
+        Some(stages) => run_pipe(alloc, &mut desk, words, stages),
+        None => Err(PipeEnding::from(Status::Words)),
     };
-    report_pipe(&mut desk, &ending);
-    ExitCode::from(pipe_code(&ending))
+    match result {
+        Ok(()) => ExitCode::SUCCESS,
+        Err(ending) => {
+            report_pipe(&mut desk, &ending);
+            ExitCode::from(pipe_code(&ending))
+        }
+    }
 }
 
 /// Makes the microcode that the words name. An output that is an input is none.
