@@ -164,6 +164,7 @@ module _ (stages : ℕ) (g : Graph) (d : Datapath) (sound : IsGraph g) (given : 
     fault_told : (fault : StagePlaceFault)
         → IsStagePlaceFault g d stages given.places fault
         → IsRefusedFor (IsUnplacedIn stages g d input) (misplaced_in given.lines fault)
+    unfolding misplaced
     fault_told (place.Line fault) h = λ t of. inr (misplaced (place.Line fault) h t of)
     fault_told (place.Missing v) h = λ t of. inr (misplaced (place.Missing v) h t of)
     fault_told (place.Surplus v) h = λ t of.
@@ -298,7 +299,7 @@ unready stages src datapath plan old new inputs text unchanged are text_is (Refu
 }
 
 -- the text of PLAN, where files are specified
-text_in : Name → Option Files → Content
+abbrev text_in : Name → Option Files → Content
 text_in plan None = []
 text_in plan (Some files) = content_of (files plan)
 

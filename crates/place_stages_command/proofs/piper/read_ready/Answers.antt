@@ -78,6 +78,12 @@ returns-in_err-placed-clause-err g c =
     c.in_ok-inputs.inputs c.in_ok-inputs.ensures.ok)
     c.in_ok-text.ensures.ok c.in_err-placed.field-0.0 c.in_err-placed.ensures.err)
 
+pub returns-in_err-ready_for-clause-reads : goal.returns-in_err-ready_for-clause-reads
+returns-in_err-ready_for-clause-reads g c =
+    reads_more (c.args.plan.now ∷ []) (c.args.source.now ∷ c.args.datapath.now ∷ []) (g.D.Desk.view c.args.desk.now)
+    (g.D.Desk.view c.read_input.new.desk) (g.D.Desk.view c.read_inputs.new.desk) c.in_ok-text.ensures.reads
+    c.in_ok-inputs.ensures.reads
+
 pub returns-in_err-ready_for-clause-err : goal.returns-in_err-ready_for-clause-err
 returns-in_err-ready_for-clause-err g c =
     let reads =
