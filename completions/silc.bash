@@ -68,6 +68,7 @@ synthesize *.toml
 board - *.mic /
 fuzz sources|datapaths|microcode|samples|damaged|all - -
 place *.sil *.toml * *
+place pipe *.sil *.toml * - * *
 same *.sil *.mic
 show tokens|tree|text|names|elements|types|graph *.sil
 show origins *.sil *.toml
