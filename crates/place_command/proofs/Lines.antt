@@ -1,10 +1,11 @@
 -- A node that a fault of places names has a place.
 use Rattle.std.proofs.Common.{◌≡◌, ◌⊎◌, ⊎_elim, sym, subst, subst₂, arith, ℕ, ◌<◌, List, length}
 use Rattle.std.specs.Prelude.{IfSome}
-use Rattle.operations.specs.declared.units.PortRef.{PortRef}
 use Rattle.datapath.specs.Allowed.{IsDatapath}
 use Rattle.datapath.specs.declared.types.Datapath.{Datapath}
 use Rattle.plan_core.specs.Arcs.{no_arc, arc_of}
+use Rattle.plan_core.specs.Hardware.{port_of}
+use Rattle.plan_core.specs.Operands.{no_edge, Reads}
 use Rattle.placed_plan.specs.Faults.{HasUnplacedNode, HasUnkeptNode, IsPlaceFault}
 use Rattle.placed_plan.specs.declared.fault.PlaceFault.{PlaceFault}
 use Rattle.placed_plan.specs.declared.fault.PlaceFault.TheVariants.{Line as Unstored, Missing, Surplus, TooWide}
@@ -14,9 +15,9 @@ use Rattle.placed_plan.specs.declared.place.Place.{Place}
 use Rattle.placed_plan.proofs.OneFault.{problem}
 use Rattle.plan_core.specs.declared.schedule.Assigned.{Assigned}
 use Rattle.plan_core.specs.declared.schedule.Schedule.{Schedule}
-use Rattle.schedule_priority.proofs.Problems.{operand_in}
+use Rattle.plan_core.proofs.Readers.{reader_there}
 use Rattle.signal_graph.specs.GraphRules.{IsGraph}
-use Rattle.signal_graph.specs.GraphSolves.{IsGraphLoopless}
+use Rattle.signal_graph.specs.GraphSolves.{no_node, IsGraphLoopless}
 use Rattle.signal_graph.specs.declared.graph.Graph.{Graph}
 use Rattle.place_command.specs.Refusals.{named_node}
 use Rattle.place_command.specs.Private.Endings.{HasItsLine}
@@ -30,13 +31,17 @@ module _ (g : Graph) (d : Datapath) (places : List Place) (allowed : IsDatapath 
       let there = h.unplaced.there in
       omega (arith, there, h.units.place_count)
 
-  unkept : (port : PortRef) (v : ℕ) → HasUnkeptNode g d places port v → v < length places
-  unkept port v h =
-      let k = h.none.k in
-      let read = (h.are_arcs.each k no_arc h.none.there).read in
+  unkept : (unit port v : ℕ) → HasUnkeptNode g d places (port_of unit port) v → v < length places
+  unkept unit port v h =
+      let nodes = h.assigned.lowered.nodes in
+      let arc = arc_of h.arcs h.none.k in
+      let read = (h.are_arcs.each h.none.k no_arc h.none.there).read in
       let its = problem g d places allowed sound loopless h.assigned h.is_lowered h.units in
+      let reads : Reads nodes read.0 arc.port.port arc.node = read.1.reads in
       subst₂ (λ (u n : ℕ). u < n) (sym h.none.node_is) (sym h.units.place_count)
-      (operand_in d h.assigned its read.0 (arc_of h.arcs k).port.port (arc_of h.arcs k).node read.1.reads)
+      (subst (λ (x : ℕ). x < length nodes) reads.node
+      (its.schedulable.edges read.0 no_node (reader_there nodes read.0 arc.port.port arc.node reads) arc.port.port
+      no_edge reads.port))
 
   pub named_there : (fault : PlaceFault)
       → IsPlaceFault g d places fault
@@ -51,7 +56,7 @@ module _ (g : Graph) (d : Datapath) (places : List Place) (allowed : IsDatapath 
   named_there (Busy v) h = stopped _ v h
   named_there (FileWritten unit port v) h = stopped _ v h
   named_there (NoBus unit port v) h = stopped _ v h
-  named_there (FileFull unit port v) h = unkept _ v h
+  named_there (FileFull unit port v) h = unkept unit port v h
   named_there Memory h = absurd h
 
   -- so it has a line, where there are as many lines as places

@@ -80,27 +80,27 @@ module _ (src datapath plan : Name) (old mid new : View) (inputs : Inputs) (are 
         compiled = λ files specified.
             let its = is.gives (content_of (files plan)) (text_is files (first.unchanged.files ∙ specified)) in
             record {
-          program = r.program;
-          path = d;
-          places = placed.places;
-          within = its.0;
-          gives = its.1;
-          plan = p;
-          planned = r.specified files specified;
-          given = at_given g d placed.places r.allowed keeps.sound p at;
-          routed = at_routed g d placed.places r.allowed keeps.sound p at;
-          narrow = at_narrow g d placed.places r.allowed keeps.sound p at;
-          image = of.image;
-          image_of = of.image_of;
-          spelled = of.spelled;
-          short = of.short;
-          inputs = of.image_of.inputs ∙ ap (map width_of) (at.placed.inputs ∙ keeps.keeps.inputs);
-          outs = of.image_of.outs ∙ at.placed.outs ∙ keeps.keeps.outs;
-          runs =
-              runs_the_solution r.program g of.image keeps
-              (of.runs g keeps.sound (at_feasible g d placed.places r.allowed keeps.sound p at));
-          period = of.image_of.period;
-        };
+              program = r.program;
+              path = d;
+              places = placed.places;
+              within = its.0;
+              gives = its.1;
+              plan = p;
+              planned = r.specified files specified;
+              given = at_given g d placed.places r.allowed keeps.sound p at;
+              routed = at_routed g d placed.places r.allowed keeps.sound p at;
+              narrow = at_narrow g d placed.places r.allowed keeps.sound p at;
+              image = of.image;
+              image_of = of.image_of;
+              spelled = of.spelled;
+              short = of.short;
+              inputs = of.image_of.inputs ∙ ap (map width_of) (at.placed.inputs ∙ keeps.keeps.inputs);
+              outs = of.image_of.outs ∙ at.placed.outs ∙ keeps.keeps.outs;
+              runs =
+                  runs_the_solution r.program g of.image keeps
+                  (of.runs g keeps.sound (at_feasible g d placed.places r.allowed keeps.sound p at));
+              period = of.image_of.period;
+            };
       }
 
 -- what is placed carries the solution

@@ -1,9 +1,8 @@
 -- Files have one answer: one refusal at most, and none where they have microcode.
-use Rattle.std.proofs.Common.{◌≡◌, ◌≢◌, ◌⊎◌, ◌∙◌, inl, inr, refl, sym, ap, subst, arith, ⊎_elim, ℕ, ◌<◌, ◌≤◌, List}
+use Rattle.std.proofs.Common.{◌≡◌, ◌≢◌, ◌⊎◌, ◌∙◌, inl, inr, refl, sym, ap, subst, arith, ⊎_elim, ℕ, ◌≤◌, List}
 use Rattle.std.proofs.Common.{length, Some}
 use Rattle.datapath.specs.Allowed.{IsDatapath}
 use Rattle.datapath.specs.Described.{IsPathOf}
-use Rattle.datapath.specs.PathRules.{IsPathFault}
 use Rattle.datapath.specs.declared.types.Datapath.{Datapath}
 use Rattle.datapath.proofs.DescribedPath.{one_path}
 use Rattle.desk_core.specs.View.{Name, Content, Files, View}
@@ -13,12 +12,10 @@ use Rattle.front_end.proofs.OneAnswer.{one_program, no_fault}
 use Rattle.front_end.proofs.OneGraph.{program_graph_once}
 use Rattle.front_end.proofs.SoundGraph.{program_graph_sound, program_graph_loopless}
 use Rattle.place_file.specs.Given.{IsGivenBy}
-use Rattle.place_file.specs.declared.fault.GivenFault.{GivenFault}
 use Rattle.place_file.specs.declared.given.Given.{Given}
 use Rattle.place_file.proofs.OneAnswer.{given_or_not, one_given, one_fault}
 use Rattle.placed_plan.specs.Faults.{IsPlaceFault}
 use Rattle.placed_plan.specs.Places.{IsPlanAt}
-use Rattle.placed_plan.specs.declared.fault.PlaceFault.{PlaceFault}
 use Rattle.placed_plan.specs.declared.place.Place.{Place}
 use Rattle.placed_plan.proofs.OneFault.{plan_or_not, one_place_fault}
 use Rattle.plan_commands.specs.Compile.{IsWriteAnswerOf}
@@ -35,7 +32,7 @@ use Rattle.statuses.specs.declared.status.Status.{Status}
 use Rattle.statuses.specs.declared.status.Status.TheVariants.{Done, Memory, Desk, FrontEnd, Path}
 use Rattle.place_command.specs.Placed.{IsPlaced, ArePlaced, IsPlaceAnswer}
 use Rattle.place_command.specs.Refusals.{text_refusal, place_refusal, IsUngiven, IsTextRefused, IsMisplaced}
-use Rattle.place_command.specs.Refusals.{IsRefusedPlan, AreRefusedPlan, IsInputRefusal, IsInputRefused, IsPlaceError}
+use Rattle.place_command.specs.Refusals.{IsRefusedPlan, IsInputRefusal, IsInputRefused, IsPlaceError}
 use Rattle.place_command.specs.declared.ending.PlaceEnding.{PlaceEnding}
 use Rattle.place_command.specs.declared.ending.PlaceEnding.TheVariants.{Told, Refused}
 use Rattle.place_command.specs.declared.ending.Refusal.{Refusal}
@@ -192,7 +189,7 @@ module _ (src datapath plan out : Name) (old : View) (files : Files) (are : old.
       → IsWriteAnswerOf (ArePlaced src datapath plan) (IsPlaceError src datapath plan) plan out old new status
       → ((status ≡ Done) × (microcode : Content) × IsPlaced s p t microcode)
       ⊎ (IsInputRefusal status × IsInputRefused status s p)
-  tells_status new Done other unread h = inl (refl, (h.microcode, h.compiled files are))
+  tells_status new Done other unread h = inl (refl, h.microcode, h.compiled files are)
   tells_status new Desk other unread h = absurd (unread refl)
   tells_status new status other unread h =
       ⊎_elim (λ memory. absurd (other memory.0))

@@ -1,5 +1,5 @@
 -- Why no microcode is made, from the endings of the parts.
-use Rattle.std.proofs.Common.{◌≡◌, ◌⊎◌, ◌∙◌, refl, inl, inr, ⊎_elim, subst, ◌≤◌, List, [], ◌∷◌, length}
+use Rattle.std.proofs.Common.{◌≡◌, ◌⊎◌, ◌∙◌, refl, inl, inr, ⊎_elim, subst, ◌≤◌, [], ◌∷◌, length}
 use Rattle.datapath.specs.declared.types.Datapath.{Datapath}
 use Rattle.desk_core.specs.View.{Name, Content, View}
 use Rattle.desk_core.specs.Desk.{WhereSpecified, content_of}
@@ -9,10 +9,6 @@ use Rattle.desk_core.proofs.WholeLemmas.{through_from}
 use Rattle.place_file.specs.Faults.{IsGivenFault}
 use Rattle.place_file.specs.declared.fault.GivenFault.{GivenFault}
 use Rattle.place_file.specs.declared.fault.GivenFault.TheVariants as of_given
-use Rattle.place_file.specs.declared.given.Given.{Given}
-use Rattle.placed_plan.specs.Faults.{IsPlaceFault}
-use Rattle.placed_plan.specs.declared.fault.PlaceFault.{PlaceFault}
-use Rattle.placed_plan.specs.declared.fault.PlaceFault.TheVariants as of_place
 use Rattle.plan_commands.specs.Compile.{IsWriteAnswerOf}
 use Rattle.plan_commands.specs.Planning.{AreRead, AreUnread, IsSourceIn, IsNoSource, IsPathIn, IsNoPath}
 use Rattle.plan_commands.specs.Planning.{IsNoInputPlanOf}
@@ -29,9 +25,9 @@ use Rattle.silc_files.proofs.Endings.{unchanged_trans}
 use Rattle.statuses.specs.declared.status.Status.{Status}
 use Rattle.statuses.specs.declared.status.Status.TheVariants.{Done, Memory, Desk, FrontEnd, Path}
 use Rattle.place_command.specs.Placed.{ArePlaced, IsPlaceAnswer, IsDone}
-use Rattle.place_command.specs.Refusals.{text_refusal, place_refusal, IsInputRefusal, IsInputRefused, IsOneUnread}
+use Rattle.place_command.specs.Refusals.{text_refusal, IsInputRefusal, IsInputRefused, IsOneUnread}
 use Rattle.place_command.specs.Refusals.{IsPlaceError}
-use Rattle.place_command.specs.Private.Endings.{IsToldAs, IsEndingOf, IsGivenIn, IsUngivenIn, IsUnplacedIn}
+use Rattle.place_command.specs.Private.Endings.{IsToldAs, IsEndingOf, IsUngivenIn, IsUnplacedIn}
 use Rattle.place_command.specs.Private.Endings.{IsNoInputPlacing, IsNotMade}
 use Rattle.place_command.specs.declared.ending.PlaceEnding.{PlaceEnding}
 use Rattle.place_command.specs.declared.ending.PlaceEnding.TheVariants.{Told, Refused}
@@ -73,28 +69,6 @@ module _ (g : Graph) (d : Datapath) (input : Input) where
       → IsEndingOf (IsUnplacedIn input g d) ending
   ungiven_over (Told ending) h = h
   ungiven_over (Refused refusal) h = λ text is. inl (h text is)
-
-  -- it gives places, with which the graph has no plan
-  pub misplaced_over : (its : Given)
-      → IsGivenIn input d its
-      → (fault : PlaceFault)
-      → (fault ≡ of_place.Memory) ⊎ IsPlaceFault g d its.places fault
-      → (ending : PlaceEnding)
-      → IsToldAs (fault ≡ of_place.Memory) (place_refusal its.lines fault) ending
-      → IsEndingOf (IsUnplacedIn input g d) ending
-  misplaced_over its gives fault why (Told ending) told = told.1
-  misplaced_over its gives fault why (Refused refusal) told =
-      λ text is.
-      inr (record {
-        short = (gives text is).0;
-        given = its;
-        gives = (gives text is).1;
-        fault = fault;
-        is_fault =
-            ⊎_elim (λ (e : fault ≡ of_place.Memory). absurd (told.0 e))
-            (λ (h : IsPlaceFault g d its.places fault). h) why;
-        told = told.1;
-      })
 
 -- The inputs.
 
@@ -150,60 +124,60 @@ module _ (src datapath plan : Name) (old mid new : View) where
           (λ rose. record { unchanged = u.unchanged; name = datapath; among = inr (inl refl); rose = rose })
           u.rose
 
-  module _ (first : OnlyReads (IsAmong (src ∷ datapath ∷ [])) old mid) (second : OnlyReads (IsAmong (plan ∷ [])) mid new)
-      where
-    unchanged : IsUnchangedButInput old new
-    unchanged = unchanged_trans old mid new first.unchanged second.unchanged
+  module _ (first : OnlyReads (IsAmong (src ∷ datapath ∷ [])) old mid)
+      (second : OnlyReads (IsAmong (plan ∷ [])) mid new) where
+      unchanged : IsUnchangedButInput old new
+      unchanged = unchanged_trans old mid new first.unchanged second.unchanged
 
-    -- PLAN could not
-    pub plan_unread : (status : Status)
-        → IsInputError plan mid new status
-        → IsPlaceError src datapath plan old new status
-    plan_unread Memory h = inl (refl, unchanged)
-    plan_unread Desk h = inr (inl (
-      refl,
-      record {
+      -- PLAN could not
+      pub plan_unread : (status : Status)
+          → IsInputError plan mid new status
+          → IsPlaceError src datapath plan old new status
+      plan_unread Memory h = inl (refl, unchanged)
+      plan_unread Desk h = inr (inl (
+        refl,
+        record {
+          unchanged = unchanged;
+          name = plan;
+          among = inr (inr (inl refl));
+          rose = rose_later _ _ _ (first.never_fall.reading plan) h;
+        },
+      ))
+      plan_unread other h = absurd h
+
+      -- no memory was left for the microcode
+      pub no_memory : (status : Status) → status ≡ Memory → IsPlaceError src datapath plan old new status
+      no_memory status e = inl (e, unchanged)
+
+      -- all were read, and have no plan
+      pub not_placed : (inputs : Inputs)
+          → AreRead src datapath old mid inputs
+          → (text : Input)
+          → WhereSpecified mid (λ files. IsInput (content_of (files plan)) text)
+          → IsReadThrough plan text_limit mid new
+          → (ending : PlaceEnding)
+          → IsNoInputPlacing inputs text ending
+          → IsNotMade src datapath plan old new ending
+      not_placed inputs are text text_is through (Told ending) h =
+          ⊎_elim (λ memory. inl (memory, unchanged))
+          (λ refused. inr (inr (
+            refused.0,
+            record {
+              unchanged = unchanged;
+              read = through_from plan text_limit old mid new first.unchanged.files through;
+              why = λ files is.
+                  refused.1 (content_of (files src)) (content_of (files datapath)) (are.source_is files is)
+                  (are.datapath_is files is);
+            },
+          )))
+          h
+      not_placed inputs are text text_is through (Refused refusal) h = record {
         unchanged = unchanged;
-        name = plan;
-        among = inr (inr (inl refl));
-        rose = rose_later _ _ _ (first.never_fall.reading plan) h;
-      },
-    ))
-    plan_unread other h = absurd h
-
-    -- no memory was left for the microcode
-    pub no_memory : (status : Status) → status ≡ Memory → IsPlaceError src datapath plan old new status
-    no_memory status e = inl (e, unchanged)
-
-    -- all were read, and have no plan
-    pub not_placed : (inputs : Inputs)
-        → AreRead src datapath old mid inputs
-        → (text : Input)
-        → WhereSpecified mid (λ files. IsInput (content_of (files plan)) text)
-        → IsReadThrough plan text_limit mid new
-        → (ending : PlaceEnding)
-        → IsNoInputPlacing inputs text ending
-        → IsNotMade src datapath plan old new ending
-    not_placed inputs are text text_is through (Told ending) h =
-        ⊎_elim (λ memory. inl (memory, unchanged))
-        (λ refused. inr (inr (
-          refused.0,
-          record {
-            unchanged = unchanged;
-            read = through_from plan text_limit old mid new first.unchanged.files through;
-            why = λ files is.
-                refused.1 (content_of (files src)) (content_of (files datapath)) (are.source_is files is)
-                (are.datapath_is files is);
-          },
-        )))
-        h
-    not_placed inputs are text text_is through (Refused refusal) h = record {
-      unchanged = unchanged;
-      read = through_from plan text_limit old mid new first.unchanged.files through;
-      why = λ files is.
-          h (content_of (files src)) (content_of (files datapath)) (content_of (files plan)) (are.source_is files is)
-          (are.datapath_is files is) (text_is files (first.unchanged.files ∙ is));
-    }
+        read = through_from plan text_limit old mid new first.unchanged.files through;
+        why = λ files is.
+            h (content_of (files src)) (content_of (files datapath)) (content_of (files plan)) (are.source_is files is)
+            (are.datapath_is files is) (text_is files (first.unchanged.files ∙ is));
+      }
 
 -- The answer.
 

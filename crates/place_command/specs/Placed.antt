@@ -67,7 +67,8 @@ abbrev pub IsUnmade : PlaceEnding → Type 0
 IsUnmade (Told ending) = (ending.status ≢ Done) × (ending.status ≢ Desk)
 IsUnmade (Refused refusal) = Unit {0}
 
--- When each ending comes, and what it leaves. SRC's fault is told first, then DP's, then PLAN's, then that of its places.
+-- When each ending comes, and what it leaves. SRC's fault is told first, then DP's, then PLAN's, then that of its
+-- places.
 abbrev pub IsPlaceAnswer : (src datapath plan out : Name) → View → View → PlaceEnding → Type 0
 IsPlaceAnswer src datapath plan out old new (Told ending) =
     IsWriteAnswerOf (ArePlaced src datapath plan) (IsPlaceError src datapath plan) plan out old new ending.status

@@ -8,7 +8,8 @@ use Rattle.plan_core.specs.Operands.{node_of, delay_at, Reads}
 use Rattle.plan_core.specs.Assigned.{unit_in, IsRightUnit}
 use Rattle.plan_core.specs.Heights.{ReadsNow, latency_of, IsPlacedBefore}
 use Rattle.plan_core.specs.Reservations.{IsGapApart, IsOneCycle, IsUnitFreeOver, IsFileFreeOver, result_on}
-use Rattle.plan_core.specs.ListSchedule.{slot_of, cycle_of, AreOperandsThere, IsDestination, IsPortBefore, IsTakenBefore}
+use Rattle.plan_core.specs.ListSchedule.{slot_of, cycle_of, AreOperandsThere, IsDestination, IsPortBefore}
+use Rattle.plan_core.specs.ListSchedule.{IsTakenBefore}
 use Rattle.plan_core.specs.declared.schedule.Assigned.{Assigned}
 use Rattle.plan_core.specs.declared.schedule.Schedule.{Schedule}
 use Rattle.plan_core.specs.declared.schedule.Slot.{Slot}
@@ -55,10 +56,8 @@ module _ (places : List Place) (d : Datapath) (a : Assigned) where
   at_cycle s height v t = eq t (place_of places v).cycle
 
   module _ (s : Schedule) (height : ℕ → ℕ) (v : ℕ) where
-    abbrev pub are_before : Test ((x : ℕ)
-        → x < length a.lowered.nodes
-        → IsPlacedBefore height x v
-        → IsPlacedAt places d a s height x)
+    abbrev pub are_before :
+        Test ((x : ℕ) → x < length a.lowered.nodes → IsPlacedBefore height x v → IsPlacedAt places d a s height x)
     are_before =
         below (length a.lowered.nodes) (λ x. implies (placed_before height x v)
         (λ z. is_placed_over gap_apart eq d.period at_cycle d a s height x))
@@ -102,8 +101,9 @@ module _ (d : Datapath) (a : Assigned) (s : Schedule) where
       (each_operand a.lowered.nodes v (λ q x. implies (lt q port) (λ y. implies (eq (delay_at a.lowered.nodes v q) 0)
       (λ z. le (cycle_of s x + latency_of d a x) t))))
 
-  module _ {IsAway : (gap t u : ℕ) → Type 0} {IsSame : (w x : ℕ) → Type 0} (away : (gap t u : ℕ) → Test (IsAway gap t u))
-      (same : (w x : ℕ) → Test (IsSame w x)) (height : ℕ → ℕ) (v : ℕ) where
+  module _ {IsAway : (gap t u : ℕ) → Type 0} {IsSame : (w x : ℕ) → Type 0}
+      (away : (gap t u : ℕ) → Test (IsAway gap t u)) (same : (w x : ℕ) → Test (IsSame w x)) (height : ℕ → ℕ)
+      (v : ℕ) where
     abbrev each_taken : {P : ℕ → Slot → Type 0}
         → ((u : ℕ) (slot : Slot) → Test (P u slot))
         → Test ((u : ℕ) (slot : Slot) → IsTakenBefore a s height v u slot → P u slot)

@@ -309,6 +309,7 @@ no_bus = record {
         file = passed (file_free p a crossing gap_apart eq its_heights 3 1 (port_of 2 1)) refl;
         none = λ b bus.
             let less : b < 1 = bus.route.there in
-            absurd ((bus.free 0 (slot_of crossing 0) input_taken refl) 0 (over 0 0 0) (omega arith) (omega (arith, less)));
+            absurd
+            ((bus.free 0 (slot_of crossing 0) input_taken refl) 0 (over 0 0 0) (omega arith) (omega (arith, less)));
       });
 }

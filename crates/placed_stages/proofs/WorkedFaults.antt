@@ -21,7 +21,8 @@ use Rattle.plan_core.proofs.Rows.{plain_path, edge, over}
 use Rattle.placed_plan.specs.Places.{place_of, AreOnGivenUnits}
 use Rattle.placed_plan.specs.declared.place.Place.{Place}
 use Rattle.placed_plan.proofs.PlaceTests.{on_units, operands_there, unit_free}
-use Rattle.placed_plan.proofs.WorkedPlaces.{passes, passes_nodes, passes_assigned, passes_delays, its_heights, in_cycles}
+use Rattle.placed_plan.proofs.WorkedPlaces.{passes, passes_nodes, passes_assigned, passes_delays, its_heights}
+use Rattle.placed_plan.proofs.WorkedPlaces.{in_cycles}
 use Rattle.placed_plan.proofs.WorkedPlaces.{slots}
 use Rattle.overlap_sim.specs.Placed.{IsInItsStages}
 use Rattle.placed_stages.specs.StagePlaces.{IsAtPlace, AtPlaceAround, IsStagePlacedAt, IsStageScheduleAt}
@@ -90,10 +91,11 @@ at_place places s height v t =
     (both (eq t (place_of places v).cycle) (le (gap_on d (unit_in a.units v)) d.period))
 
 module _ (places : List Place) (stages : ℕ) (s : Schedule) where
-  abbrev are_before : (v : ℕ) → Test ((x : ℕ)
-      → x < length a.lowered.nodes
-      → IsPlacedBefore its_heights x v
-      → IsStagePlacedAt places stages d a s its_heights x)
+  abbrev are_before : (v : ℕ)
+      → Test ((x : ℕ)
+          → x < length a.lowered.nodes
+          → IsPlacedBefore its_heights x v
+          → IsStagePlacedAt places stages d a s its_heights x)
   are_before v =
       below (length a.lowered.nodes) (λ x. implies (placed_before its_heights x v)
       (λ z. is_placed_over (gap_around 5) same_around (stages * 5) (at_place places) d a s its_heights x))

@@ -33,20 +33,20 @@ returns-in-Ok-write_whole-clause-headline g c =
     IsWrittenWhole c.args.output.now bytes (g.D.Desk.view c.make.new.desk) (g.D.Desk.view c.write_whole.new.desk))
     c.deref.ensures c.in-Ok-write_whole.ensures.ok)
 
-pub returns-in-Err-clause-headline : goal.returns-in-Err-clause-headline
-returns-in-Err-clause-headline g c =
+pub returns-clause-headline : goal.returns-clause-headline
+returns-clause-headline g c =
     λ done.
     absurd (never_done c.args.source.now c.args.datapath.now c.args.plan.now (g.D.Desk.view c.args.desk.now)
     (g.D.Desk.view c.make.new.desk) c.in-Err.ending c.in-Err.ensures.err done)
 
-pub returns-in-Err-clause-placed : goal.returns-in-Err-clause-placed
-returns-in-Err-clause-placed g c =
+pub returns-clause-placed : goal.returns-clause-placed
+returns-clause-placed g c =
     λ done.
     absurd (never_done c.args.source.now c.args.datapath.now c.args.plan.now (g.D.Desk.view c.args.desk.now)
     (g.D.Desk.view c.make.new.desk) c.in-Err.ending c.in-Err.ensures.err done)
 
-pub returns-in-Err-clause-answer : goal.returns-in-Err-clause-answer
-returns-in-Err-clause-answer g c =
+pub returns-clause-answer : goal.returns-clause-answer
+returns-clause-answer g c =
     not_made_answer c.args.source.now c.args.datapath.now c.args.plan.now (g.D.Desk.view c.args.desk.now)
     (g.D.Desk.view c.make.new.desk) c.args.output.now c.in-Err.ending c.in-Err.ensures.err
 
@@ -56,7 +56,7 @@ returns-in-Ok-write_whole-clause-answer g c =
     (λ (ending : PlaceEnding).
     IsPlaceAnswer c.args.source.now c.args.datapath.now c.args.plan.now c.args.output.now
     (g.D.Desk.view c.args.desk.now) (g.D.Desk.view c.write_whole.new.desk) ending)
-    (sym c.from-in-Ok-write_whole.ensures)
+    (sym c.from.ensures)
     (written c.args.source.now c.args.datapath.now c.args.plan.now c.args.output.now
     (g.D.Desk.view c.args.desk.now) (g.D.Desk.view c.make.new.desk) (g.D.Desk.view c.write_whole.new.desk)
     c.in-Ok.microcode c.requires c.in-Ok.ensures.reads.unchanged.files c.in-Ok.ensures.ok
