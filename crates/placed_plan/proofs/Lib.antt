@@ -4,3 +4,5 @@ pub mod FirstObstacles
 pub mod OneCause
 pub mod OneFault
 pub mod PlansAt
+pub mod PlaceTests
+pub mod WorkedPlaces
