@@ -10,5 +10,5 @@ pub mod Clear
 pub mod Latches
 pub mod Runs
 pub mod Scans
-pub mod Settled
+pub mod KeptCells
 pub mod Whole

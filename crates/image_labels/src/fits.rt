@@ -9,15 +9,17 @@ ghost use Rattle.micro_image.specs.Valid.{IsValid};
 ghost use Rattle.image_labels.specs.declared.label.Label.TheVariants.{Signal};
 ghost use Rattle.image_labels.specs.Labels.{turn_of, delay_on as delay_of, issue_label as label_of_issue};
 ghost use Rattle.image_labels.specs.Private.Checked.{IsIssuedBefore};
+ghost use Rattle.image_labels.specs.Private.Settled.{AreAllQuiet};
 ghost use Rattle.image_labels.specs.Labelled.{sample_at as sample_of, ReadsInOrder, ReadsExchanged, IsFree, IsOfNode, IsLoad, IsKept, IsMoved, IsConst, IsAddress, IsLabelOf, IsInRam, IsPut, IsFit};
 
 use crate::hardware::{
     cell_in, cells_on, delay_on, gap_on, issued_in, modulus_of, number_of, word_in,
 };
 use crate::label::{Certificate, Label};
-use crate::labels::{cell_label, is_signal, issue_label, operand_label, same_label};
+use crate::labels::{is_signal, issue_label, operand_label, same_label};
 use crate::narrow::{is_narrow, is_width};
 use crate::operands::reads_operands;
+use crate::settled::label_in;
 use fix_word::{Format, Op};
 use micro_image::{Image, Issue};
 use signal_graph::{Graph, Node};
@@ -111,14 +113,16 @@ fn is_load(
     cycle: u16,
     issue: &Issue,
     label: Label,
+    quiet: bool,
 ) -> bool
-    requires { cycle ≤ length image.now.words }
+    requires cycle { cycle ≤ length image.now.words }
+    requires quiet { IsTrue quiet → AreAllQuiet image.now certificate.now 32 }
     ensures { IsTrue result ↔ IsLoad image.now certificate.now cycle issue.now label }
 {
     match issue.op {
         Op::Load => match operand_label(image, certificate, cycle, issue, 0) {
             Label::Address(_, x) => same_label(
-                cell_label(image, certificate, u32::from(issue.unit), x, cycle),
+                label_in(image, certificate, u32::from(issue.unit), x, cycle, quiet),
                 label,
             ),
             _ => false,
@@ -160,12 +164,14 @@ fn is_moved(
     cycle: u16,
     issue: &Issue,
     label: Label,
+    quiet: bool,
 ) -> bool
     requires valid { IsValid image.now }
     requires cycle { cycle ≤ length image.now.words }
+    requires quiet { IsTrue quiet → AreAllQuiet image.now certificate.now 32 }
     ensures { IsTrue result ↔ IsMoved graph.now image.now certificate.now cycle issue.now label }
 {
-    is_load(image, certificate, cycle, issue, label)
+    is_load(image, certificate, cycle, issue, label, quiet)
         || is_kept(graph, image, certificate, cycle, issue, label)
 }
 
@@ -202,20 +208,22 @@ fn is_label_of(
     cycle: u16,
     issue: &Issue,
     label: Label,
+    quiet: bool,
 ) -> bool
     requires valid { IsValid image.now }
     requires cycle { cycle ≤ length image.now.words }
+    requires quiet { IsTrue quiet → AreAllQuiet image.now certificate.now 32 }
     ensures { IsTrue result ↔ IsLabelOf graph.now image.now certificate.now cycle issue.now label }
 {
     match label {
         Label::Unknown => true,
         Label::Signal(node, sample) => {
             is_of_node(graph, image, certificate, cycle, issue, node, sample)
-                || is_moved(graph, image, certificate, cycle, issue, label)
+                || is_moved(graph, image, certificate, cycle, issue, label, quiet)
         }
         Label::Address(cells, x) => is_address(image, cycle, issue, cells, x),
         Label::Constant(word) => {
-            is_const(issue, word) || is_moved(graph, image, certificate, cycle, issue, label)
+            is_const(issue, word) || is_moved(graph, image, certificate, cycle, issue, label, quiet)
         }
     }
 }
@@ -328,15 +336,17 @@ fn has_label(
     certificate: &Certificate,
     cycle: u16,
     issue: &Issue,
+    quiet: bool,
 ) -> bool
     requires valid { IsValid image.now }
     requires cycle { cycle ≤ length image.now.words }
+    requires quiet { IsTrue quiet → AreAllQuiet image.now certificate.now 32 }
     ensures { IsTrue result
         ↔ IsLabelOf graph.now image.now certificate.now cycle issue.now
         (label_of_issue certificate.now cycle issue.now.unit) }
 {
     let label = issue_label(certificate, cycle, u32::from(issue.unit));
-    is_label_of(graph, image, certificate, cycle, issue, label)
+    is_label_of(graph, image, certificate, cycle, issue, label, quiet)
 }
 
 /// Whether an issue ends in its turn.
@@ -384,14 +394,16 @@ pub fn is_fit(
     certificate: &Certificate,
     cycle: u16,
     issue: &Issue,
+    quiet: bool,
 ) -> bool
     requires graph { IsGraph graph.now }
     requires valid { IsValid image.now }
     requires cycle { cycle < length image.now.words }
+    requires quiet { IsTrue quiet → AreAllQuiet image.now certificate.now 32 }
     ensures yes { IsTrue result → IsFit graph.now image.now certificate.now cycle issue.now }
     ensures no { IsFit graph.now image.now certificate.now cycle issue.now → IsTrue result }
 {
     is_timely(image, cycle, u32::from(issue.unit))
         && is_placed(graph, image, certificate, cycle, issue)
-        && has_label(graph, image, certificate, cycle, issue)
+        && has_label(graph, image, certificate, cycle, issue, quiet)
 }

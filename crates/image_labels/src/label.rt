@@ -25,7 +25,9 @@ pub struct Certificate {
     pub registers: List<Label>,
     /// What each cell of a ram holds when a turn starts: cell x of unit u is at 65536 u + x.
     pub cells: List<Label>,
-    /// In which cycle of the turn each cell has what it holds when the turn ends, in the order of `cells`: the one after
-    /// the last store into it ends, or 0. No answer rests on it: where it is another one, the answer takes longer.
+    /// In which cycle of the turn the first store into each cell ends, or 0, in the order of `cells`. No answer rests on
+    /// this and the next list: where they have other cycles, the answer takes longer.
+    pub fresh: List<u16>,
+    /// The cycle after the one in which the last store into each cell ends, or 0.
     pub settled: List<u16>,
 }

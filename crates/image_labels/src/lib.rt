@@ -13,6 +13,7 @@ mod narrow;
 mod operands;
 mod recovery;
 mod rows;
+mod settled;
 mod starts;
 mod validation;
 

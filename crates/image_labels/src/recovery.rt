@@ -9,7 +9,7 @@ use crate::hardware::{
     register_at, take_into, word_in,
 };
 use crate::label::{Certificate, Label};
-use crate::labels::{first_cell, issue_label, operand_label, settled_in, stores_into};
+use crate::labels::{first_cell, fresh_in, issue_label, operand_label, settled_in, stores_into};
 use crate::misfits::does_node;
 use crate::operands::{commutes, edge_at};
 use fix_word::Op;
@@ -136,6 +136,12 @@ fn storer_of(
 ) -> Option<u16>
     requires { cycle ≤ length image.now.words }
 {
+    if settled_in(certificate, unit, cell) <= cycle {
+        return last_storer_of(image, certificate, unit, cell);
+    }
+    if cycle <= fresh_in(certificate, unit, cell) {
+        return None;
+    }
     let delay = u16::from(delay_on(image, unit));
     for back in 0..cycle {
         let before = cycle - back - 1;
@@ -683,17 +689,25 @@ fn cell_stored(image: &Image, certificate: &Certificate, cycle: u16, unit: u32) 
     }
 }
 
-/// Notes from which cycle on each cell has what it holds at the end of a turn.
-fn put_settled(image: &Image, certificate: &mut Certificate, turn: u16)
+/// Notes that a store ends in a cycle, behind all that were noted.
+fn note_store(certificate: &mut Certificate, index: usize, cycle: u16) {
+    if index < certificate.settled.len() && index < certificate.fresh.len() {
+        if certificate.settled[index] == 0 {
+            certificate.fresh[index] = cycle;
+        }
+        certificate.settled[index] = cycle.saturating_add(1);
+    }
+}
+
+/// Notes the first and the last store of a turn into each cell.
+fn put_stores(image: &Image, certificate: &mut Certificate, turn: u16)
     requires { turn ≤ length image.now.words }
 {
     for cycle in 0..turn {
         for unit in 0..UNITS {
             if let Some(cell) = cell_stored(image, certificate, cycle, unit) {
                 let index = unit as usize * CELLS + cell as usize;
-                if index < certificate.settled.len() {
-                    certificate.settled[index] = cycle + 1;
-                }
+                note_store(certificate, index, cycle);
             }
         }
     }
@@ -754,12 +768,13 @@ pub fn recover(alloc: Global, graph: &Graph, image: &Image) -> Result<Certificat
             issues: unknowns(alloc, issues)?,
             registers: unknowns(alloc, units * UNIT_REGISTERS)?,
             cells: unknowns(alloc, units * CELLS)?,
+            fresh: zeros(alloc, units * CELLS)?,
             settled: zeros(alloc, units * CELLS)?,
         },
         known: List::new(alloc),
     };
     put_addresses(image, &mut search.certificate.issues, turn);
-    put_settled(image, &mut search.certificate, turn);
+    put_stores(image, &mut search.certificate, turn);
     if !reads_constants_late(graph) {
         put_constants(image, &mut search.certificate.issues, turn);
     }

@@ -1,28 +1,23 @@
 //! Whether what registers and cells hold comes round with each turn.
-ghost use Rattle.std.specs.Prelude.{◌≡◌, ◌<◌, ◌≤◌, ◌+◌, ◌↔◌, [], ℕ, length, ℤ, IsTrue, OnOk, OnErr, Some};
+ghost use Rattle.std.specs.Prelude.{◌≡◌, ◌<◌, ◌≤◌, ◌+◌, ◌↔◌, [], ℕ, length, ℤ, IsTrue, OnOk, OnErr};
 ghost use Rattle.signal_graph.specs.Rules.{word_before as word_before_in};
 ghost use Rattle.signal_graph.specs.GraphSolves.{node_of};
 ghost use Rattle.micro_image.specs.Fields.{nth, unit_of, microprogram_of};
 ghost use Rattle.micro_image.specs.Log.{Register, Cell, initial};
 ghost use Rattle.micro_image.specs.Valid.{IsValid};
-ghost use Rattle.image_labels.specs.declared.label.Label.{Label as LabelOf};
-ghost use Rattle.image_labels.specs.Labels.{register_label as label_of_register, cell_label as label_of_cell, stored_label};
+ghost use Rattle.image_labels.specs.Labels.{register_label as label_of_register, cell_label as label_of_cell};
 ghost use Rattle.image_labels.specs.Labelled.{IsWordBefore, IsRegisterStart, IsCellStart};
 ghost use Rattle.image_labels.specs.Private.Checked.{IsFileStart, AreFilesStart, AreRegistersStart, IsRamStart, AreCellsStart};
-ghost use Rattle.image_labels.specs.Private.Settled.{settled_at, LeavesSettled, AreSettled};
+ghost use Rattle.image_labels.specs.Private.Settled.{AreAllQuiet};
 
 use crate::hardware::{
-    cell_in, cells_on, delay_on, ended_in, files_on, initial_cell, initial_register, registers_on,
-    word_before,
+    cell_in, cells_on, files_on, initial_cell, initial_register, registers_on, word_before,
 };
 use crate::label::{Certificate, Label};
-use crate::labels::{
-    cell_label, first_cell, first_register, is_signal, operand_label, register_label, same_label,
-    settled_in,
-};
+use crate::labels::{first_cell, first_register, is_signal, register_label, same_label};
 use crate::mismatch::Mismatch;
-use fix_word::Op;
-use micro_image::{Image, Issue};
+use crate::settled::label_in;
+use micro_image::Image;
 use signal_graph::Graph;
 
 /// Whether a word is that of a node before the run.
@@ -82,90 +77,6 @@ fn is_register_start(
     }
 }
 
-/// Whether an issue stores into no cell that is settled by the cycle in which the issue ends.
-fn spares(
-    image: &Image,
-    certificate: &Certificate,
-    unit: u32,
-    ends: u16,
-    cycle: u16,
-    issue: &Issue,
-) -> bool
-    requires { cycle ≤ length image.now.words }
-    ensures { IsTrue result → (x : ℕ) → settled_at certificate.now unit x ≤ ends → (before : LabelOf)
-        → stored_label image.now certificate.now cycle x (Some issue.now) before ≡ before }
-{
-    match issue.op {
-        Op::Store => match operand_label(image, certificate, cycle, issue, 0) {
-            Label::Address(_, cell) => ends < settled_in(certificate, unit, cell),
-            _ => true,
-        },
-        _ => true,
-    }
-}
-
-/// Whether what ends on a unit in a cycle stores into no cell that is settled by then.
-fn leaves_settled(image: &Image, certificate: &Certificate, unit: u32, cycle: u16) -> bool
-    requires { cycle < length image.now.words }
-    ensures { IsTrue result → LeavesSettled image.now certificate.now unit cycle }
-{
-    match ended_in(image, cycle, unit) {
-        Some(issue) => {
-            let issued = cycle.saturating_sub(u16::from(delay_on(image, unit)));
-            spares(image, certificate, unit, cycle, issued, issue)
-        }
-        None => true,
-    }
-}
-
-/// Whether the cells of a unit are settled from the cycles on that the certificate has. Where it has others, each cell is
-/// looked for in all cycles, and the answer is the same.
-fn are_settled(image: &Image, certificate: &Certificate, unit: u32, turn: u16) -> bool
-    requires { turn ≡ length image.now.words }
-    ensures { IsTrue result → AreSettled image.now certificate.now turn unit }
-{
-    for cycle in 0..turn {
-        if !leaves_settled(image, certificate, unit, cycle) {
-            return false;
-        }
-    }
-    true
-}
-
-/// The label of a cell at the end of a turn, of a unit whose cells are settled.
-fn settled_label(image: &Image, certificate: &Certificate, unit: u32, cell: u32, turn: u16) -> Label
-    requires turn { turn ≡ length image.now.words }
-    requires settled { AreSettled image.now certificate.now turn unit }
-    ensures { result ≡ label_of_cell image.now certificate.now unit cell turn }
-{
-    let settled = settled_in(certificate, unit, cell);
-    if settled < turn {
-        cell_label(image, certificate, unit, cell, settled)
-    } else {
-        cell_label(image, certificate, unit, cell, turn)
-    }
-}
-
-/// The label of a cell at the end of a turn.
-fn last_cell(
-    image: &Image,
-    certificate: &Certificate,
-    unit: u32,
-    cell: u32,
-    turn: u16,
-    settled: bool,
-) -> Label
-    requires turn { turn ≡ length image.now.words }
-    requires settled { IsTrue settled → AreSettled image.now certificate.now turn unit }
-    ensures { result ≡ label_of_cell image.now certificate.now unit cell turn }
-{
-    if settled {
-        settled_label(image, certificate, unit, cell, turn)
-    } else {
-        cell_label(image, certificate, unit, cell, turn)
-    }
-}
-
 /// Whether a cell comes round.
 fn is_cell_start(
     graph: &Graph,
@@ -175,11 +86,11 @@ fn is_cell_start(
     cells: u32,
     cell: u32,
     turn: u16,
-    settled: bool,
+    quiet: bool,
 ) -> bool
     requires turn { turn ≡ length image.now.words }
     requires cell { cell < cells }
-    requires settled { IsTrue settled → AreSettled image.now certificate.now turn unit }
+    requires quiet { IsTrue quiet → AreAllQuiet image.now certificate.now 32 }
     ensures { IsTrue result
         ↔ IsCellStart graph.now image.now certificate.now turn cells unit cell }
 {
@@ -189,7 +100,7 @@ fn is_cell_start(
             let last = cell_in(cells, u64::from(cell), u16::from(image.unroll)) as u32;
             is_before(graph, node, sample, initial_cell(image, unit, cell))
                 && is_signal(
-                    last_cell(image, certificate, unit, last, turn, settled),
+                    label_in(image, certificate, unit, last, turn, quiet),
                     node,
                     later(sample, image.unroll),
                 )
@@ -199,7 +110,7 @@ fn is_cell_start(
             let last = cell_in(cells, u64::from(cell), u16::from(image.unroll)) as u32;
             initial_cell(image, unit, cell) == word
                 && same_label(
-                    last_cell(image, certificate, unit, last, turn, settled),
+                    label_in(image, certificate, unit, last, turn, quiet),
                     Label::Constant(word),
                 )
         }
@@ -274,14 +185,15 @@ fn check_ram(
     unit: u32,
     cells: u32,
     turn: u16,
+    quiet: bool,
 ) -> Result<(), Mismatch>
-    requires { turn ≡ length image.now.words }
+    requires turn { turn ≡ length image.now.words }
+    requires quiet { IsTrue quiet → AreAllQuiet image.now certificate.now 32 }
     ensures ok { OnOk result (IsRamStart graph.now image.now certificate.now turn cells unit cells) }
     ensures err { OnErr result (IsRamStart graph.now image.now certificate.now turn cells unit cells → ⊥) }
 {
-    let settled = are_settled(image, certificate, unit, turn);
     for cell in 0..cells {
-        if !is_cell_start(graph, image, certificate, unit, cells, cell, turn, settled) {
+        if !is_cell_start(graph, image, certificate, unit, cells, cell, turn, quiet) {
             return Err(Mismatch::Cell(unit, cell));
         }
     }
@@ -294,16 +206,18 @@ pub fn check_cells(
     image: &Image,
     certificate: &Certificate,
     turn: u16,
+    quiet: bool,
 ) -> Result<(), Mismatch>
     requires valid { IsValid image.now }
     requires turn { turn ≡ length image.now.words }
+    requires quiet { IsTrue quiet → AreAllQuiet image.now certificate.now 32 }
     ensures ok { OnOk result (AreCellsStart graph.now image.now certificate.now turn 32) }
     ensures err { OnErr result (AreCellsStart graph.now image.now certificate.now turn 32 → ⊥) }
 {
     for unit in 0..32u32 {
         if (unit as usize) < image.units.len() {
             let cells = cells_on(image, unit) as u32;
-            check_ram(graph, image, certificate, unit, cells, turn)?;
+            check_ram(graph, image, certificate, unit, cells, turn, quiet)?;
         }
     }
     Ok(())

@@ -9,6 +9,7 @@ use crate::cycles::check_cycles;
 use crate::label::Certificate;
 use crate::mismatch::Mismatch;
 use crate::rows::check_rows;
+use crate::settled::are_all_quiet;
 use crate::starts::{check_cells, check_registers};
 use micro_image::Image;
 use signal_graph::Graph;
@@ -25,9 +26,10 @@ pub fn validate(graph: &Graph, image: &Image, certificate: &Certificate) -> Resu
         return Err(Mismatch::Outs);
     }
     let turn = image.words.len() as u16;
-    check_cycles(graph, image, certificate, turn)?;
+    let quiet = are_all_quiet(image, certificate, turn);
+    check_cycles(graph, image, certificate, turn, quiet)?;
     check_registers(graph, image, certificate, turn)?;
-    check_cells(graph, image, certificate, turn)?;
+    check_cells(graph, image, certificate, turn, quiet)?;
     check_rows(image, turn)?;
     Ok(())
 }
