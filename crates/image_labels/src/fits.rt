@@ -11,6 +11,7 @@ ghost use Rattle.image_labels.specs.Labels.{turn_of, delay_on as delay_of, issue
 ghost use Rattle.image_labels.specs.Private.Checked.{IsIssuedBefore};
 ghost use Rattle.image_labels.specs.Labelled.{sample_at as sample_of, ReadsInOrder, ReadsExchanged, IsFree, IsOfNode, IsLoad, IsKept, IsMoved, IsConst, IsAddress, IsLabelOf, IsInRam, IsPut, IsFit};
 
+use crate::copies::{same_format, same_operation};
 use crate::hardware::{
     cell_in, cells_on, delay_on, gap_on, issued_in, modulus_of, number_of, word_in,
 };
@@ -18,7 +19,7 @@ use crate::label::{Certificate, Label};
 use crate::labels::{cell_label, is_signal, issue_label, operand_label, same_label};
 use crate::narrow::{is_narrow, is_width};
 use crate::operands::reads_operands;
-use fix_word::{Format, Op};
+use fix_word::Op;
 use micro_image::{Image, Issue};
 use signal_graph::{Graph, Node};
 
@@ -30,24 +31,14 @@ pub fn sample_at(image: &Image, cycle: u16) -> u32
     1024 + u32::from(cycle / image.period)
 }
 
-fn same_format(a: Format, b: Format) -> bool
-    ensures { IsTrue result ↔ (a ≡ b) }
-{
-    a == b
-}
-
-fn same_operation(a: Op, b: Op) -> bool
-    ensures { IsTrue result ↔ (a ≡ b) }
-{
-    a == b
-}
-
 /// Whether the operation, the format and the argument of an issue are those of a node.
 fn does_same(issue: &Issue, node: &Node) -> bool
     ensures { IsTrue result
         ↔ ((issue.now.op ≡ node.now.op) × (issue.now.fmt ≡ node.now.fmt) × (issue.now.arg ≡ node.now.arg)) }
 {
-    same_operation(issue.op, node.op) && same_format(issue.fmt, node.fmt) && issue.arg == node.arg
+    same_operation(issue.op, node.op)
+        && same_format(issue.fmt, node.fmt)
+        && issue.arg == node.arg
 }
 
 /// Whether there is a node of this number, and the operation, the format and the argument of an issue are those of it.
