@@ -19,7 +19,8 @@ use Rattle.plan_core.specs.Operands.{edge_of}
 use Rattle.plan_soundness.specs.Samples.{past}
 use Rattle.plan_soundness.specs.Private.Solution.{meaning_by}
 use Rattle.plan_soundness.proofs.Meanings.{meaning-node}
-use Rattle.image_labels.specs.Rules.{representative, AreSameOperands, IsCopy, AreCopies, HaveSameWord}
+use Rattle.image_labels.specs.Rules.{representative, HaveOneRepresentative, AreSameOperands, IsCopy, AreCopies}
+use Rattle.image_labels.specs.Rules.{HaveSameWord}
 use Rattle.image_labels.proofs.NodeWords.{word_is, edge_sound, edge_there, sample_before}
 
 module _ (g : Graph) (stream : Rows) (words : Words) (sound : IsGraph g) (solves : GraphSolves g stream words)
@@ -84,6 +85,22 @@ module _ (g : Graph) (stream : Rows) (words : Words) (sound : IsGraph g) (solves
       (λ (some : 1 ≤ d). delayed_same n d w earlier (omega (arith, some)) few in-w)
       (cases_lt d 1)
 
+  -- two operands for which one node stands have one word
+  represented_same : (n v u : ℕ) (a b : Edge)
+      → Earlier n
+      → Lower n v
+      → u < v
+      → a.delay ≤ 1023
+      → a.node < length g.nodes
+      → b.node < length g.nodes
+      → HaveOneRepresentative nodes v u a b
+      → words a.node (pos n -ℤ pos a.delay) ≡ words b.node (pos n -ℤ pos a.delay)
+  represented_same n v u a b earlier lower below few in-a in-b one =
+      node_at n a.delay v a.node earlier lower (λ none. (one.lower none).0) few in-a
+      ∙ ap (λ (w : ℕ). words w (pos n -ℤ pos a.delay)) one.node
+      ∙ sym (node_at n a.delay v b.node earlier lower
+      (λ none. let less : b.node < u = (one.lower none).1 in omega (arith, less, below)) few in-b)
+
   -- two operands that are the same have one word
   operand_same : (n v u : ℕ) (a b : Edge)
       → Earlier n
@@ -95,10 +112,10 @@ module _ (g : Graph) (stream : Rows) (words : Words) (sound : IsGraph g) (solves
       → AreSameOperands nodes v u a b
       → words a.node (pos n -ℤ pos a.delay) ≡ words b.node (pos n -ℤ pos b.delay)
   operand_same n v u a b earlier lower below few in-a in-b same =
-      node_at n a.delay v a.node earlier lower (λ none. (same.lower none).0) few in-a
-      ∙ ap (λ (w : ℕ). words w (pos n -ℤ pos a.delay)) same.node
-      ∙ sym (node_at n a.delay v b.node earlier lower
-      (λ none. let less : b.node < u = (same.lower none).1 in omega (arith, less, below)) few in-b)
+      ⊎_elim (λ (own : a.node ≡ b.node). ap (λ (w : ℕ). words w (pos n -ℤ pos a.delay)) own)
+      (λ (one : HaveOneRepresentative nodes v u a b).
+      represented_same n v u a b earlier lower below few in-a in-b one)
+      same.node
       ∙ ap (λ (d : ℕ). words b.node (pos n -ℤ pos d)) same.delay
 
   -- the word of operand q of node u in sample n

@@ -41,7 +41,7 @@ use Rattle.image_labels.specs.Run.{Run, rows_of, Says, IsRight}
 use Rattle.image_labels.proofs.Frames.{later_cell}
 use Rattle.image_labels.proofs.NodeWords.{word_is as node_word_is, node_sound, edge_sound, edge_there}
 use Rattle.image_labels.proofs.NodeWords.{is_of_graph, sample_ago}
-use Rattle.image_labels.proofs.Copies.{representative_word}
+use Rattle.image_labels.proofs.CopyWords.{representative_word}
 use Rattle.image_labels.proofs.Rules.{meaning_exchanged, kept, word_bits, constant_at}
 use Rattle.image_labels.proofs.Turns.{fit_of, sample_is, sample_below, row_is}
 

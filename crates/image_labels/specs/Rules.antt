@@ -48,12 +48,16 @@ pub record HasBits (g : Graph) (v w : ℕ) : Type 0 where
 abbrev pub representative : List ℕ → (v : ℕ) → ℕ
 representative nodes v = slice_index_or nodes v v
 
--- One node stands for those of two operands, which are read as many samples ago. Those of the same sample are of nodes
--- below their readers.
-pub record AreSameOperands (nodes : List ℕ) (v u : ℕ) (a b : Edge) : Type 0 where
+-- One node stands for those of two operands of nodes v and u. Where they are read in the same sample, they are below
+-- their readers.
+pub record HaveOneRepresentative (nodes : List ℕ) (v u : ℕ) (a b : Edge) : Type 0 where
   pub node : representative nodes a.node ≡ representative nodes b.node
-  pub delay : a.delay ≡ b.delay
   pub lower : a.delay ≡ 0 → (a.node < v) × (b.node < u)
+
+-- two operands of nodes v and u are one node's, or one node stands for theirs, and are read as many samples ago
+pub record AreSameOperands (nodes : List ℕ) (v u : ℕ) (a b : Edge) : Type 0 where
+  pub delay : a.delay ≡ b.delay
+  pub node : (a.node ≡ b.node) ⊎ HaveOneRepresentative nodes v u a b
 
 -- node v is a copy of a node below it: it does the same, on the same operands, from the same words on
 pub record IsCopy (g : Graph) (nodes : List ℕ) (v u : ℕ) : Type 0 where

@@ -3,7 +3,7 @@ ghost use Rattle.std.specs.Prelude.{◌≡◌, ◌⊎◌, ◌<◌, ◌^◌, ◌�
 ghost use Rattle.signal_graph.specs.GraphRules.{IsGraph};
 ghost use Rattle.plan_core.specs.Operands.{no_edge};
 ghost use Rattle.micro_image.specs.Fields.{nth};
-ghost use Rattle.image_labels.specs.Rules.{representative as representative_of, AreSameOperands, IsCopy, AreCopies};
+ghost use Rattle.image_labels.specs.Rules.{representative as representative_of, HaveOneRepresentative, AreSameOperands, IsCopy, AreCopies};
 ghost use Rattle.image_labels.specs.Private.Checked.{HasSameOperands, IsOwnOrCopy};
 
 use crate::label::Certificate;
@@ -50,13 +50,21 @@ fn same_inits(a: &List<(u16, i64)>, b: &List<(u16, i64)>) -> bool
     a.as_slice() == b.as_slice()
 }
 
+/// Whether one node stands for those of two operands, of nodes v and u, which are below them where they are read in the
+/// same sample.
+fn have_one_representative(nodes: &List<u32>, v: u32, u: u32, a: Edge, b: Edge) -> bool
+    ensures { IsTrue result ↔ HaveOneRepresentative nodes.now v u a b }
+{
+    representative(nodes, a.node) == representative(nodes, b.node)
+        && (0 < a.delay || (a.node < v && b.node < u))
+}
+
 /// Whether two operands, of nodes v and u, are the same.
 fn same_operands(nodes: &List<u32>, v: u32, u: u32, a: Edge, b: Edge) -> bool
     ensures { IsTrue result ↔ AreSameOperands nodes.now v u a b }
 {
-    representative(nodes, a.node) == representative(nodes, b.node)
-        && a.delay == b.delay
-        && (0 < a.delay || (a.node < v && b.node < u))
+    a.delay == b.delay
+        && (a.node == b.node || have_one_representative(nodes, v, u, a, b))
 }
 
 /// Whether the operands of two nodes are the same.

@@ -1,6 +1,6 @@
 //! Finds labels for an image by its graph: from each output to the nodes that it reads, and so on to what these read.
 //! Nothing rests on what is found, as `validate` asks nothing of it.
-ghost use Rattle.std.specs.Prelude.{◌<◌, ◌≤◌, length};
+ghost use Rattle.std.specs.Prelude.{◌<◌, ◌≤◌, length, IfSome};
 ghost use Rattle.micro_image.specs.Valid.{IsValid};
 
 use crate::copies::{edge_at, is_copy, representative};
@@ -33,6 +33,10 @@ const PORTS: u32 = 3;
 const WORD_PORT: u32 = 1;
 /// What numbers are mixed by.
 const MIXER: u64 = 0x9E37_79B9_7F4A_7C15;
+/// A place at which no node is noted.
+const FREE: u32 = u32::MAX;
+/// How many places are looked at for a node.
+const PROBES: u64 = 16;
 /// More nodes than a graph has.
 const MOST_NODES: usize = 1 << 30;
 
@@ -774,7 +778,7 @@ fn want_outputs(
 
 /// A number that copies of a node share.
 fn mix(nodes: &List<u32>, node: &Node) -> u64 {
-    let mut mixed = u64::from(node.fmt.width);
+    let mut mixed = u64::from(node.fmt.width).wrapping_add(node.arg.unsigned_abs());
     for port in 0..PORTS {
         let edge = edge_at(&node.edges, port);
         let operand = u64::from(representative(nodes, edge.node));
@@ -787,23 +791,37 @@ fn mix(nodes: &List<u32>, node: &Node) -> u64 {
     mixed
 }
 
-/// Finds the node that stands for a node, where it is that of the last node with the same number.
-fn put_representative(graph: &Graph, nodes: &mut List<u32>, last: &mut List<u32>, v: u32)
+/// The first place that is free, or has a node of which a node is a copy, behind that of the number that its copies share.
+fn place_of(graph: &Graph, nodes: &List<u32>, places: &List<u32>, v: u32) -> Option<usize>
+    requires { v < length graph.now.nodes }
+    ensures { IfSome result (λ place. place < length places.now) }
+{
+    let count = places.len();
+    if count == 0 {
+        return None;
+    }
+    let first = mix(nodes, &graph.nodes[v as usize]);
+    for probe in 0..PROBES {
+        let place = (first.wrapping_add(probe) % count as u64) as usize;
+        let other = places[place];
+        if other == FREE || is_copy(graph, nodes, v, other) {
+            return Some(place);
+        }
+    }
+    None
+}
+
+/// Finds the node that stands for a node: one of which it is a copy, or itself, which is noted then.
+fn put_representative(graph: &Graph, nodes: &mut List<u32>, places: &mut List<u32>, v: u32)
     requires { v < length graph.now.nodes }
 {
-    let slots = last.len() as u64;
-    if slots == 0 {
-        return;
-    }
-    let slot = (mix(nodes, &graph.nodes[v as usize]) % slots) as usize;
-    let other = representative(nodes, last[slot]);
-    if is_copy(graph, nodes, v, other) {
-        let v = v as usize;
-        if v < nodes.len() {
-            nodes[v] = other;
+    if let Some(place) = place_of(graph, nodes, places, v) {
+        let other = places[place];
+        if other == FREE {
+            places[place] = v;
+        } else if (v as usize) < nodes.len() {
+            nodes[v as usize] = other;
         }
-    } else {
-        last[slot] = v;
     }
 }
 
@@ -816,6 +834,15 @@ fn numbers(alloc: Global, count: u32) -> Result<List<u32>, AllocError> {
     Ok(numbers)
 }
 
+/// So many places that are free.
+fn free_places(alloc: Global, count: u32) -> Result<List<u32>, AllocError> {
+    let mut places = List::new(alloc);
+    for _ in 0..count {
+        places.push(FREE)?;
+    }
+    Ok(places)
+}
+
 /// For each node one that stands for it: itself, or one below it of which it is a copy.
 fn representatives(alloc: Global, graph: &Graph) -> Result<List<u32>, AllocError> {
     let count = if graph.nodes.len() < MOST_NODES {
@@ -824,9 +851,9 @@ fn representatives(alloc: Global, graph: &Graph) -> Result<List<u32>, AllocError
         0
     };
     let mut nodes = numbers(alloc, count)?;
-    let mut last = numbers(alloc, count)?;
+    let mut places = free_places(alloc, 2 * count)?;
     for v in 0..count {
-        put_representative(graph, &mut nodes, &mut last, v);
+        put_representative(graph, &mut nodes, &mut places, v);
     }
     Ok(nodes)
 }
