@@ -56,7 +56,8 @@ module _ (g : Graph) (stream : Rows) (words : Words) (sound : IsGraph g) (solves
       → v < length g.nodes
       → q < operands (node_of g v).op
       → (edge_of (node_of g v) q).node < length g.nodes
-  edge_there v q in-v in-q = there_by (slice_get g.nodes (edge_of (node_of g v) q).node) refl (edge_sound v q in-v in-q).node
+  edge_there v q in-v in-q =
+      there_by (slice_get g.nodes (edge_of (node_of g v) q).node) refl (edge_sound v q in-v in-q).node
     where
       there_by : (o : Option Node)
           → slice_get g.nodes (edge_of (node_of g v) q).node ≡ o

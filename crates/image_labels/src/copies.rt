@@ -63,8 +63,7 @@ fn have_one_representative(nodes: &List<u32>, v: u32, u: u32, a: Edge, b: Edge) 
 fn same_operands(nodes: &List<u32>, v: u32, u: u32, a: Edge, b: Edge) -> bool
     ensures { IsTrue result ↔ AreSameOperands nodes.now v u a b }
 {
-    a.delay == b.delay
-        && (a.node == b.node || have_one_representative(nodes, v, u, a, b))
+    a.delay == b.delay && (a.node == b.node || have_one_representative(nodes, v, u, a, b))
 }
 
 /// Whether the operands of two nodes are the same.
@@ -73,7 +72,13 @@ fn has_same_operands(nodes: &List<u32>, v: u32, u: u32, a: &Node, b: &Node) -> b
 {
     for port in 0..3u32 {
         if (port as usize) < reads(a.op)
-            && !same_operands(nodes, v, u, edge_at(&a.edges, port), edge_at(&b.edges, port))
+            && !same_operands(
+                nodes,
+                v,
+                u,
+                edge_at(&a.edges, port),
+                edge_at(&b.edges, port),
+            )
         {
             return false;
         }

@@ -36,9 +36,7 @@ fn does_same(issue: &Issue, node: &Node) -> bool
     ensures { IsTrue result
         ↔ ((issue.now.op ≡ node.now.op) × (issue.now.fmt ≡ node.now.fmt) × (issue.now.arg ≡ node.now.arg)) }
 {
-    same_operation(issue.op, node.op)
-        && same_format(issue.fmt, node.fmt)
-        && issue.arg == node.arg
+    same_operation(issue.op, node.op) && same_format(issue.fmt, node.fmt) && issue.arg == node.arg
 }
 
 /// Whether there is a node of this number, and the operation, the format and the argument of an issue are those of it.

@@ -33,13 +33,7 @@ fn is_constant(graph: &Graph, node: u32, word: i64) -> bool
 }
 
 /// Whether a label tells the word of a node in a sample.
-pub fn tells(
-    graph: &Graph,
-    certificate: &Certificate,
-    label: Label,
-    node: u32,
-    sample: u32,
-) -> bool
+pub fn tells(graph: &Graph, certificate: &Certificate, label: Label, node: u32, sample: u32) -> bool
     ensures { IsTrue result ↔ Tells graph.now certificate.now.representatives label node sample }
 {
     let nodes = &certificate.representatives;

@@ -791,7 +791,7 @@ fn mix(nodes: &List<u32>, node: &Node) -> u64 {
     mixed
 }
 
-/// The first place that is free, or has a node of which a node is a copy, behind that of the number that its copies share.
+/// The first place that is free or has a node that one is a copy of, from that of the number that copies share on.
 fn place_of(graph: &Graph, nodes: &List<u32>, places: &List<u32>, v: u32) -> Option<usize>
     requires { v < length graph.now.nodes }
     ensures { IfSome result (λ place. place < length places.now) }
