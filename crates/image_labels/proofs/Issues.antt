@@ -33,13 +33,15 @@ use Rattle.image_labels.specs.declared.label.Certificate.{Certificate}
 use Rattle.image_labels.specs.declared.label.Label.{Label}
 use Rattle.image_labels.specs.declared.label.Label.TheVariants.{Unknown, Signal, Address, Constant}
 use Rattle.image_labels.specs.Labels.{turn_of, word_in, issue_label, operand_label, cell_label}
-use Rattle.image_labels.specs.Rules.{IsCommutative, Tells, IsNarrow}
+use Rattle.image_labels.specs.Rules.{IsCommutative, representative, Tells, IsNarrow}
 use Rattle.image_labels.specs.Labelled.{sample_at, ReadsOperand, ReadsInOrder, ReadsExchanged, IsFit, IsLabelOf}
 use Rattle.image_labels.specs.Labelled.{IsOfNode}
 use Rattle.image_labels.specs.Labelled.{IsLoad, IsKept, IsMoved, IsConst, IsAddress}
 use Rattle.image_labels.specs.Run.{Run, rows_of, Says, IsRight}
 use Rattle.image_labels.proofs.Frames.{later_cell}
-use Rattle.image_labels.proofs.NodeWords.{word_is as node_word_is, node_sound, edge_sound, is_of_graph, sample_ago}
+use Rattle.image_labels.proofs.NodeWords.{word_is as node_word_is, node_sound, edge_sound, edge_there}
+use Rattle.image_labels.proofs.NodeWords.{is_of_graph, sample_ago}
+use Rattle.image_labels.proofs.CopyWords.{representative_word}
 use Rattle.image_labels.proofs.Rules.{meaning_exchanged, kept, word_bits, constant_at}
 use Rattle.image_labels.proofs.Turns.{fit_of, sample_is, sample_below, row_is}
 
@@ -161,17 +163,36 @@ module _ {g : Graph} {image : Image} {certificate : Certificate} (run : Run g im
     late_sample : (s : ℕ) → past ≤ s → past ≤ k * image.unroll + s
     late_sample s le = omega (arith, le)
 
+    abbrev nodes : List ℕ
+    nodes = certificate.representatives
+
+    same_word : (v s : ℕ)
+        → v < length g.nodes
+        → 0 < s
+        → s ≤ sample_at image c
+        → run.words v (pos (k * image.unroll + s) -ℤ pos past)
+        ≡ run.words (representative nodes v) (pos (k * image.unroll + s) -ℤ pos past)
+    same_word v s in-v some le =
+        representative_word g run.stream run.words run.sound run.solves nodes run.fits.copies v (k * image.unroll + s)
+        in-v (omega (arith, some)) (in_samples s le)
+
     -- a label that tells a word says it
     tells_says : (label : Label) (value : ℤ) (v s : ℕ)
-        → Tells g label v s
+        → Tells g nodes label v s
+        → v < length g.nodes
+        → 0 < s
         → s ≤ sample_at image c
         → Says run k label value
         → value ≡ run.words v (pos (k * image.unroll + s) -ℤ pos past)
-    tells_says Unknown value v s tells le says = absurd tells
-    tells_says (Signal w r) value v s tells le says =
-        says ∙ ap₂ (λ (w r : ℕ). run.words w (pos (k * image.unroll + r) -ℤ pos past)) tells.0 tells.1
-    tells_says (Address cells x) value v s tells le says = absurd tells
-    tells_says (Constant word) value v s tells le says =
+    tells_says Unknown value v s tells in-v some le says = absurd tells
+    tells_says (Signal w r) value v s tells in-v some le says =
+        says
+        ∙ ap (λ r. run.words w (pos (k * image.unroll + r) -ℤ pos past)) tells.2
+        ∙ same_word w s tells.0 some le
+        ∙ ap (λ u. run.words u (pos (k * image.unroll + s) -ℤ pos past)) tells.1
+        ∙ sym (same_word v s in-v some le)
+    tells_says (Address cells x) value v s tells in-v some le says = absurd tells
+    tells_says (Constant word) value v s tells in-v some le says =
         says
         ∙ sym (constant_at g run.stream run.words run.sound run.solves v word (k * image.unroll + s) tells.0
         (late_sample s tells.1) (in_samples s le))
@@ -195,6 +216,8 @@ module _ {g : Graph} {image : Image} {certificate : Certificate} (run : Run g im
     reads_word v port q in-v in-q in-port reads =
         tells_says (operand_label image certificate c issue port) (operand micro log t issue port)
         (edge_of (node_of g v) q).node (sample_at image c - (edge_of (node_of g v) q).delay) reads
+        (edge_there g run.stream run.words run.sound run.solves v q in-v in-q)
+        (omega (arith, (edge_sound g run.stream run.words run.sound run.solves v q in-v in-q).delay))
         (omega arith) (operand_says port in-port)
         ∙ ap (run.words (edge_of (node_of g v) q).node)
         (sample_ago (k * image.unroll) (c / image.period) (edge_of (node_of g v) q).delay

@@ -1,6 +1,7 @@
 pub mod Frames
 pub mod NodeWords
 pub mod Rules
+pub mod CopyWords
 pub mod Turns
 pub mod Entries
 pub mod Issues

@@ -25,7 +25,7 @@ use Rattle.plan_soundness.specs.Private.Cells.{cell_in}
 use Rattle.image_labels.specs.declared.label.Label.{Label}
 use Rattle.image_labels.specs.declared.label.Label.TheVariants.{Unknown, Signal, Address, Constant}
 use Rattle.image_labels.specs.declared.label.Certificate.{Certificate}
-use Rattle.image_labels.specs.Rules.{IsCommutative, Tells, IsNarrow}
+use Rattle.image_labels.specs.Rules.{IsCommutative, AreCopies, Tells, IsNarrow}
 use Rattle.image_labels.specs.Labels.{turn_of, word_in, delay_on, issued_in, ended_in, issue_label, register_label}
 use Rattle.image_labels.specs.Labels.{operand_label, cell_label}
 
@@ -106,7 +106,8 @@ module _ (g : Graph) (image : Image) (certificate : Certificate) where
   -- in this sample the issue of cycle c reads operand q of the node at this port
   abbrev pub ReadsOperand : (sample c : ℕ) → Issue → Node → (port q : ℕ) → Type 0
   ReadsOperand sample c issue node port q =
-      Tells g (operand_label image certificate c issue port) (edge_of node q).node (sample - (edge_of node q).delay)
+      Tells g certificate.representatives (operand_label image certificate c issue port) (edge_of node q).node
+      (sample - (edge_of node q).delay)
 
   -- the issue of cycle c reads the operands of the node, each at its port
   abbrev pub ReadsInOrder : (sample c : ℕ) → Issue → Node → Type 0
@@ -190,6 +191,7 @@ module _ (g : Graph) (image : Image) (certificate : Certificate) where
   -- the labels of the certificate fit
   pub record IsLabelled : Type 0 where
     pub outs : image.outs ≡ g.outs
+    pub copies : AreCopies g certificate.representatives (length g.nodes)
     pub cycles : (c : ℕ) → c < turn_of image → IsFitCycle c
     pub registers : (u p r : ℕ)
         → u < length image.units

@@ -12,6 +12,7 @@ ghost use Rattle.image_labels.specs.Private.Checked.{IsIssuedBefore};
 ghost use Rattle.image_labels.specs.Private.Settled.{AreAllQuiet};
 ghost use Rattle.image_labels.specs.Labelled.{sample_at as sample_of, ReadsInOrder, ReadsExchanged, IsFree, IsOfNode, IsLoad, IsKept, IsMoved, IsConst, IsAddress, IsLabelOf, IsInRam, IsPut, IsFit};
 
+use crate::copies::{same_format, same_operation};
 use crate::hardware::{
     cell_in, cells_on, delay_on, gap_on, issued_in, modulus_of, number_of, word_in,
 };
@@ -20,7 +21,7 @@ use crate::labels::{is_signal, issue_label, operand_label, same_label};
 use crate::narrow::{is_narrow, is_width};
 use crate::operands::reads_operands;
 use crate::settled::label_in;
-use fix_word::{Format, Op};
+use fix_word::Op;
 use micro_image::{Image, Issue};
 use signal_graph::{Graph, Node};
 
@@ -30,18 +31,6 @@ pub fn sample_at(image: &Image, cycle: u16) -> u32
     ensures { result ≡ sample_of image.now cycle }
 {
     1024 + u32::from(cycle / image.period)
-}
-
-fn same_format(a: Format, b: Format) -> bool
-    ensures { IsTrue result ↔ (a ≡ b) }
-{
-    a == b
-}
-
-fn same_operation(a: Op, b: Op) -> bool
-    ensures { IsTrue result ↔ (a ≡ b) }
-{
-    a == b
 }
 
 /// Whether the operation, the format and the argument of an issue are those of a node.

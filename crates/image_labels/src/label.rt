@@ -19,6 +19,8 @@ pub enum Label {
 /// Where the words of a graph are in a turn of an image: what an image is checked by. Nothing is asked of it.
 #[derive(Drop)]
 pub struct Certificate {
+    /// For each node of the graph the one that stands for it, which has the same word in each sample.
+    pub representatives: List<u32>,
     /// What the issue of each cycle of the turn and each unit comes to: that of cycle c on unit u is at 32 c + u.
     pub issues: List<Label>,
     /// What each register holds when a turn starts: register r of port p of unit u is at 1024 u + 256 p + r.

@@ -2,6 +2,7 @@
 //! graph's solution, whoever made it.
 #![tactic(auto)]
 
+mod copies;
 mod cycles;
 mod fits;
 mod hardware;

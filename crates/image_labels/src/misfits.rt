@@ -2,11 +2,12 @@
 ghost use Rattle.std.specs.Prelude.{◌≤◌, length};
 ghost use Rattle.micro_image.specs.Valid.{IsValid};
 
+use crate::copies::edge_at;
 use crate::fits::sample_at;
 use crate::label::{Certificate, Label};
 use crate::labels::{issue_label, operand_label};
 use crate::mismatch::Mismatch;
-use crate::operands::{edge_at, tells};
+use crate::operands::tells;
 use fix_word::Op;
 use micro_image::{Image, Issue};
 use signal_graph::{Edge, Graph, Node};
@@ -79,7 +80,7 @@ fn operand_misfit(
             let edge = edge_at(edges, u32::from(port));
             let label = operand_label(image, certificate, cycle, issue, u32::from(port));
             let wants = sample.saturating_sub(u32::from(edge.delay));
-            if !tells(graph, label, edge.node, wants) {
+            if !tells(graph, certificate, label, edge.node, wants) {
                 let reader = Reader {
                     cycle,
                     unit: issue.unit,

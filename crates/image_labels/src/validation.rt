@@ -5,6 +5,7 @@ ghost use Rattle.micro_image.specs.Valid.{IsValid};
 ghost use Rattle.plan_soundness.specs.Run.{RunsSolution};
 ghost use Rattle.image_labels.specs.Labelled.{IsLabelled};
 
+use crate::copies::check_copies;
 use crate::cycles::check_cycles;
 use crate::label::Certificate;
 use crate::mismatch::Mismatch;
@@ -25,6 +26,7 @@ pub fn validate(graph: &Graph, image: &Image, certificate: &Certificate) -> Resu
     if image.outs != graph.outs {
         return Err(Mismatch::Outs);
     }
+    check_copies(graph, certificate)?;
     let turn = image.words.len() as u16;
     let quiet = are_all_quiet(image, certificate, turn);
     check_cycles(graph, image, certificate, turn, quiet)?;
