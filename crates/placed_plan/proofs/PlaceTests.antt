@@ -7,7 +7,7 @@ use Rattle.plan_core.specs.Hardware.{gap_on, port_of}
 use Rattle.plan_core.specs.Operands.{node_of, delay_at, Reads}
 use Rattle.plan_core.specs.Assigned.{unit_in, IsRightUnit}
 use Rattle.plan_core.specs.Heights.{ReadsNow, latency_of, IsPlacedBefore}
-use Rattle.plan_core.specs.Reservations.{IsGapApart, IsOneCycle, IsUnitFreeOver, IsFileFreeOver, result_on}
+use Rattle.plan_core.specs.Reservations.{IsGapApart, IsUnitFreeOver, IsFileFreeOver, result_on}
 use Rattle.plan_core.specs.ListSchedule.{slot_of, cycle_of, AreOperandsThere, IsDestination, IsPortBefore}
 use Rattle.plan_core.specs.ListSchedule.{IsTakenBefore}
 use Rattle.plan_core.specs.declared.schedule.Assigned.{Assigned}

@@ -1,7 +1,6 @@
 -- y = x + 1 in seven nodes on four units and one bus: a plan at places that no rule would give, and places that have
 -- none, each for another cause.
-use Rattle.std.proofs.Common.{◌≡◌, refl, subst, arith, ℕ, zero, suc, ◌+◌, ◌<◌, ◌≤◌, List, [], ◌∷◌, length, inl, inr}
-use Rattle.std.proofs.Common.{⊎_elim}
+use Rattle.std.proofs.Common.{refl, arith, ℕ, ◌<◌, List, [], ◌∷◌, inl}
 use Rattle.fix_word.specs.declared.operation.Op.TheVariants as op
 use Rattle.datapath.specs.declared.types.Datapath.{Datapath}
 use Rattle.signal_graph.specs.declared.graph.Graph.{Graph}
@@ -9,14 +8,12 @@ use Rattle.signal_graph.specs.declared.graph.Node.{Node}
 use Rattle.plan_core.specs.Hardware.{port_of}
 use Rattle.plan_core.specs.Operands.{node_of}
 use Rattle.plan_core.specs.Lowered.{IsLowered}
-use Rattle.plan_core.specs.ListSchedule.{slot_of, IsTakenBefore, IsDestination}
-use Rattle.plan_core.specs.Arcs.{arc_of, IsArcs, IsUnroll}
+use Rattle.plan_core.specs.ListSchedule.{slot_of, IsTakenBefore}
 use Rattle.plan_core.specs.declared.schedule.Assigned.{Assigned}
 use Rattle.plan_core.specs.declared.schedule.Schedule.{Schedule}
-use Rattle.plan_core.specs.declared.schedule.Slot.{Slot}
 use Rattle.plan_core.specs.declared.registers.Arc.{Arc}
 use Rattle.plan_core.specs.declared.plan.Plan.{Plan}
-use Rattle.plan_core.proofs.Tests.{passed, refuted, nay, below, eq}
+use Rattle.plan_core.proofs.Tests.{passed, refuted, below, eq}
 use Rattle.plan_core.proofs.OperandTests.{reads}
 use Rattle.plan_core.proofs.AssignedTests.{is_right_unit}
 use Rattle.plan_core.proofs.LoweredTests.{are_all_long, held_edge}
@@ -25,8 +22,8 @@ use Rattle.plan_core.proofs.RegisterTests.{are_arcs, is_unroll, is_first_fit}
 use Rattle.plan_core.proofs.PlanTests.{are_in_files}
 use Rattle.plan_core.proofs.Rows.{plain_path, edge, at, over, life, heights, byte, input_node, constant_node, sum_node}
 use Rattle.plan_core.proofs.Rows.{output_node}
-use Rattle.placed_plan.specs.Places.{place_of, IsPlanAt, IsScheduleAt, AreOnGivenUnits}
-use Rattle.placed_plan.specs.Causes.{IsTooWide, IsOnWrongUnit, IsLate, IsPast, IsBusy, IsFileWritten, IsBusless}
+use Rattle.placed_plan.specs.Places.{place_of, IsPlanAt, AreOnGivenUnits}
+use Rattle.placed_plan.specs.Causes.{IsLate, IsPast, IsBusy, IsFileWritten, IsBusless}
 use Rattle.placed_plan.specs.Faults.{IsPlaceFault}
 use Rattle.placed_plan.specs.declared.fault.PlaceFault.TheVariants.{Missing, Surplus, TooWide, WrongUnit, Late, Past}
 use Rattle.placed_plan.specs.declared.fault.PlaceFault.TheVariants.{Busy, FileWritten, NoBus}

@@ -9,7 +9,7 @@ use Rattle.plan_core.specs.Assigned.{unit_in}
 use Rattle.plan_core.specs.Heights.{IsPlacedBefore}
 use Rattle.plan_core.specs.Lowered.{load, IsNumber, IsLoweredOver}
 use Rattle.plan_core.specs.ListSchedule.{slot_of, IsTakenBefore, IsDestination}
-use Rattle.plan_core.specs.Stages.{IsGapAround, IsSameAround, IsLoadOf}
+use Rattle.plan_core.specs.Stages.{IsSameAround, IsLoadOf}
 use Rattle.plan_core.specs.declared.schedule.Assigned.{Assigned}
 use Rattle.plan_core.specs.declared.schedule.Schedule.{Schedule}
 use Rattle.plan_core.proofs.Tests.{Test, passed, refuted, le, eq, like, both, implies, below}
@@ -25,7 +25,7 @@ use Rattle.placed_plan.proofs.WorkedPlaces.{passes, passes_nodes, passes_assigne
 use Rattle.placed_plan.proofs.WorkedPlaces.{in_cycles}
 use Rattle.placed_plan.proofs.WorkedPlaces.{slots}
 use Rattle.overlap_sim.specs.Placed.{IsInItsStages}
-use Rattle.placed_stages.specs.StagePlaces.{IsAtPlace, AtPlaceAround, IsStagePlacedAt, IsStageScheduleAt}
+use Rattle.placed_stages.specs.StagePlaces.{AtPlaceAround, IsStagePlacedAt}
 use Rattle.placed_stages.specs.StageCauses.{IsLate, IsPastStages, IsBusyAround, IsBlockedAround}
 use Rattle.placed_stages.specs.StageFaults.{IsFirstUnplacedOver, IsStagePlaceFault}
 use Rattle.placed_stages.specs.declared.fault.StagePlaceFault.TheVariants.{Surplus, Late, Past, Busy, Blocked, Unstaged}
@@ -37,7 +37,7 @@ abbrev a : Assigned
 a = passes_assigned
 
 -- each node of the list is one of the graph
-lowered : (stages : ℕ) → IsLoweredOver 0 stages passes d a.lowered
+abbrev lowered : (stages : ℕ) → IsLoweredOver 0 stages passes d a.lowered
 lowered stages = record {
   delays = passes_delays;
   delay_count = refl;
