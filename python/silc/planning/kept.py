@@ -5,12 +5,15 @@ the datapath with the period of the plan and with files and memories that it jus
 """
 from __future__ import annotations
 
+import fcntl
 import json
+import os
 import subprocess
 import tempfile
 import time
 import tomllib
 from collections.abc import Callable, Iterable, Iterator
+from contextlib import contextmanager
 from dataclasses import dataclass
 from pathlib import Path
 
@@ -206,14 +209,26 @@ def rows_in(page: str, begin: str = BEGIN) -> dict[tuple[str, str], str]:
 
 
 def with_row(row: str, key: tuple[str, str], begin: str = BEGIN, head: str = HEAD) -> None:
-    """Puts a row into a table of the page."""
-    text = PAGE.read_text()
-    rows = rows_in(text, begin)
-    rows[key] = row
-    before, found, rest = text.partition(begin)
-    assert found, f"{PAGE} has no line {begin}"
-    after = rest.partition(END)[2]
-    put_whole(PAGE, before + begin + head + "".join(row for _, row in sorted(rows.items())) + END + after)
+    """Puts a row into a table of the page, while no other run does."""
+    with alone():
+        text = PAGE.read_text()
+        rows = rows_in(text, begin)
+        rows[key] = row
+        before, found, rest = text.partition(begin)
+        assert found, f"{PAGE} has no line {begin}"
+        after = rest.partition(END)[2]
+        put_whole(PAGE, before + begin + head + "".join(row for _, row in sorted(rows.items())) + END + after)
+
+
+@contextmanager
+def alone() -> Iterator[None]:
+    """Waits until no other run changes the page, and keeps others from it."""
+    folder = os.open(PAGE.parent, os.O_RDONLY)
+    try:
+        fcntl.flock(folder, fcntl.LOCK_EX)
+        yield
+    finally:
+        os.close(folder)
 
 
 def synthesized(microcode: bytes, datapath: Path) -> Iterator[object]:

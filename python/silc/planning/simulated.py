@@ -25,11 +25,15 @@ def sum_of(one: Kept) -> str:
     return made.hexdigest()[:DIGITS]
 
 
+def cycles_of(one: Kept) -> tuple[int, int, int]:
+    """The period of a plan, the rows of its example, and the cycles that these take."""
+    period, rows = one.best().period, len((one.source.parent / "expected.txt").read_text().splitlines())
+    return period, rows, period * rows
+
+
 def row_of(one: Kept) -> str:
     """The row of a core that ran."""
-    rows = len((one.source.parent / "expected.txt").read_text().splitlines())
-    period = one.best().period
-    cells = [*one.key, period, rows, rows * period, f"`{sum_of(one)}`"]
+    cells = [*one.key, *cycles_of(one), f"`{sum_of(one)}`"]
     return f"| {' | '.join(map(str, cells))} |\n"
 
 
@@ -49,10 +53,10 @@ def ran(one: Kept) -> str:
 
 
 def run_all(kept: Iterable[Kept], jobs: int, say: Say) -> int:
-    """Runs the cores of plans that did not run yet, so many at once, and writes a row for each as it ends. How many put
-    wrong rows."""
+    """Runs the cores of plans that did not run yet, so many at once, the shortest runs first, and writes a row for each
+    as it ends. How many put wrong rows."""
     rows, wrong = rows_in(PAGE.read_text(), BEGIN), 0
-    left = [one for one in kept if rows.get(one.key) != row_of(one)]
+    left = sorted((one for one in kept if rows.get(one.key) != row_of(one)), key=lambda one: cycles_of(one)[-1])
     say(f"{len(left)} cores to run, {jobs} at a time")
     with ThreadPoolExecutor(jobs) as pool:
         runs = {pool.submit(ran, one): one for one in left}
