@@ -126,58 +126,58 @@ module _ (src datapath plan : Name) (old mid new : View) where
 
   module _ (first : OnlyReads (IsAmong (src ∷ datapath ∷ [])) old mid)
       (second : OnlyReads (IsAmong (plan ∷ [])) mid new) where
-      unchanged : IsUnchangedButInput old new
-      unchanged = unchanged_trans old mid new first.unchanged second.unchanged
+    unchanged : IsUnchangedButInput old new
+    unchanged = unchanged_trans old mid new first.unchanged second.unchanged
 
-      -- PLAN could not
-      pub plan_unread : (status : Status)
-          → IsInputError plan mid new status
-          → IsPlaceError src datapath plan old new status
-      plan_unread Memory h = inl (refl, unchanged)
-      plan_unread Desk h = inr (inl (
-        refl,
-        record {
-          unchanged = unchanged;
-          name = plan;
-          among = inr (inr (inl refl));
-          rose = rose_later _ _ _ (first.never_fall.reading plan) h;
-        },
-      ))
-      plan_unread other h = absurd h
-
-      -- no memory was left for the microcode
-      pub no_memory : (status : Status) → status ≡ Memory → IsPlaceError src datapath plan old new status
-      no_memory status e = inl (e, unchanged)
-
-      -- all were read, and have no plan
-      pub not_placed : (inputs : Inputs)
-          → AreRead src datapath old mid inputs
-          → (text : Input)
-          → WhereSpecified mid (λ files. IsInput (content_of (files plan)) text)
-          → IsReadThrough plan text_limit mid new
-          → (ending : PlaceEnding)
-          → IsNoInputPlacing inputs text ending
-          → IsNotMade src datapath plan old new ending
-      not_placed inputs are text text_is through (Told ending) h =
-          ⊎_elim (λ memory. inl (memory, unchanged))
-          (λ refused. inr (inr (
-            refused.0,
-            record {
-              unchanged = unchanged;
-              read = through_from plan text_limit old mid new first.unchanged.files through;
-              why = λ files is.
-                  refused.1 (content_of (files src)) (content_of (files datapath)) (are.source_is files is)
-                  (are.datapath_is files is);
-            },
-          )))
-          h
-      not_placed inputs are text text_is through (Refused refusal) h = record {
+    -- PLAN could not
+    pub plan_unread : (status : Status)
+        → IsInputError plan mid new status
+        → IsPlaceError src datapath plan old new status
+    plan_unread Memory h = inl (refl, unchanged)
+    plan_unread Desk h = inr (inl (
+      refl,
+      record {
         unchanged = unchanged;
-        read = through_from plan text_limit old mid new first.unchanged.files through;
-        why = λ files is.
-            h (content_of (files src)) (content_of (files datapath)) (content_of (files plan)) (are.source_is files is)
-            (are.datapath_is files is) (text_is files (first.unchanged.files ∙ is));
-      }
+        name = plan;
+        among = inr (inr (inl refl));
+        rose = rose_later _ _ _ (first.never_fall.reading plan) h;
+      },
+    ))
+    plan_unread other h = absurd h
+
+    -- no memory was left for the microcode
+    pub no_memory : (status : Status) → status ≡ Memory → IsPlaceError src datapath plan old new status
+    no_memory status e = inl (e, unchanged)
+
+    -- all were read, and have no plan
+    pub not_placed : (inputs : Inputs)
+        → AreRead src datapath old mid inputs
+        → (text : Input)
+        → WhereSpecified mid (λ files. IsInput (content_of (files plan)) text)
+        → IsReadThrough plan text_limit mid new
+        → (ending : PlaceEnding)
+        → IsNoInputPlacing inputs text ending
+        → IsNotMade src datapath plan old new ending
+    not_placed inputs are text text_is through (Told ending) h =
+        ⊎_elim (λ memory. inl (memory, unchanged))
+        (λ refused. inr (inr (
+          refused.0,
+          record {
+            unchanged = unchanged;
+            read = through_from plan text_limit old mid new first.unchanged.files through;
+            why = λ files is.
+                refused.1 (content_of (files src)) (content_of (files datapath)) (are.source_is files is)
+                (are.datapath_is files is);
+          },
+        )))
+        h
+    not_placed inputs are text text_is through (Refused refusal) h = record {
+      unchanged = unchanged;
+      read = through_from plan text_limit old mid new first.unchanged.files through;
+      why = λ files is.
+          h (content_of (files src)) (content_of (files datapath)) (content_of (files plan)) (are.source_is files is)
+          (are.datapath_is files is) (text_is files (first.unchanged.files ∙ is));
+    }
 
 -- The answer.
 

@@ -93,9 +93,9 @@ at_place places s height v t =
 module _ (places : List Place) (stages : ℕ) (s : Schedule) where
   abbrev are_before : (v : ℕ)
       → Test ((x : ℕ)
-          → x < length a.lowered.nodes
-          → IsPlacedBefore its_heights x v
-          → IsStagePlacedAt places stages d a s its_heights x)
+      → x < length a.lowered.nodes
+      → IsPlacedBefore its_heights x v
+      → IsStagePlacedAt places stages d a s its_heights x)
   are_before v =
       below (length a.lowered.nodes) (λ x. implies (placed_before its_heights x v)
       (λ z. is_placed_over (gap_around 5) same_around (stages * 5) (at_place places) d a s its_heights x))

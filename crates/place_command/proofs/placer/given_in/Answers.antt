@@ -12,7 +12,7 @@ returns-in-Ok-clause-given c =
     let its = subst (IsInput content) c.in-Whole.is is in (
       subst (λ (t : List ℕ). length t ≤ text_limit) its (subst IsShort c.in-Whole.is c.requires.short),
       subst (λ (t : List ℕ). IsGivenBy c.args.path.now t c.in-Ok.given) (c.as_slice.ensures ∙ its)
-      c.in-Ok.ensures.given,
+          c.in-Ok.ensures.given,
     )
 
 pub returns-in-Err-clause-err : goal.returns-in-Err-clause-err
