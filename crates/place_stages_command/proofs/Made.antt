@@ -139,8 +139,8 @@ module _ {Reads : Name → Type 0} (stages : ℕ) (src datapath plan samples out
     (machine : Snapshot) (first : OnlyReads Reads old mid)
     (is : IsGuardedMachine stages src datapath plan old mid machine) where
   guarded_run : (after : Snapshot)
-      → (ran : RanThrough AreFilesRefused (IsPlacedOver stages is.text) (staged_out stages) src datapath samples out
-      old mid new machine first is.planned after)
+      → (ran : RanThrough AreFilesRefused (IsPlacedOver stages is.text) (staged_out stages) src datapath samples out old
+      mid new machine first is.planned after)
       → HasGuardedRun is.guarded ran.solved.stream after ran.solved.text
   guarded_run after ran =
       let fresh = is.planned.fresh in

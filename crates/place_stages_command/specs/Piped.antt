@@ -49,8 +49,8 @@ pub record IsPlacePiped (stages : ℕ) (src datapath plan samples out : Name) (m
   pub solved : IsEvalDoneBy (staged_out stages) src samples out old new
   pub path : Datapath
   pub placed : PlacedPlan
-  pub planned : WhereSpecified old
-      (λ files.
+  pub planned :
+      WhereSpecified old (λ files.
       HasPlanInBy (IsPlacedOver stages (content_of (files plan))) src datapath solved.program path placed files)
   pub given : IsGiven placed.places (plan_of placed.plan)
   pub routed : IsRouted path (plan_of placed.plan)

@@ -97,8 +97,8 @@ pub record IsMachineOfPlan (d : Datapath) (plan : StagePlan) (machine : Snapshot
   pub loaded : IsLoadedPlan d plan machine
   pub sound : IsSound machine.code
 
--- the machine before its first cycle, with the guarded image of the plan of SRC's program over the datapath of DP, which
--- was read through, with the places that PLAN gives
+-- the machine before its first cycle, with the guarded image of the plan of SRC's program over the datapath of DP,
+-- with the places that PLAN gives; the inputs were read through
 pub record IsGuardedMachine (stages : ℕ) (src datapath plan : Name) (old new : View) (machine : Snapshot)
     : Type 0 where
   pub text : Content
