@@ -4,16 +4,14 @@ use Rattle.std.proofs.Common.{List, ℤ, pos, negsuc}
 use Rattle.std.specs.Prelude.{◌-ℤ◌}
 use Rattle.std.proofs.lemmas.Bool.{cases_lt}
 use Rattle.std.proofs.lemmas.Int.{ints}
-use Rattle.std.proofs.lemmas.Option.{slice_get_within}
 use Rattle.lists.specs.Rows.{Rows}
 use Rattle.fix_word.specs.declared.operation.Op.{Op}
 use Rattle.operations.specs.Operations.{operands}
 use Rattle.signal_graph.specs.Rules.{word_before}
-use Rattle.signal_graph.specs.GraphRules.{IsGraph, IsEdge}
+use Rattle.signal_graph.specs.GraphRules.{IsGraph}
 use Rattle.signal_graph.specs.GraphSolves.{GraphSolves, node_of}
 use Rattle.signal_graph.specs.Values.{Words}
 use Rattle.signal_graph.specs.declared.graph.Edge.{Edge}
-use Rattle.signal_graph.specs.declared.graph.Node.{Node}
 use Rattle.signal_graph.specs.declared.graph.Graph.{Graph}
 use Rattle.plan_core.specs.Operands.{edge_of}
 use Rattle.plan_soundness.specs.Samples.{past}

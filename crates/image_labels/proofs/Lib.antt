@@ -1,5 +1,6 @@
 pub mod Frames
 pub mod NodeWords
+pub mod Joins
 pub mod Rules
 pub mod CopyWords
 pub mod Turns

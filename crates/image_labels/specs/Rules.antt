@@ -1,7 +1,10 @@
 -- What may stand for a word of a graph: the rules of labels, by the graph alone.
-use Rattle.std.specs.Prelude.{◌≡◌, ℕ, ◌+◌, ◌<◌, ◌≤◌, ◌⊎◌, List, length, slice_index_or, ℤ, pos, ◌-ℤ◌}
+use Rattle.std.specs.Prelude.{◌≡◌, ℕ, ◌+◌, ◌<◌, ◌≤◌, ◌⊎◌, List, length, slice_index_or, ℤ, pos, ◌+ℤ◌, ◌-ℤ◌, ◌<ℤ◌, ◌≤ℤ◌}
 use Rattle.lists.specs.Rows.{Rows}
 use Rattle.fix_word.specs.Words.{IsWord}
+use Rattle.fix_word.specs.declared.types.Format.{Format}
+use Rattle.fix_word.specs.declared.types.Mode.{Mode}
+use Rattle.fix_word.specs.declared.types.Mode.TheVariants.{Trunc, Round, Sat}
 use Rattle.fix_word.specs.declared.operation.Op.{Op}
 use Rattle.fix_word.specs.declared.operation.Op.TheVariants as op
 use Rattle.operations.specs.Operations.{Class, quantised, truth, constant, class_of, operands}
@@ -98,3 +101,50 @@ abbrev pub IsNarrow : Graph → (now w : ℕ) → Label → Type 0
 IsNarrow g now w (Signal v sample) = HasBits g v w × (0 < sample) × (sample ≤ now)
 IsNarrow g now w (Constant word) = IsWord w word
 IsNarrow g now w _ = ⊥
+
+-- a mode that wraps what is out of the range
+abbrev pub IsWrapping : Mode → Type 0
+IsWrapping Trunc = Unit {0}
+IsWrapping Round = Unit {0}
+IsWrapping _ = ⊥
+
+-- a mode that takes the floor
+abbrev pub IsFlooring : Mode → Type 0
+IsFlooring Trunc = Unit {0}
+IsFlooring Sat = Unit {0}
+IsFlooring _ = ⊥
+
+-- the first format takes a floor, and the second shifts on to the right
+pub record FloorsFirst (f g : Format) : Type 0 where
+  pub first : pos 0 ≤ℤ f.shift
+  pub later : pos 0 <ℤ g.shift
+  pub mode : IsFlooring f.mode
+
+-- of two formats one after the other one alone rounds, as one of the sum of their shifts does in the mode of the second
+abbrev pub RoundsOnce : (f g : Format) → Type 0
+RoundsOnce f g = (f.shift ≡ pos 0) ⊎ (((g.shift ≡ pos 0) × (f.mode ≡ g.mode)) ⊎ FloorsFirst f g)
+
+-- Format h gives at once, of each exact number, what f and then g give of it: rounded once, and with all bits that g
+-- keeps among those that f keeps.
+pub record IsJoined (f g h : Format) : Type 0 where
+  pub shift : h.shift ≡ f.shift +ℤ g.shift
+  pub mode : h.mode ≡ g.mode
+  pub width : h.width ≡ g.width
+  pub rounds : RoundsOnce f g
+  pub first_wraps : IsWrapping f.mode
+  pub wraps : IsWrapping g.mode
+  pub keeps : (pos g.width +ℤ g.shift) ≤ℤ pos f.width
+
+-- the node whose word node v reads first
+abbrev pub passed : Graph → (v : ℕ) → ℕ
+passed g v = (edge_of (node_of g v) 0).node
+
+-- Node v is a pass of the word that a product gives in the same sample, and a product of the same operands in this
+-- format gives its word at once.
+pub record IsFold (g : Graph) (v : ℕ) (fmt : Format) : Type 0 where
+  pub there : v < length g.nodes
+  pub from : passed g v < length g.nodes
+  pub pass : (node_of g v).op ≡ op.Pass
+  pub delay : (edge_of (node_of g v) 0).delay ≡ 0
+  pub product : (node_of g (passed g v)).op ≡ op.Mul
+  pub joined : IsJoined (node_of g (passed g v)).fmt (node_of g v).fmt fmt

@@ -2,17 +2,19 @@
 ghost use Rattle.std.specs.Prelude.{◌≡◌, ◌<◌, ◌≤◌, ◌+◌, ◌*◌, ◌⊎◌, ◌↔◌, length, IsTrue};
 ghost use Rattle.signal_graph.specs.GraphRules.{IsGraph, first_output as first_output_in};
 ghost use Rattle.signal_graph.specs.GraphSolves.{node_of};
-ghost use Rattle.fix_word.specs.declared.operation.Op.TheVariants.{Output};
+ghost use Rattle.fix_word.specs.declared.operation.Op.TheVariants.{Mul, Output};
 ghost use Rattle.operations.specs.Ranges.{to_nat};
 ghost use Rattle.micro_image.specs.Conflict.{IsMemory};
 ghost use Rattle.micro_image.specs.Valid.{IsValid};
 ghost use Rattle.image_labels.specs.declared.label.Label.TheVariants.{Signal};
 ghost use Rattle.image_labels.specs.Labels.{turn_of, delay_on as delay_of, issue_label as label_of_issue};
+ghost use Rattle.image_labels.specs.Rules.{passed as passed_by, IsFold};
 ghost use Rattle.image_labels.specs.Private.Checked.{IsIssuedBefore};
 ghost use Rattle.image_labels.specs.Private.Settled.{AreAllQuiet};
-ghost use Rattle.image_labels.specs.Labelled.{sample_at as sample_of, ReadsInOrder, ReadsExchanged, IsFree, IsOfNode, IsLoad, IsKept, IsMoved, IsConst, IsAddress, IsLabelOf, IsInRam, IsPut, IsFit};
+ghost use Rattle.image_labels.specs.Labelled.{sample_at as sample_of, ReadsInOrder, ReadsExchanged, IsFree, IsOfNode, IsFolded, IsDone, IsLoad, IsKept, IsMoved, IsConst, IsAddress, IsLabelOf, IsInRam, IsPut, IsFit};
 
 use crate::copies::{same_format, same_operation};
+use crate::folds::{is_fold, passed};
 use crate::hardware::{
     cell_in, cells_on, delay_on, gap_on, issued_in, modulus_of, number_of, word_in,
 };
@@ -93,6 +95,79 @@ fn is_of_node(
         return false;
     }
     does_at(graph, issue, node) && reads_node(graph, image, certificate, now, cycle, issue, node)
+}
+
+/// Whether an issue is a product that gives at once what a node makes of a product.
+fn does_fold(graph: &Graph, issue: &Issue, node: u32) -> bool
+    ensures { IsTrue result
+        ↔ ((issue.now.op ≡ Mul) × IsFold graph.now node issue.now.fmt) }
+{
+    same_operation(issue.op, Op::Mul) && is_fold(graph, node, issue.fmt)
+}
+
+/// Whether an issue reads in a sample the operands of the node whose word a node reads.
+fn reads_passed(
+    graph: &Graph,
+    image: &Image,
+    certificate: &Certificate,
+    sample: u32,
+    cycle: u16,
+    issue: &Issue,
+    node: u32,
+) -> bool
+    requires node { node < length graph.now.nodes }
+    requires from { passed_by graph.now node < length graph.now.nodes }
+    requires cycle { cycle ≤ length image.now.words }
+    ensures { IsTrue result
+        ↔ (ReadsInOrder graph.now image.now certificate.now sample cycle issue.now
+        (node_of graph.now (passed_by graph.now node))
+        ⊎ ReadsExchanged graph.now image.now certificate.now sample cycle issue.now
+        (node_of graph.now (passed_by graph.now node))) }
+{
+    let from = passed(graph, node);
+    reads_node(graph, image, certificate, sample, cycle, issue, from)
+}
+
+/// Whether an issue is a product that gives at once what a node makes of a product in a sample.
+fn is_folded(
+    graph: &Graph,
+    image: &Image,
+    certificate: &Certificate,
+    cycle: u16,
+    issue: &Issue,
+    node: u32,
+    sample: u32,
+) -> bool
+    requires valid { IsValid image.now }
+    requires cycle { cycle ≤ length image.now.words }
+    ensures { IsTrue result
+        ↔ IsFolded graph.now image.now certificate.now cycle issue.now node sample }
+{
+    let now = sample_at(image, cycle);
+    if sample != now {
+        return false;
+    }
+    does_fold(graph, issue, node)
+        && reads_passed(graph, image, certificate, now, cycle, issue, node)
+}
+
+/// Whether an issue does what a node does in a sample, or gives its word at once.
+fn is_done(
+    graph: &Graph,
+    image: &Image,
+    certificate: &Certificate,
+    cycle: u16,
+    issue: &Issue,
+    node: u32,
+    sample: u32,
+) -> bool
+    requires valid { IsValid image.now }
+    requires cycle { cycle ≤ length image.now.words }
+    ensures { IsTrue result
+        ↔ IsDone graph.now image.now certificate.now cycle issue.now node sample }
+{
+    is_of_node(graph, image, certificate, cycle, issue, node, sample)
+        || is_folded(graph, image, certificate, cycle, issue, node, sample)
 }
 
 /// Whether an issue loads a cell with this label.
@@ -207,7 +282,7 @@ fn is_label_of(
     match label {
         Label::Unknown => true,
         Label::Signal(node, sample) => {
-            is_of_node(graph, image, certificate, cycle, issue, node, sample)
+            is_done(graph, image, certificate, cycle, issue, node, sample)
                 || is_moved(graph, image, certificate, cycle, issue, label, quiet)
         }
         Label::Address(cells, x) => is_address(image, cycle, issue, cells, x),

@@ -5,6 +5,7 @@
 mod copies;
 mod cycles;
 mod fits;
+mod folds;
 mod hardware;
 mod label;
 mod labels;

@@ -11,7 +11,7 @@ use crate::hardware::{
 };
 use crate::label::{Certificate, Label};
 use crate::labels::{first_cell, fresh_in, issue_label, operand_label, settled_in, stores_into};
-use crate::misfits::does_node;
+use crate::misfits::{does_node, done_node};
 use crate::operands::commutes;
 use fix_word::Op;
 use lists::List;
@@ -203,7 +203,7 @@ fn moves(graph: &Graph, image: &Image, issue: &Issue, cycle: u16, signal: Signal
 }
 
 /// The label of an issue that is to come to a word: that word of a load and of a pass that moves it, and else the node's
-/// of its own sample, if it does what the node does.
+/// of its own sample, if it does what the node does or gives its word at once.
 fn label_for(
     graph: &Graph,
     image: &Image,
@@ -216,13 +216,11 @@ fn label_for(
     if matches!(issue.op, Op::Load) || moves(graph, image, issue, cycle, signal) {
         return Some(signal);
     }
-    if does_node(graph, issue, signal.node) {
-        return Some(Signal {
-            node: signal.node,
-            sample: sample_at(image, cycle),
-        });
-    }
-    None
+    done_node(graph, issue, signal.node)?;
+    Some(Signal {
+        node: signal.node,
+        sample: sample_at(image, cycle),
+    })
 }
 
 /// Notes what an issue comes to that has no label yet.
@@ -474,7 +472,8 @@ fn last_writer(image: &Image, register: Register, cycle: u16) -> Option<(u16, u3
 fn may_give(graph: &Graph, image: &Image, issue: &Issue, cycle: u16, signal: Signal) -> bool
     requires { IsValid image.now }
 {
-    let own = does_node(graph, issue, signal.node) && signal.sample == sample_at(image, cycle);
+    let done = done_node(graph, issue, signal.node).is_some();
+    let own = done && signal.sample == sample_at(image, cycle);
     own || matches!(issue.op, Op::Load) || moves(graph, image, issue, cycle, signal)
 }
 
@@ -545,21 +544,38 @@ fn may_read_both(
             && may_read(graph, nodes, image, issue, known, edges, 1, 0))
 }
 
+/// Whether an issue may read the operands of a node, if it has any.
+fn may_read_node(
+    graph: &Graph,
+    nodes: &List<u32>,
+    image: &Image,
+    issue: &Issue,
+    known: Known,
+    node: u32,
+) -> bool
+    requires valid { IsValid image.now }
+    requires cycle { known.cycle ≤ length image.now.words }
+{
+    let node = node as usize;
+    if node >= graph.nodes.len() {
+        return false;
+    }
+    let edges = &graph.nodes[node].edges;
+    edges.is_empty() || may_read_both(graph, nodes, image, issue, known, edges)
+}
+
 /// Whether an issue may come to its word, as far as the issues show that wrote what it reads.
 fn may_come_by_reads(graph: &Graph, nodes: &List<u32>, image: &Image, known: Known) -> bool
     requires { IsValid image.now }
 {
-    let node = known.signal.node as usize;
-    if usize::from(known.cycle) >= image.words.len() || node >= graph.nodes.len() {
+    if usize::from(known.cycle) >= image.words.len() {
         return false;
     }
-    let edges = &graph.nodes[node].edges;
     match issued_in(word_in(image, known.cycle), known.unit) {
-        Some(issue) => {
-            edges.is_empty()
-                || !does_node(graph, issue, known.signal.node)
-                || may_read_both(graph, nodes, image, issue, known, edges)
-        }
+        Some(issue) => match done_node(graph, issue, known.signal.node) {
+            Some(node) => may_read_node(graph, nodes, image, issue, known, node),
+            None => true,
+        },
         None => false,
     }
 }
@@ -631,7 +647,10 @@ fn want_operands(
     requires valid { IsValid image.now }
     requires cycle { known.cycle ≤ length image.now.words }
 {
-    let node = known.signal.node as usize;
+    let node = match done_node(graph, issue, known.signal.node) {
+        Some(node) => node as usize,
+        None => return Ok(()),
+    };
     if node >= graph.nodes.len() {
         return Ok(());
     }
