@@ -38,18 +38,21 @@ def row_of(one: Kept) -> str:
 
 
 def check(one: Kept, row: str | None) -> None:
-    """Raises `Wrong` where the core of a plan did not run."""
-    if row != row_of(one):
-        raise Wrong("this plan's core did not run under Icarus; examples/plans --verilog runs it")
+    """Raises `Wrong` where the table says that a core ran which is another than that of the plan."""
+    if row not in (None, row_of(one)):
+        raise Wrong("the core that ran under Icarus was another; examples/plans --verilog runs this one")
 
 
 def ran(one: Kept) -> str:
     """Runs the core of a plan, and gives its row: `silc sim` puts the rows of `silc eval`, and the core those of `sim`.
     """
-    microcode, samples = one.microcode(), one.source.parent / "samples.txt"
+    row, microcode, samples = row_of(one), one.microcode(), one.source.parent / "samples.txt"
     one.check_rows(microcode, samples.read_bytes())
     in_verilog(microcode, samples)
-    return row_of(one)
+    # A plan that changed meanwhile did not run.
+    if row != row_of(one):
+        raise Wrong("its plan changed meanwhile")
+    return row
 
 
 def run_all(kept: Iterable[Kept], jobs: int, say: Say) -> int:
