@@ -53,9 +53,10 @@ class Wrong(Exception):
 
 @dataclass
 class Programs:
-    """The programs that plan, run and place."""
+    """The programs that plan, run and place, and the one that shows what microcode runs, where it is there."""
     silc: str
     place: str
+    same: str | None = None
 
 
 class Kept:
@@ -142,8 +143,16 @@ class Kept:
         self.check_row(row, best)
         microcode, samples = self.microcode(), self.source.parent / "samples.txt"
         self.check_rows(microcode, samples.read_bytes())
+        self.check_same(microcode)
         if is_in_verilog:
             in_verilog(microcode, samples)
+
+    def check_same(self, microcode: bytes) -> None:
+        """It is shown that the microcode runs the source and is for its datapath."""
+        if self.programs.same:
+            shown = ran(self.programs.same, [str(self.source), microcode, str(self.hardware)])
+            if shown.status:
+                raise Wrong(f"silc_same ends with {shown.status}: {shown.said}")
 
     def check_row(self, row: str | None, best: Places) -> None:
         least = row.split(" | ")[-1].rstrip(" |\n") if row else ""
