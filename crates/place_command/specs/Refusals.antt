@@ -1,6 +1,5 @@
--- Why `silc_place SRC DP PLAN OUT` makes no microcode of its files: each status and each refusal that comes before OUT
--- is
--- begun.
+-- Why `silc_place SRC DP PLAN OUT` makes no microcode of its files: each status and each refusal that comes before
+-- OUT is begun.
 use Rattle.std.specs.Prelude.{◌≡◌, ◌⊎◌, ◌<◌, ◌≤◌, ℕ, List, [], ◌∷◌, length, slice_index_or, Option, Some, None}
 use Rattle.datapath.specs.Described.{IsPathOf}
 use Rattle.datapath.specs.declared.types.Datapath.{Datapath}
@@ -50,9 +49,8 @@ named_node (NoBus unit port v) = Some v
 named_node (FileFull unit port v) = Some v
 named_node Memory = None
 
--- How a fault of places is told: with the line that gives the node its place, where it names one. The lines are those
--- of
--- the nodes in their order.
+-- How a fault of places is told: with the line that gives the node its place, where it names one. The lines are
+-- those of the nodes in their order.
 abbrev pub told_at : List ℕ → PlaceFault → Option ℕ → Refusal
 told_at lines fault None = Plan fault
 told_at lines fault (Some v) = Line (slice_index_or lines v 0) fault
@@ -115,8 +113,7 @@ pub record IsOneUnread (inputs : List Name) (old new : View) : Type 0 where
 
 module _ (src datapath plan : Name) where
   -- Why the command ends before OUT is begun and PLAN is judged: there was no memory, an input could not be read, or
-  -- SRC
-  -- or DP is refused. All three inputs are read through before one is judged.
+  -- SRC or DP is refused. The last input, PLAN, is read through before one is judged.
   abbrev pub IsPlaceError : View → View → Status → Type 0
   IsPlaceError old new status =
       ((status ≡ of_status.Memory) × IsUnchangedButInput old new)

@@ -1,6 +1,5 @@
--- Plans over several stages with places that are given: a unit and a cycle for each node. Cycles count from the start
--- of
--- a sample, over all of its stages.
+-- Plans over several stages with places that are given: a unit and a cycle for each node. Cycles count from the
+-- start of a sample, over all of its stages.
 use Rattle.std.specs.Prelude.{◌≡◌, ℕ, ◌*◌, ◌≤◌, List}
 use Rattle.datapath.specs.declared.types.Datapath.{Datapath}
 use Rattle.signal_graph.specs.declared.graph.Graph.{Graph}

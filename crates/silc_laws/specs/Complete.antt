@@ -97,9 +97,8 @@ pub record HasProgramStream (src samples : Name) (files : Files) : Type 0 where
   pub stream : Rows
   pub samples_are : AreSamples (program_channels program) (content_of (files samples)) stream
 
--- SRC's program has a plan over DP's datapath, and SAMPLES a stream for it. `IsPlanned` says which plan the program of
--- a
--- source has over a datapath.
+-- SRC's program has a plan over DP's datapath, and SAMPLES a stream for it. `IsPlanned` says which plan the program
+-- of a source has over a datapath.
 pub record HasPlannedStreamBy {P : Type 0}
     (IsPlanned : (source datapath : List ℕ) → Program → Datapath → P → Type 0) (src datapath samples : Name)
     (files : Files) : Type 0 where
