@@ -4,3 +4,4 @@ pub mod FirstObstacles
 pub mod OneCause
 pub mod OneFault
 pub mod PlansAt
+pub mod GivenPlans
