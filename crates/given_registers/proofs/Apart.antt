@@ -2,10 +2,46 @@
 use Rattle.std.proofs.Common.{◌≡◌, ◌∙◌, ℕ, ◌*◌, ◌<◌, sym, arith}
 use Rattle.plan_core.specs.Circle.{AreApart}
 use Rattle.plan_core.specs.declared.registers.Arc.{Arc}
-use Rattle.reg_alloc.specs.Private.Spans.{IsOnCircle, span_of}
+use Rattle.reg_alloc.specs.Private.Spans.{IsOnCircle, span_of, AreSpansApart}
 use Rattle.reg_alloc.proofs.SpanLemmas.{meet_back, apart_never, never_ended, never_round}
 use Rattle.reg_alloc.proofs.Meeting.{starts_in, words_never}
-use Rattle.given_registers.specs.Private.Words.{IsWordApart}
+use Rattle.given_registers.specs.Private.Words.{IsSpanOf, IsApart, IsWordApart}
+use Rattle.given_registers.specs.declared.circle.Span.{Span}
+
+-- two spans, as the code has them
+module _ (period length : ℕ) (a b : Arc) (m n : ℕ) (s t : Span) (of_s : IsSpanOf period a m s)
+    (of_t : IsSpanOf period b n t) where
+  pub spans_apart : IsApart length s t → AreSpansApart length (span_of period a m) (span_of period b n)
+  spans_apart apart = record {
+    forward = λ le.
+        let order = apart.forward (omega (arith, le, of_s.after, of_t.after)) in
+        record {
+          ended = omega (arith, order.ended, of_s.upto, of_t.after);
+          round = omega (arith, order.round, of_s.after, of_t.upto);
+        };
+    backward = λ less.
+        let order = apart.backward (omega (arith, less, of_s.after, of_t.after)) in
+        record {
+          ended = omega (arith, order.ended, of_t.upto, of_s.after);
+          round = omega (arith, order.round, of_t.after, of_s.upto);
+        };
+  }
+
+  pub apart_spans : AreSpansApart length (span_of period a m) (span_of period b n) → IsApart length s t
+  apart_spans apart = record {
+    forward = λ le.
+        let order = apart.forward (omega (arith, le, of_s.after, of_t.after)) in
+        record {
+          ended = omega (arith, order.ended, of_s.upto, of_t.after);
+          round = omega (arith, order.round, of_s.after, of_t.upto);
+        };
+    backward = λ less.
+        let order = apart.backward (omega (arith, less, of_s.after, of_t.after)) in
+        record {
+          ended = omega (arith, order.ended, of_t.upto, of_s.after);
+          round = omega (arith, order.round, of_t.after, of_s.upto);
+        };
+  }
 
 module _ (period samples : ℕ) (a : Arc) (i : ℕ) (b : Arc) (j : ℕ) where
   abbrev pub AreWordsApart : (upto : ℕ) → Type 0

@@ -63,8 +63,10 @@ module _ (d : Datapath) (unroll : ℕ) (given : List GivenRegister) (arcs : List
         ⊎_elim
         (λ (e : n ≡ m).
         let z = subst (λ (p : ℕ). IsGivenAt given arcs p k i) e x in
-        inl (one_arc arcs is.once (given_at given m) k i l j z.its y.its,
-        one_copy arcs is.once (given_at given m) k i l j z.its y.its))
+        inl (
+          one_arc arcs is.once (given_at given m) k i l j z.its y.its,
+          one_copy arcs is.once (given_at given m) k i l j z.its y.its,
+        ))
         (λ other.
         ⊎_elim (λ (less : n < m). inr (given_apart n m k i l j less x y its port))
         (λ (more : m < n). inr (turned (given_apart m n l j k i more y x (sym its) (sym port)))) other)
@@ -140,3 +142,13 @@ ordinary d arcs is regs x = record {
     within : (k : ℕ) → k < length arcs → (l j i : ℕ) → IsListedBefore l j k i → l < length arcs
     within k there l j i (inl less) = omega (arith, there, less)
     within k there l j i (inr here) = omega (arith, there, here.0)
+
+-- so is their choice, whatever the list of none is called
+pub none_given_around : (d : Datapath) (given : List GivenRegister) (arcs : List Arc)
+    → AreAllottable d arcs
+    → given ≡ []
+    → (regs : List (List ℕ))
+    → AreAllotted d arcs regs
+    → AreAllottedAround d given arcs regs
+none_given_around d given arcs is none regs x =
+    subst (λ (gs : List GivenRegister). AreAllottedAround d gs arcs regs) (sym none) (ordinary d arcs is regs x)

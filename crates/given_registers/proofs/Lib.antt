@@ -4,3 +4,4 @@ pub mod OneChoice
 pub mod OneAnswer
 pub mod Laws
 pub mod Steps
+pub mod Checks

@@ -132,9 +132,10 @@ module _ (d : Datapath) (unroll : ℕ) (given : List GivenRegister) (arcs : List
               → register_of rs k i ≡ register_of qs k i
           at_l rest k i e low copy =
               subst (λ (x : ℕ). register_of rs x i ≡ register_of qs x i) (sym e)
-              (rest i low
-              (subst (λ (x : ℕ). i < (arc_of arcs x).copies) e copy,
-              listed_trans l i l j m n (inr (refl, low)) here.1))
+              (rest i low (
+                subst (λ (x : ℕ). i < (arc_of arcs x).copies) e copy,
+                listed_trans l i l j m n (inr (refl, low)) here.1,
+              ))
 
           agree_here : ((i : ℕ) → i < j → Before l i → register_of rs l i ≡ register_of qs l i) → Agree rs qs l j
           agree_here rest k i copy (inl h) = arcs_before k i h (copy, listed_trans k i l j m n (inl h) here.1)

@@ -14,10 +14,9 @@ use Rattle.given_registers.specs.Around.{given_at, AreBeside, IsGivenAt, CanBeHa
 use Rattle.given_registers.specs.Faults.{IsWithoutRegister}
 use Rattle.given_registers.specs.Private.Allotting.{none_allotted, allotted_at, IsClear, IsItsRegister, IsFullFor}
 use Rattle.given_registers.specs.Private.Allotting.{AreOfGiven, IsBefore, IsOfGiven, AreTaken, HaveRegistersBefore}
-use Rattle.given_registers.specs.Private.Allotting.{AreCopies, AreRowsOf, full_at, IsFullFault}
+use Rattle.given_registers.specs.Private.Allotting.{AreCopies, AreRowsOf}
 use Rattle.given_registers.specs.declared.given.GivenRegister.{GivenRegister}
 use Rattle.given_registers.specs.declared.circle.Allotted.{Allotted}
-use Rattle.given_registers.specs.declared.fault.RegisterFault.{RegisterFault}
 use Rattle.given_registers.proofs.OneChoice.{one_arc, one_copy, Agree, free_same, has_same}
 use Rattle.given_registers.proofs.Rows.{row_more, row_now, row_new, listed_more, listed_within, listed_next}
 use Rattle.given_registers.proofs.Rows.{listed_back, listed_there}
@@ -64,6 +63,11 @@ module _ (d : Datapath) (unroll : ℕ) (given : List GivenRegister) (arcs : List
       never : (l j : ℕ) → IsListedBefore l j 0 0 → ⊥
       never l j (inl h) = absurd (omega (arith, h))
       never l j (inr h) = absurd (omega (arith, h.1))
+
+  -- before the first copy none has to have one
+  pub none_have : (regs : List (List ℕ)) → HaveRegistersBefore d unroll given arcs regs 0 0
+  none_have regs l j (inl h) copy = absurd (omega (arith, h))
+  none_have regs l j (inr h) copy = absurd (omega (arith, h.1))
 
   -- those that have theirs are copies of lifetimes that are there
   pub taken_copies : (regs : List (List ℕ)) (k i : ℕ) (allotted : List Allotted)

@@ -5,10 +5,10 @@ ghost use Rattle.datapath.specs.Allowed.{IsDatapath};
 ghost use Rattle.plan_core.specs.Arcs.{arc_of, IsUnroll};
 ghost use Rattle.plan_core.specs.declared.registers.Registers as of_registers;
 ghost use Rattle.reg_alloc.specs.Allottable.{AreAllottable, AreAllotted};
-ghost use Rattle.given_registers.specs.Around.{CanBeHad, AreRegisters, AreAllottedAround};
-ghost use Rattle.given_registers.specs.Faults.{IsWithoutRegister, IsRegisterFault};
+ghost use Rattle.given_registers.specs.Around.{CanBeHad, AreAllottedAround};
+ghost use Rattle.given_registers.specs.Faults.{IsRegisterFault};
 ghost use Rattle.given_registers.specs.Private.Allotting.{AreOnCircle, AreCopies, IsFirstClear, IsNoneClear, IsItsRegister};
-ghost use Rattle.given_registers.specs.Private.Allotting.{AreOfGiven, IsFullFor, IsFullFault, full_at};
+ghost use Rattle.given_registers.specs.Private.Allotting.{AreOfGiven, IsFullFor, full_at};
 ghost use Rattle.given_registers.specs.declared.fault.RegisterFault as of_fault;
 ghost use Rattle.given_registers.specs.declared.fault.RegisterFault.TheVariants.{Memory};
 
@@ -93,18 +93,26 @@ fn registers_of(
     requires datapath { IsDatapath datapath.now }
     requires allottable { AreAllottable datapath.now arcs.now }
     requires period { circle.period ≡ datapath.now.period }
+    requires samples { IsUnroll arcs.now circle.samples }
     requires count { length allotted.items ≡ length given.now }
     requires allotted { AreOfGiven given.now arcs.now allotted.items }
     requires can { CanBeHad datapath.now circle.samples given.now arcs.now (length given.now) }
-    ensures registers { IfOk result (AreRegisters datapath.now circle.samples given.now arcs.now) }
-    ensures fault { IfErr result (λ fault. (fault ≡ Memory)
-        ⊎ IsFullFault datapath.now circle.samples given.now arcs.now fault) }
+    ensures registers { IfOk result (AreAllottedAround datapath.now given.now arcs.now) }
+    ensures fault { IfErr result (λ fault. (fault ≡ Memory) ⊎ IsRegisterFault datapath.now given.now arcs.now fault) }
 {
     let mut regs = List::with_capacity(alloc, arcs.len())?;
     for k in 0..arcs.len() {
         let mut registers = CopyRegisters::new(alloc);
         for copy in 0..arcs[k].copies {
-            let register = register_for(circle, arcs, given, allotted.as_slice(), k, copy, datapath)?;
+            let register = register_for(
+                circle,
+                arcs,
+                given,
+                allotted.as_slice(),
+                k,
+                copy,
+                datapath,
+            )?;
             registers.push(register)?;
             allotted.push(Allotted {
                 arc: k,
@@ -146,11 +154,12 @@ pub fn allot_around(
     ensures ordinary { given.now ≡ [] → (rs : of_registers.Registers) → AreAllotted datapath.now arcs.now rs.regs
         → (result ≡ Ok rs) ⊎ (result ≡ Err Memory) }
 {
+    let arcs = arcs.as_slice();
     let circle = Circle {
         period: datapath.period,
-        samples: unroll(arcs.as_slice()),
+        samples: unroll(arcs),
     };
-    let allotted = allotted_of(alloc, circle, arcs.as_slice(), given, datapath)?;
-    let regs = registers_of(alloc, circle, arcs.as_slice(), given, allotted, datapath)?;
+    let allotted = allotted_of(alloc, circle, arcs, given, datapath)?;
+    let regs = registers_of(alloc, circle, arcs, given, allotted, datapath)?;
     Ok(Registers { regs })
 }

@@ -1,14 +1,14 @@
 //! Whether copies can have the registers that are given for them.
 
-ghost use Rattle.std.specs.Prelude.{◌≡◌, ◌⊎◌, ◌<◌, ◌≤◌, ℕ, false, length, IsTrue, IfOk, IfErr, MatchOption};
+ghost use Rattle.std.specs.Prelude.{◌≡◌, ◌⊎◌, ◌<◌, ◌≤◌, ◌↔◌, ℕ, false, length, IsTrue, IfOk, IfErr, MatchOption};
 ghost use Rattle.datapath.specs.Allowed.{IsPort, IsDatapath};
 ghost use Rattle.plan_core.specs.Hardware.{file_size as size_of_file};
-ghost use Rattle.plan_core.specs.Arcs.{arc_of};
+ghost use Rattle.plan_core.specs.Arcs.{arc_of, IsUnroll};
 ghost use Rattle.reg_alloc.specs.Allottable.{AreAllottable};
 ghost use Rattle.given_registers.specs.Around.{given_at, IsForCopy, IsFor, IsGiven, AreBeside, CanHave, CanBeHad};
-ghost use Rattle.given_registers.specs.Faults.{IsCause, IsFirstBad};
+ghost use Rattle.given_registers.specs.Faults.{IsCause, IsRegisterFault};
 ghost use Rattle.given_registers.specs.Private.Allotting.{AreOnCircle, AreCopies, IsForOne, IsGivenRegister};
-ghost use Rattle.given_registers.specs.Private.Allotting.{Leaves, IsClear, IsMet, AreOfGiven, IsGivenFault};
+ghost use Rattle.given_registers.specs.Private.Allotting.{Leaves, IsClear, IsMet, AreOfGiven};
 ghost use Rattle.given_registers.specs.declared.fault.RegisterFault.TheVariants.{Memory};
 
 use crate::circle::{Allotted, Circle};
@@ -149,7 +149,14 @@ fn allotted_for(
     if given_for(given.split_at(n).0, arcs, k, entry.copy).is_some() {
         return Err(GivenCause::Twice);
     }
-    if !is_clear(circle, arcs, allotted, k, entry.copy, u16::from(entry.register)) {
+    if !is_clear(
+        circle,
+        arcs,
+        allotted,
+        k,
+        entry.copy,
+        u16::from(entry.register),
+    ) {
         return Err(GivenCause::Taken);
     }
     Ok(Allotted {
@@ -170,12 +177,12 @@ pub(crate) fn allotted_of(
     requires datapath { IsDatapath datapath.now }
     requires allottable { AreAllottable datapath.now arcs.now }
     requires period { circle.period ≡ datapath.now.period }
+    requires samples { IsUnroll arcs.now circle.samples }
     ensures count { IfOk result (λ allotted. length allotted.items ≡ length given.now) }
     ensures allotted { IfOk result (λ allotted. AreOfGiven given.now arcs.now allotted.items) }
     ensures can { IfOk result (λ allotted. CanBeHad datapath.now circle.samples given.now arcs.now
         (length given.now)) }
-    ensures fault { IfErr result (λ fault. (fault ≡ Memory)
-        ⊎ IsGivenFault datapath.now circle.samples given.now arcs.now fault) }
+    ensures fault { IfErr result (λ fault. (fault ≡ Memory) ⊎ IsRegisterFault datapath.now given.now arcs.now fault) }
 {
     let mut allotted = Vec::with_capacity(alloc, given.len())?;
     for n in 0..given.len() {

@@ -1,15 +1,14 @@
 -- The copies that have their registers, one after another.
 use Rattle.std.specs.Prelude.{◌≡◌, ◌⊎◌, ℕ, ◌<◌, List, [], length, slice_index_or}
 use Rattle.datapath.specs.declared.types.Datapath.{Datapath}
-use Rattle.plan_core.specs.Hardware.{port_of, file_size}
+use Rattle.plan_core.specs.Hardware.{file_size}
 use Rattle.plan_core.specs.Arcs.{arc_of}
 use Rattle.plan_core.specs.FirstFit.{register_of, IsListedBefore}
 use Rattle.plan_core.specs.declared.registers.Arc.{Arc}
 use Rattle.reg_alloc.specs.Private.Spans.{IsOnCircle}
 use Rattle.given_registers.specs.Around.{given_at, IsForCopy, IsFor, AreBeside, IsGiven, IsGivenAt, HasRegister}
 use Rattle.given_registers.specs.declared.fault.RegisterFault.{RegisterFault}
-use Rattle.given_registers.specs.declared.fault.RegisterFault.TheVariants.{Given, Full}
-use Rattle.given_registers.specs.Faults.{IsFirstBad, IsWithoutRegister}
+use Rattle.given_registers.specs.declared.fault.RegisterFault.TheVariants.{Full}
 use Rattle.given_registers.specs.declared.given.GivenRegister.{GivenRegister}
 use Rattle.given_registers.specs.declared.circle.Allotted.{Allotted}
 
@@ -133,13 +132,3 @@ HaveRegistersBefore d unroll given arcs regs k i =
 pub record AreRowsOf (arcs : List Arc) (k : ℕ) (regs : List (List ℕ)) : Type 0 where
   pub count : length regs ≡ k
   pub copies : (l : ℕ) → l < k → length (slice_index_or regs l []) ≡ (arc_of arcs l).copies
-
--- the first given register that its copy cannot have
-abbrev pub IsGivenFault : Datapath → (unroll : ℕ) → List GivenRegister → List Arc → RegisterFault → Type 0
-IsGivenFault d unroll given arcs (Given n cause) = IsFirstBad d unroll given arcs n cause
-IsGivenFault d unroll given arcs _ = ⊥
-
--- the first copy that has none
-abbrev pub IsFullFault : Datapath → (unroll : ℕ) → List GivenRegister → List Arc → RegisterFault → Type 0
-IsFullFault d unroll given arcs (Full unit port node) = IsWithoutRegister d unroll given arcs (port_of unit port) node
-IsFullFault d unroll given arcs _ = ⊥

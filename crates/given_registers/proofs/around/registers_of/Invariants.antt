@@ -12,6 +12,6 @@ invariant-loop-k l = record {
 abbrev pub invariant-loop-copy : goal.invariant-loop-copy
 invariant-loop-copy l = record {
   count : length l.registers ≡ l.copy;
-  have : HaveRegistersBefore l.datapath l.circle.samples l.given l.arcs (l.regs ++ l.registers ∷ []) l.k l.copy;
-  taken : AreTaken l.given l.arcs (l.regs ++ l.registers ∷ []) l.k l.copy l.allotted.items;
+  have : HaveRegistersBefore l.datapath l.circle.samples l.given l.arcs (l.regs-inside ++ l.registers ∷ []) l.k l.copy;
+  taken : AreTaken l.given l.arcs (l.regs-inside ++ l.registers ∷ []) l.k l.copy l.allotted.items;
 }
