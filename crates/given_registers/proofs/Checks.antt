@@ -1,15 +1,17 @@
 -- Whether the copy of a given register can have it, beside those before it.
-use Rattle.std.proofs.Common.{◌≡◌, ◌∙◌, ⊎_elim, sym, ap, subst, arith, ℕ, ◌<◌, ◌≤◌, List, length, take}
-use Rattle.std.proofs.lemmas.Bool.{cases_eq}
-use Rattle.std.proofs.lemmas.List.{get_or-take, length-take-le}
+use Rattle.std.proofs.Common.{◌≡◌, ◌∙◌, ⊎_elim, sym, ap, subst, arith, ℕ, ◌+◌, ◌<◌, ◌≤◌, List, [], ◌∷◌, ◌++◌, length}
+use Rattle.std.proofs.Common.{take, Option, Some, None, MatchOption, refl}
+use Rattle.std.proofs.lemmas.Bool.{cases_eq, cases_lt}
+use Rattle.std.proofs.lemmas.List.{get_or-take, length-take-le, get_or_append_left, get_or_push, length_push}
 use Rattle.datapath.specs.declared.types.Datapath.{Datapath}
 use Rattle.plan_core.specs.Hardware.{file_size}
 use Rattle.plan_core.specs.Arcs.{arc_of}
 use Rattle.plan_core.specs.declared.registers.Arc.{Arc}
 use Rattle.reg_alloc.specs.Allottable.{AreAllottable}
-use Rattle.given_registers.specs.Around.{none_given, given_at, IsFor, IsGiven, IsGivenAt, AreBeside, CanHave}
+use Rattle.given_registers.specs.Around.{none_given, given_at, IsFor, IsGiven, AreBeside, CanHave, CanBeHad}
 use Rattle.given_registers.specs.Faults.{IsCause}
-use Rattle.given_registers.specs.Private.Allotting.{allotted_at, IsGivenRegister, IsClear, IsMet, AreOfGiven}
+use Rattle.given_registers.specs.Private.Allotting.{none_allotted, allotted_at, IsGivenRegister, IsClear, IsMet}
+use Rattle.given_registers.specs.Private.Allotting.{AreOfGiven}
 use Rattle.given_registers.specs.declared.given.GivenRegister.{GivenRegister}
 use Rattle.given_registers.specs.declared.circle.Allotted.{Allotted}
 use Rattle.given_registers.specs.declared.fault.GivenCause.TheVariants.{NoCopy, NoRegister, Twice, Taken}
@@ -108,3 +110,55 @@ module _ (d : Datapath) (unroll : ℕ) (given : List GivenRegister) (arcs : List
               (one_arc arcs is.once (given_at given m) (allotted_at allotted m).arc (allotted_at allotted m).copy l j
               one other) beside);
         }
+
+-- One copy more of a given register.
+module _ (given : List GivenRegister) (arcs : List Arc) (old : List Allotted) (one : Allotted) (n : ℕ)
+    (count : length old ≡ n) where
+  pub more_given : AreOfGiven given arcs old
+      → IsFor arcs (given_at given n) one.arc one.copy
+      → one.register ≡ (given_at given n).register
+      → AreOfGiven given arcs (old ++ one ∷ [])
+  more_given are its register = record {
+    each = λ m less.
+        ⊎_elim
+        (λ (early : m < length old).
+        subst (λ (x : Allotted). IsFor arcs (given_at given m) x.arc x.copy) (sym (old_is m early)) (are.each m early))
+        (λ (late : length old ≤ m).
+        let at : n ≡ m = omega (arith, less, late, count, length_push old one) in
+        subst (λ (x : Allotted). IsFor arcs (given_at given m) x.arc x.copy) (sym (last_is m at))
+        (subst (λ (p : ℕ). IsFor arcs (given_at given p) one.arc one.copy) at its))
+        (cases_lt m (length old));
+    register = λ m less.
+        ⊎_elim
+        (λ (early : m < length old). ap (λ (x : Allotted). x.register) (old_is m early) ∙ are.register m early)
+        (λ (late : length old ≤ m).
+        let at : n ≡ m = omega (arith, less, late, count, length_push old one) in
+        ap (λ (x : Allotted). x.register) (last_is m at) ∙ register
+        ∙ ap (λ (p : ℕ). (given_at given p).register) at)
+        (cases_lt m (length old));
+  }
+    where
+      old_is : (m : ℕ) → m < length old → allotted_at (old ++ one ∷ []) m ≡ allotted_at old m
+      old_is m early = get_or_append_left old (one ∷ []) none_allotted m early
+
+      last_is : (m : ℕ) → n ≡ m → allotted_at (old ++ one ∷ []) m ≡ one
+      last_is m at = get_or_push old one none_allotted m (count ∙ at)
+
+pub more_can : (d : Datapath) (unroll : ℕ) (given : List GivenRegister) (arcs : List Arc) (n k i : ℕ)
+    → CanBeHad d unroll given arcs n
+    → CanHave d unroll given arcs n k i
+    → CanBeHad d unroll given arcs (n + 1)
+more_can d unroll given arcs n k i before has m less =
+    ⊎_elim (λ (early : m < n). before m early)
+    (λ (late : n ≤ m).
+    let at : n ≡ m = omega (arith, less, late) in
+    (k, i, subst (λ (p : ℕ). CanHave d unroll given arcs p k i) at has))
+    (cases_lt m n)
+
+-- what holds where there is no answer
+pub none_case : {A : Type 0} {B : ℕ → Type 0} (r : Option ℕ)
+    → MatchOption r A B
+    → ((x : ℕ) → r ≡ Some x → ⊥)
+    → A
+none_case None a other = a
+none_case (Some x) b other = absurd (other x refl)

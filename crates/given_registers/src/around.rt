@@ -1,6 +1,6 @@
 //! Registers for the lifetimes of a datapath, around those that are given.
 
-ghost use Rattle.std.specs.Prelude.{◌≡◌, ◌⊎◌, ◌<◌, ◌≤◌, ℕ, [], length, Ok, Err, IfOk, IfErr, MatchOption};
+ghost use Rattle.std.specs.Prelude.{◌≡◌, ◌⊎◌, ◌+◌, ◌<◌, ◌≤◌, ℕ, [], length, Ok, Err, IfOk, IfErr, OnOk, MatchOption};
 ghost use Rattle.datapath.specs.Allowed.{IsDatapath};
 ghost use Rattle.plan_core.specs.Arcs.{arc_of, IsUnroll};
 ghost use Rattle.plan_core.specs.declared.registers.Registers as of_registers;
@@ -8,7 +8,7 @@ ghost use Rattle.reg_alloc.specs.Allottable.{AreAllottable, AreAllotted};
 ghost use Rattle.given_registers.specs.Around.{CanBeHad, AreAllottedAround};
 ghost use Rattle.given_registers.specs.Faults.{IsRegisterFault};
 ghost use Rattle.given_registers.specs.Private.Allotting.{AreOnCircle, AreCopies, IsFirstClear, IsNoneClear, IsItsRegister};
-ghost use Rattle.given_registers.specs.Private.Allotting.{AreOfGiven, IsFullFor, full_at};
+ghost use Rattle.given_registers.specs.Private.Allotting.{AreOfGiven, IsFullFor, AreAllottedUpTo, full_at};
 ghost use Rattle.given_registers.specs.declared.fault.RegisterFault as of_fault;
 ghost use Rattle.given_registers.specs.declared.fault.RegisterFault.TheVariants.{Memory};
 
@@ -81,6 +81,42 @@ fn register_for(
     }
 }
 
+/// Puts the registers of arc k behind those of the arcs before it, and its copies to those that have theirs.
+fn add_arc(
+    alloc: Global,
+    circle: Circle,
+    arcs: &[Arc],
+    given: &[GivenRegister],
+    k: usize,
+    datapath: &Datapath,
+    allotted: &mut Vec<Allotted>,
+    regs: &mut List<CopyRegisters>,
+) -> Result<(), RegisterFault>
+    requires datapath { IsDatapath datapath.now }
+    requires allottable { AreAllottable datapath.now arcs.now }
+    requires period { circle.period ≡ datapath.now.period }
+    requires samples { IsUnroll arcs.now circle.samples }
+    requires can { CanBeHad datapath.now circle.samples given.now arcs.now (length given.now) }
+    requires there { k < length arcs.now }
+    requires before { AreAllottedUpTo datapath.now circle.samples given.now arcs.now k allotted.old.items regs.old }
+    ensures more { OnOk result (AreAllottedUpTo datapath.now circle.samples given.now arcs.now (k + 1)
+        allotted.new.items regs.new) }
+    ensures fault { IfErr result (λ fault. (fault ≡ Memory) ⊎ IsRegisterFault datapath.now given.now arcs.now fault) }
+{
+    let mut registers = CopyRegisters::new(alloc);
+    for copy in 0..arcs[k].copies {
+        let register = register_for(circle, arcs, given, allotted.as_slice(), k, copy, datapath)?;
+        registers.push(register)?;
+        allotted.push(Allotted {
+            arc: k,
+            copy,
+            register,
+        })?;
+    }
+    regs.push(registers)?;
+    Ok(())
+}
+
 /// The registers of all copies, where these copies have those that are given.
 fn registers_of(
     alloc: Global,
@@ -102,25 +138,16 @@ fn registers_of(
 {
     let mut regs = List::with_capacity(alloc, arcs.len())?;
     for k in 0..arcs.len() {
-        let mut registers = CopyRegisters::new(alloc);
-        for copy in 0..arcs[k].copies {
-            let register = register_for(
-                circle,
-                arcs,
-                given,
-                allotted.as_slice(),
-                k,
-                copy,
-                datapath,
-            )?;
-            registers.push(register)?;
-            allotted.push(Allotted {
-                arc: k,
-                copy,
-                register,
-            })?;
-        }
-        regs.push(registers)?;
+        add_arc(
+            alloc,
+            circle,
+            arcs,
+            given,
+            k,
+            datapath,
+            &mut allotted,
+            &mut regs,
+        )?;
     }
     Ok(regs)
 }

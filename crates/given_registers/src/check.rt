@@ -146,7 +146,7 @@ fn allotted_for(
     if u16::from(entry.register) >= file_size(datapath, arc.port) {
         return Err(GivenCause::NoRegister);
     }
-    if given_for(given.split_at(n).0, arcs, k, entry.copy).is_some() {
+    if let Some(_) = given_for(given.split_at(n).0, arcs, k, entry.copy) {
         return Err(GivenCause::Twice);
     }
     if !is_clear(

@@ -132,3 +132,10 @@ HaveRegistersBefore d unroll given arcs regs k i =
 pub record AreRowsOf (arcs : List Arc) (k : ℕ) (regs : List (List ℕ)) : Type 0 where
   pub count : length regs ≡ k
   pub copies : (l : ℕ) → l < k → length (slice_index_or regs l []) ≡ (arc_of arcs l).copies
+
+-- the copies of the arcs before arc k have theirs, and these are all that do, beside those with given registers
+pub record AreAllottedUpTo (d : Datapath) (unroll : ℕ) (given : List GivenRegister) (arcs : List Arc) (k : ℕ)
+    (allotted : List Allotted) (regs : List (List ℕ)) : Type 0 where
+  pub rows : AreRowsOf arcs k regs
+  pub have : HaveRegistersBefore d unroll given arcs regs k 0
+  pub taken : AreTaken given arcs regs k 0 allotted
