@@ -155,10 +155,11 @@ more_can d unroll given arcs n k i before has m less =
     (k, i, subst (λ (p : ℕ). CanHave d unroll given arcs p k i) at has))
     (cases_lt m n)
 
--- what holds where there is no answer
-pub none_case : {A : Type 0} {B : ℕ → Type 0} (r : Option ℕ)
-    → MatchOption r A B
+-- where the code finds none, none is given
+pub none_given_for : (given : List GivenRegister) (arcs : List Arc) (k i : ℕ) (r : Option ℕ)
+    → MatchOption r (IsGiven given arcs k i → ⊥) (IsGivenRegister given arcs k i)
     → ((x : ℕ) → r ≡ Some x → ⊥)
-    → A
-none_case None a other = a
-none_case (Some x) b other = absurd (other x refl)
+    → IsGiven given arcs k i
+    → ⊥
+none_given_for given arcs k i None none other = none
+none_given_for given arcs k i (Some x) its other = absurd (other x refl)

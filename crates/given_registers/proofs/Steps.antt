@@ -288,7 +288,8 @@ module _ (d : Datapath) (unroll : ℕ) (given : List GivenRegister) (arcs : List
     }
       where
         by : (x : Allotted)
-            → IsOfGiven given arcs rows k i x.arc x.copy x.register ⊎ IsBefore given arcs rows k i x.arc x.copy x.register
+            → IsOfGiven given arcs rows k i x.arc x.copy x.register
+            ⊎ IsBefore given arcs rows k i x.arc x.copy x.register
             → IsOfGiven given arcs rows (k + 1) 0 x.arc x.copy x.register
             ⊎ IsBefore given arcs rows (k + 1) 0 x.arc x.copy x.register
         by x (inl g) = inl (record { n = g.n; at = g.at; its = g.its })
@@ -317,7 +318,8 @@ module _ (d : Datapath) (unroll : ℕ) (given : List GivenRegister) (arcs : List
     }
       where
         by : (x : Allotted)
-            → IsOfGiven given arcs regs k 0 x.arc x.copy x.register ⊎ IsBefore given arcs regs k 0 x.arc x.copy x.register
+            → IsOfGiven given arcs regs k 0 x.arc x.copy x.register
+            ⊎ IsBefore given arcs regs k 0 x.arc x.copy x.register
             → IsOfGiven given arcs (regs ++ [] ∷ []) k 0 x.arc x.copy x.register
             ⊎ IsBefore given arcs (regs ++ [] ∷ []) k 0 x.arc x.copy x.register
         by x (inl g) = inl (record { n = g.n; at = g.at; its = g.its })

@@ -96,7 +96,8 @@ loop-copy-preserved c =
           (have_more d samples given arcs c.requires.allottable regs last k copy items c.requires.before.rows.count
           c.loop-copy.invariant.count c.requires.there copy_there c.loop-copy.invariant.have
           c.loop-copy.invariant.taken register its);
-      taken = subst (λ (new : List ℕ). AreTaken given arcs (regs ++ new ∷ []) k (copy + 1) c.push-in-loop-copy.new.self.items)
+      taken = subst
+          (λ (new : List ℕ). AreTaken given arcs (regs ++ new ∷ []) k (copy + 1) c.push-in-loop-copy.new.self.items)
           (sym c.in_ok-push.ensures.ok)
           (subst (λ (xs : List Allotted). AreTaken given arcs (regs ++ (last ++ register ∷ []) ∷ []) k (copy + 1) xs)
           (sym c.in_ok-push-2.ensures.items)

@@ -6,7 +6,7 @@ use Rattle.plan_core.specs.declared.registers.Arc.{Arc}
 use Rattle.reg_alloc.proofs.Steps.{zero_arc}
 use Rattle.given_registers.specs.Around.{IsGiven}
 use Rattle.given_registers.specs.Private.Allotting.{IsClear, full_at}
-use Rattle.given_registers.proofs.Checks.{none_case}
+use Rattle.given_registers.proofs.Checks.{none_given_for}
 use Rattle.given_registers.proofs.around.register_for.Goals as goal
 
 pub returns-in-None-clause-fault : goal.returns-in-None-clause-fault
@@ -16,7 +16,8 @@ returns-in-None-clause-fault c =
     let is = get_or_default arcs c.args.k zero_arc no_arc c.requires.there in
     let size = ap (λ (arc : Arc). file_size d arc.port) is in
     let ungiven : IsGiven c.args.given.now arcs c.args.k c.args.copy → ⊥ =
-    none_case c.given_for.result c.given_for.ensures c.in_default.not-Some in (
+    none_given_for c.args.given.now arcs c.args.k c.args.copy c.given_for.result c.given_for.ensures
+    c.in_default.not-Some in (
       ap full_at is,
       record {
         ungiven = ungiven;

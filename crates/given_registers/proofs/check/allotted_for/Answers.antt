@@ -7,7 +7,7 @@ use Rattle.reg_alloc.proofs.Steps.{zero_arc}
 use Rattle.given_registers.specs.Around.{given_at, IsFor, IsGiven}
 use Rattle.given_registers.specs.Private.Allotting.{IsClear, IsMet}
 use Rattle.given_registers.specs.declared.given.GivenRegister.{GivenRegister}
-use Rattle.given_registers.proofs.Checks.{taken, can_have, none_case}
+use Rattle.given_registers.proofs.Checks.{taken, can_have, none_given_for}
 use Rattle.given_registers.proofs.check.allotted_for.Goals as goal
 
 pub returns-then-not-is_clear-clause-cause : goal.returns-then-not-is_clear-clause-cause
@@ -26,7 +26,8 @@ returns-then-not-is_clear-clause-cause c =
     let early = c.split_at.ensures.front in
     let single : IsGiven (take n given) arcs k entry.copy → ⊥ =
     subst (λ (gs : List GivenRegister). IsGiven gs arcs k entry.copy → ⊥) early
-    (none_case c.given_for.result c.given_for.ensures c.in_default.not-Some) in
+    (none_given_for c.split_at.result.0.now arcs k entry.copy c.given_for.result c.given_for.ensures
+    c.in_default-given_for.not-Some) in
     taken d c.args.circle.samples given arcs c.requires.allottable n c.requires.there c.args.allotted.now
     c.requires.count c.requires.before entry refl k entry.copy home within single
     (subst (λ (p : ℕ). IsMet p c.args.circle.samples arcs c.args.allotted.now k entry.copy entry.register)
@@ -48,7 +49,8 @@ returns-clause-can c =
     let early = c.split_at.ensures.front in
     let single : IsGiven (take n given) arcs k entry.copy → ⊥ =
     subst (λ (gs : List GivenRegister). IsGiven gs arcs k entry.copy → ⊥) early
-    (none_case c.given_for.result c.given_for.ensures c.in_default.not-Some) in
+    (none_given_for c.split_at.result.0.now arcs k entry.copy c.given_for.result c.given_for.ensures
+    c.in_default-given_for.not-Some) in
     can_have d c.args.circle.samples given arcs c.requires.allottable n c.requires.there c.args.allotted.now
     c.requires.count c.requires.before entry refl k entry.copy home within single
     (subst (λ (p : ℕ). IsClear p c.args.circle.samples arcs c.args.allotted.now k entry.copy entry.register)
