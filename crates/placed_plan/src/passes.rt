@@ -18,6 +18,7 @@ ghost use Rattle.placed_plan.specs.Private.Answers.{IsWhyUntimed, IsAnswer, IsWh
 ghost use Rattle.placed_plan.specs.declared.fault.PlaceFault as of_fault;
 ghost use Rattle.placed_plan.specs.declared.fault.PlaceFault.TheVariants.{Memory};
 ghost use Rattle.placed_plan.specs.declared.fault.GivenPlanFault as of_given;
+ghost use Rattle.placed_plan.specs.declared.fault.GivenPlanFault.TheVariants.{Memory as GivenMemory};
 
 use crate::fault::{GivenPlanFault, PlaceFault};
 use crate::place::Place;
@@ -229,14 +230,14 @@ pub fn plan_given(
     ensures fault { IfErr result (IsWhyNoneGiven graph datapath.now places.now registers.now) }
     // The one plan is always found, unless memory runs out.
     ensures found { (p : of_plan.Plan) → IsPlanGiven places.now graph datapath.now registers.now p
-        → (result ≡ Ok p) ⊎ (result ≡ Err of_given.TheVariants.Memory) }
+        → (result ≡ Ok p) ⊎ (result ≡ Err GivenMemory) }
     // So is the first fault.
     ensures refused { (fault : of_given.GivenPlanFault)
         → IsGivenPlanFault places.now graph datapath.now registers.now fault
-        → (result ≡ Err fault) ⊎ (result ≡ Err of_given.TheVariants.Memory) }
+        → (result ≡ Err fault) ⊎ (result ≡ Err GivenMemory) }
     // Where no register is given, it is the plan that `plan_at` gives.
     ensures ordinary { registers.now ≡ [] → (p : of_plan.Plan) → IsPlanAt places.now graph datapath.now p
-        → (result ≡ Ok p) ⊎ (result ≡ Err of_given.TheVariants.Memory) }
+        → (result ≡ Ok p) ⊎ (result ≡ Err GivenMemory) }
 {
     planned_given(alloc, graph, places, registers, datapath)
 }
