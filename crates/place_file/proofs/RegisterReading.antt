@@ -1,6 +1,6 @@
 -- The registers that the lines of a text give, read one after another.
 use Rattle.std.proofs.Common.{◌≡◌, ◌∙◌, ◌⊎◌, inl, inr, ⊎_elim, refl, sym, ap, ap₂, subst, arith, ℕ, ◌+◌, ◌<◌, ◌≤◌, List}
-use Rattle.std.proofs.Common.{[], ◌∷◌, ◌++◌, length, Contains, ext_get_or, Option, Some, None, codes}
+use Rattle.std.proofs.Common.{[], ◌∷◌, ◌++◌, length, Contains, ext_get_or, Option, Some, None, Result, Ok, Err, codes}
 use Rattle.std.specs.Prelude.{slice_index_or}
 use Rattle.std.specs.List.{AllPairs}
 use Rattle.std.proofs.lemmas.Bool.{cases_lt}
@@ -233,6 +233,17 @@ module _ (d : Datapath) (text : List ℕ) where
         (subst (λ (n : ℕ). IsBadRegisterLine d (words_by (line_at text n)) c) at x.bad) y.bad)
     one_fault Memory h x y = absurd x
     one_fault (Line line c) Memory x y = absurd y
+
+    -- What is answered where a line is wrong.
+    module _ (r : Result GivenRegisters RegistersFault) (f : RegistersFault) (is : r ≡ Err f)
+        (why : IsRegistersFault d text f) where
+      pub fails_found : (given : GivenRegisters) → AreRegistersBy d text given → (r ≡ Ok given) ⊎ (r ≡ Err Memory)
+      fails_found given by = absurd (given_or_not given by f why)
+
+      pub fails_refused : (fault : RegistersFault)
+          → IsRegistersFault d text fault
+          → (r ≡ Err fault) ⊎ (r ≡ Err Memory)
+      fails_refused fault h = inl (is ∙ ap (λ (x : RegistersFault). Err x) (one_fault f fault why h))
 
 -- what the code reads of a line
 pub read_some : (d : Datapath) (said : RegisterSaid) (r : Option GivenRegister) (g : GivenRegister)
