@@ -1,5 +1,8 @@
 -- A line says one register of one copy, or is wrong in one way, and not both.
-use Rattle.std.proofs.Common.{◌≡◌, ◌∙◌, inl, inr, refl, sym, ap, arith, ℕ, zero, suc, ◌+◌, ◌<◌, ◌≤◌, ◌^◌, codes}
+use Rattle.std.proofs.Common.{◌≡◌, ◌∙◌, inl, inr, refl, sym, ap, arith, ℕ, zero, suc, ◌+◌, ◌<◌, ◌≤◌, ◌^◌, List, [], codes}
+use Rattle.std.proofs.Common.{drop, drop-drop}
+use Rattle.std.specs.Prelude.{slice_index_or}
+use Rattle.std.proofs.lemmas.List.{get_or-drop}
 use Rattle.datapath.specs.Allowed.{IsDatapath}
 use Rattle.datapath.specs.declared.types.Datapath.{Datapath}
 use Rattle.operations.specs.declared.units.PortRef.{PortRef}
@@ -242,6 +245,7 @@ module _ (d : Datapath) (said : RegisterSaid) where
   wrong_at : (cause : RegisterLineCause)
       → IsBadRegisterLine d said cause
       → (k : ℕ) × FirstWrong k × (cause ≡ cause_at k)
+  unfolding cause_at by_turns
   wrong_at Form (inl x) = (2, x, refl)
   wrong_at Form (inr (inl x)) = (4, x, refl)
   wrong_at Form (inr (inr (inl x))) = (6, x, refl)
@@ -298,3 +302,12 @@ module _ (d : Datapath) (said : RegisterSaid) where
       ∙ ap (λ (n : ℕ). record { node = h.node; port = port_of h.port.unit n; copy = g.copy; register = g.register }) port
       ∙ ap (λ (n : ℕ). record { node = h.node; port = h.port; copy = n; register = g.register }) copy
       ∙ ap (λ (n : ℕ). record { node = h.node; port = h.port; copy = h.copy; register = n }) register
+
+-- the words of what is left of a line, where n were read
+module _ (words left : List (List ℕ)) (n : ℕ) (is : left ≡ drop n words) where
+  pub next_left : (behind : List (List ℕ)) → behind ≡ drop 1 left → behind ≡ drop (n + 1) words
+  next_left behind rest = rest ∙ ap (λ (xs : List (List ℕ)). drop 1 xs) is ∙ drop-drop 1 n words
+
+  pub word_left : (word : List ℕ) → word ≡ slice_index_or left 0 [] → word ≡ slice_index_or words n []
+  word_left word first =
+      first ∙ ap (λ (xs : List (List ℕ)). slice_index_or xs 0 []) is ∙ get_or-drop n words 0 []
