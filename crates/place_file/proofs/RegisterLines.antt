@@ -310,4 +310,6 @@ module _ (words left : List (List ℕ)) (n : ℕ) (is : left ≡ drop n words) w
 
   pub word_left : (word : List ℕ) → word ≡ slice_index_or left 0 [] → word ≡ slice_index_or words n []
   word_left word first =
+      let none : n + 0 ≡ n = omega arith in
       first ∙ ap (λ (xs : List (List ℕ)). slice_index_or xs 0 []) is ∙ get_or-drop n words 0 []
+      ∙ ap (λ (k : ℕ). slice_index_or words k []) none
