@@ -313,3 +313,148 @@ module _ (words left : List (List ℕ)) (n : ℕ) (is : left ≡ drop n words) w
       let none : n + 0 ≡ n = omega arith in
       first ∙ ap (λ (xs : List (List ℕ)). slice_index_or xs 0 []) is ∙ get_or-drop n words 0 []
       ∙ ap (λ (k : ℕ). slice_index_or words k []) none
+
+-- lines with the same words say the same
+pub same_words : (a b : RegisterSaid)
+    → a.head ≡ b.head
+    → a.register ≡ b.register
+    → a.unit_label ≡ b.unit_label
+    → a.unit ≡ b.unit
+    → a.port_label ≡ b.port_label
+    → a.port ≡ b.port
+    → a.node_label ≡ b.node_label
+    → a.node ≡ b.node
+    → a.copy_label ≡ b.copy_label
+    → a.copy ≡ b.copy
+    → a ≡ b
+same_words a b head register unit_label unit port_label port node_label node copy_label copy =
+    ap
+    (λ (w : List ℕ). record {
+      head = w;
+      register = a.register;
+      unit_label = a.unit_label;
+      unit = a.unit;
+      port_label = a.port_label;
+      port = a.port;
+      node_label = a.node_label;
+      node = a.node;
+      copy_label = a.copy_label;
+      copy = a.copy;
+    }) head
+    ∙ ap
+    (λ (w : List ℕ). record {
+      head = b.head;
+      register = w;
+      unit_label = a.unit_label;
+      unit = a.unit;
+      port_label = a.port_label;
+      port = a.port;
+      node_label = a.node_label;
+      node = a.node;
+      copy_label = a.copy_label;
+      copy = a.copy;
+    }) register
+    ∙ ap
+    (λ (w : List ℕ). record {
+      head = b.head;
+      register = b.register;
+      unit_label = w;
+      unit = a.unit;
+      port_label = a.port_label;
+      port = a.port;
+      node_label = a.node_label;
+      node = a.node;
+      copy_label = a.copy_label;
+      copy = a.copy;
+    }) unit_label
+    ∙ ap
+    (λ (w : List ℕ). record {
+      head = b.head;
+      register = b.register;
+      unit_label = b.unit_label;
+      unit = w;
+      port_label = a.port_label;
+      port = a.port;
+      node_label = a.node_label;
+      node = a.node;
+      copy_label = a.copy_label;
+      copy = a.copy;
+    }) unit
+    ∙ ap
+    (λ (w : List ℕ). record {
+      head = b.head;
+      register = b.register;
+      unit_label = b.unit_label;
+      unit = b.unit;
+      port_label = w;
+      port = a.port;
+      node_label = a.node_label;
+      node = a.node;
+      copy_label = a.copy_label;
+      copy = a.copy;
+    }) port_label
+    ∙ ap
+    (λ (w : List ℕ). record {
+      head = b.head;
+      register = b.register;
+      unit_label = b.unit_label;
+      unit = b.unit;
+      port_label = b.port_label;
+      port = w;
+      node_label = a.node_label;
+      node = a.node;
+      copy_label = a.copy_label;
+      copy = a.copy;
+    }) port
+    ∙ ap
+    (λ (w : List ℕ). record {
+      head = b.head;
+      register = b.register;
+      unit_label = b.unit_label;
+      unit = b.unit;
+      port_label = b.port_label;
+      port = b.port;
+      node_label = w;
+      node = a.node;
+      copy_label = a.copy_label;
+      copy = a.copy;
+    }) node_label
+    ∙ ap
+    (λ (w : List ℕ). record {
+      head = b.head;
+      register = b.register;
+      unit_label = b.unit_label;
+      unit = b.unit;
+      port_label = b.port_label;
+      port = b.port;
+      node_label = b.node_label;
+      node = w;
+      copy_label = a.copy_label;
+      copy = a.copy;
+    }) node
+    ∙ ap
+    (λ (w : List ℕ). record {
+      head = b.head;
+      register = b.register;
+      unit_label = b.unit_label;
+      unit = b.unit;
+      port_label = b.port_label;
+      port = b.port;
+      node_label = b.node_label;
+      node = b.node;
+      copy_label = w;
+      copy = a.copy;
+    }) copy_label
+    ∙ ap
+    (λ (w : List ℕ). record {
+      head = b.head;
+      register = b.register;
+      unit_label = b.unit_label;
+      unit = b.unit;
+      port_label = b.port_label;
+      port = b.port;
+      node_label = b.node_label;
+      node = b.node;
+      copy_label = b.copy_label;
+      copy = w;
+    }) copy

@@ -1,8 +1,9 @@
 use Rattle.std.proofs.Common.{◌≡◌, refl, List, ℕ, drop}
 use Rattle.microcode_asm.specs.OperationText.{blank}
 use Rattle.place_file.specs.Lines.{parts_of, word_at}
+use Rattle.place_file.specs.Registers.{words_by}
 use Rattle.place_file.specs.Private.Words.{words_left}
-use Rattle.place_file.proofs.RegisterLines.{next_left, word_left}
+use Rattle.place_file.proofs.RegisterLines.{next_left, word_left, same_words}
 use Rattle.place_file.proofs.register_line.register_words_of.Goals as goal
 
 pub returns : goal.returns
@@ -45,4 +46,4 @@ returns c =
     next_left ws (words_left c.next_word-8.result.1) 8 left8 (words_left c.next_word-9.result.1) c.next_word-9.ensures.rest in
     let copy : c.next_word-10.result.0.now ≡ word_at line 9 =
     word_left ws (words_left c.next_word-9.result.1) 9 left9 c.next_word-10.result.0.now c.next_word-10.ensures.word in
-    cc
+    same_words _ (words_by line) head register unit_label unit port_label port node_label node copy_label copy
