@@ -6,3 +6,5 @@ pub mod Keys
 pub mod Words
 pub mod Numbers
 pub mod Told
+pub mod RegisterLines
+pub mod RegisterReading

@@ -66,7 +66,7 @@ module _ (d : Datapath) (allowed : IsDatapath d) where
       ∙ same
       ∙ sym (get_or-map (λ (unit : FunctionalUnit). unit.name) d.units w no_unit no_unit.name there))
 
-  one_unit : (word : List ℕ) (u w : ℕ) → IsUnitNamed d word u → IsUnitNamed d word w → u ≡ w
+  pub one_unit : (word : List ℕ) (u w : ℕ) → IsUnitNamed d word u → IsUnitNamed d word w → u ≡ w
   one_unit word u w x y =
       neither_less u w (λ less. names_differ u w less y.there (x.name ∙ sym y.name))
       (λ less. names_differ w u less x.there (y.name ∙ sym x.name))

@@ -1,4 +1,5 @@
 pub mod Lines
 pub mod Given
 pub mod Faults
+pub mod Registers
 pub mod Private

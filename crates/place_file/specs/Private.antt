@@ -1,2 +1,3 @@
 pub mod Words
 pub mod Entries
+pub mod Registers

@@ -22,7 +22,7 @@ pub(crate) struct Entry {
 }
 
 /// The number of the unit of that name.
-fn unit_named(datapath: &Datapath, name: &[u8]) -> Option<u8>
+pub(crate) fn unit_named(datapath: &Datapath, name: &[u8]) -> Option<u8>
     requires { IsDatapath datapath.now }
     ensures { MatchOption result ((u : ℕ) → IsUnitNamed datapath.now name.now u → ⊥)
         (IsUnitNamed datapath.now name.now) }
@@ -43,7 +43,7 @@ fn cycle_number(word: &[u8]) -> Option<u16>
 }
 
 /// Whether these are the same bytes.
-fn is_word(word: &[u8], expected: &[u8]) -> bool
+pub(crate) fn is_word(word: &[u8], expected: &[u8]) -> bool
     ensures { IsTrue result ↔ (word.now ≡ expected.now) }
 {
     word == expected

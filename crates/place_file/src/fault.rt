@@ -56,3 +56,40 @@ impl From<AllocError> for GivenFault {
         GivenFault::Memory
     }
 }
+
+/// What is wrong with a line that begins with `register`.
+#[derive(Debug, Clone, Copy, PartialEq, Eq, Error)]
+pub enum RegisterLineCause {
+    /// A word is not what stands in its place.
+    #[error("not register R unit NAME port P node V copy K")]
+    Form,
+    /// What stands in the place of a number is none: digits without a zero in front, for a node below 2^32, for the others
+    /// below 2^8.
+    #[error("no number")]
+    Number,
+    /// The datapath has no unit of that name.
+    #[error("unknown unit")]
+    Unit,
+}
+
+/// Why a text gives no registers.
+#[derive(Debug, Clone, Copy, PartialEq, Eq, Drop, Error)]
+pub enum RegistersFault {
+    /// The first line that is wrong, from 1.
+    #[error("line {line}: {cause}")]
+    Line { line: u32, cause: RegisterLineCause },
+    /// Out of memory.
+    #[error("no memory")]
+    Memory,
+}
+
+impl<T: Drop> From<AllocFailed<T>> for RegistersFault {
+    ghost use Rattle.std.specs.Prelude.{◌≡◌};
+    ghost use Rattle.place_file.specs.declared.fault.RegistersFault.TheVariants.{Memory};
+
+    ghost from_gives = { λ _ fault. fault ≡ Memory };
+
+    fn from(_: AllocFailed<T>) -> RegistersFault {
+        RegistersFault::Memory
+    }
+}

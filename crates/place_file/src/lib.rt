@@ -7,6 +7,9 @@ mod fault;
 mod given;
 mod line;
 mod number;
+mod register_line;
+mod registers;
 
-pub use fault::{GivenFault, LineCause};
+pub use fault::{GivenFault, LineCause, RegisterLineCause, RegistersFault};
 pub use given::{Given, places_in};
+pub use registers::{GivenRegisters, registers_in};

@@ -46,7 +46,7 @@ pub(crate) fn split_part(text: &[u8], byte: u8) -> (&[u8], Option<&[u8]>)
 }
 
 /// The next word of what is left of a line, and what is left behind it.
-fn next_word(left: Option<&[u8]>) -> (&[u8], Option<&[u8]>)
+pub(crate) fn next_word(left: Option<&[u8]>) -> (&[u8], Option<&[u8]>)
     ensures word { result.0.now ≡ slice_index_or (words_left left.entry) 0 [] }
     ensures rest { words_left result.1 ≡ drop 1 (words_left left.entry) }
 {

@@ -4,5 +4,6 @@ pub mod FirstObstacles
 pub mod OneCause
 pub mod OneFault
 pub mod PlansAt
+pub mod GivenPlans
 pub mod PlaceTests
 pub mod WorkedPlaces

@@ -44,7 +44,7 @@ use Rattle.planner.proofs.OnePlan.{plan_from}
 use Rattle.placed_plan.specs.Places.{place_of, CanBeOn, AreOnGivenUnits, AtPlace, IsScheduleAt, IsPlanAt}
 use Rattle.placed_plan.specs.Causes.{IsTooWide, IsOnWrongUnit}
 use Rattle.placed_plan.specs.Faults.{IsFirstMisplaced, IsFirstUnplaced, HasMisplacedNode}
-use Rattle.placed_plan.specs.Faults.{HasUnplacedNode, HasUnkeptNode, IsPlaceFault}
+use Rattle.placed_plan.specs.Faults.{HasUnplacedNode, HasUnkeptNode, IsPlaceFault, IsTimeFault}
 use Rattle.placed_plan.specs.Private.Errors.{of_file}
 use Rattle.placed_plan.specs.declared.place.Place.{Place}
 use Rattle.placed_plan.specs.declared.fault.PlaceFault.{PlaceFault}
@@ -60,7 +60,7 @@ use Rattle.placed_plan.proofs.OneCause.{one_cause}
 -- There is one at most, and where there is one there is no fault.
 module _ (g : Graph) (d : Datapath) (places : List Place) (allowed : IsDatapath d) (sound : IsGraph g)
     (loopless : IsGraphLoopless g) where
-  same_lowered : (l m : Lowered) → IsLowered g d l → IsLowered g d m → l ≡ m
+  pub same_lowered : (l m : Lowered) → IsLowered g d l → IsLowered g d m → l ≡ m
   same_lowered l m x y = one_lowered d.hold 1 g d l m x y
 
   -- nodes that are on the units of their places
@@ -68,7 +68,7 @@ module _ (g : Graph) (d : Datapath) (places : List Place) (allowed : IsDatapath 
     pub problem : IsProblem d a
     problem = record { path = allowed; schedulable = schedulable g d sound a low loopless (on_right places d a on) }
 
-    same_assigned : (b : Assigned) → IsLowered g d b.lowered → AreOnGivenUnits places d b → b ≡ a
+    pub same_assigned : (b : Assigned) → IsLowered g d b.lowered → AreOnGivenUnits places d b → b ≡ a
     same_assigned b its there =
         let same = same_lowered b.lowered a.lowered its low in
         let count : length b.units ≡ length a.units =
@@ -78,7 +78,7 @@ module _ (g : Graph) (d : Datapath) (places : List Place) (allowed : IsDatapath 
         ap (λ (l : Lowered). record { lowered = l; units = b.units }) same
         ∙ ap (λ (us : List ℕ). record { lowered = a.lowered; units = us }) units
 
-    same_schedule : (s z : Schedule) → IsScheduleAt places d a s → IsScheduleAt places d a z → s ≡ z
+    pub same_schedule : (s z : Schedule) → IsScheduleAt places d a s → IsScheduleAt places d a z → s ≡ z
     same_schedule s z x y =
         one_schedule_over IsGapApart IsOneCycle d.period (AtPlace places) d a (live_of d allowed) (at_alike places d a)
         (operand_in d a problem) s z x y
@@ -118,7 +118,7 @@ module _ (g : Graph) (d : Datapath) (places : List Place) (allowed : IsDatapath 
   -- the lifetimes of nodes at their places, however they are told
   module _ (b : Assigned) (low : IsLowered g d b.lowered) (on : AreOnGivenUnits places d b) (z : Schedule)
       (placed : IsScheduleAt places d b z) (its : List Arc) (they : IsArcs d b z its) where
-    same_arcs : (a : Assigned) (s : Schedule) (arcs : List Arc)
+    pub same_arcs : (a : Assigned) (s : Schedule) (arcs : List Arc)
         → a ≡ b
         → IsScheduleAt places d a s
         → IsArcs d a s arcs
@@ -129,7 +129,9 @@ module _ (g : Graph) (d : Datapath) (places : List Place) (allowed : IsDatapath 
         one_arcs d b z arcs its
         (subst (λ (y : Schedule). IsArcs d b y arcs) (same_schedule b low on s z here placed) there) they
 
-  module _ (p : Plan) (is : IsPlanAt places g d p) where
+  -- nodes that stand at their places have no fault of these
+  module _ (a : Assigned) (low : IsLowered g d a.lowered) (on : AreOnGivenUnits places d a) (s : Schedule)
+      (scheduled : IsScheduleAt places d a s) where
     -- each node can be on its unit
     unit_refuted : (Cause : Datapath → Node → (u : ℕ) → Type 0)
         → ((node : Node) (u : ℕ) → CanBeOn d node u → Cause d node u → ⊥)
@@ -137,34 +139,52 @@ module _ (g : Graph) (d : Datapath) (places : List Place) (allowed : IsDatapath 
         → HasMisplacedNode g d places Cause v
         → ⊥
     unit_refuted Cause cannot v h =
-        let same = same_lowered h.lowered p.assigned.lowered h.is_lowered is.placed.lowered in
+        let same = same_lowered h.lowered a.lowered h.is_lowered low in
         let x = subst (λ (l : Lowered). IsFirstMisplaced places d l Cause v) same h.misplaced in
-        cannot (node_of p.assigned.lowered.nodes v) (place_of places v).unit (is.units.can v x.there) x.cause
+        cannot (node_of a.lowered.nodes v) (place_of places v).unit (on.can v x.there) x.cause
 
     -- each node can be issued in its cycle
     cycle_refuted : (stop : Stop) (v : ℕ) → HasUnplacedNode g d places (IsStopCause stop) v → ⊥
     cycle_refuted stop v h =
-        let same = same_assigned p.assigned is.placed.lowered is.units h.assigned h.is_lowered h.units in
-        refuted p.assigned is.placed.lowered is.units stop v
-        (subst (λ (a : Assigned). IsFirstUnplaced places d a (IsStopCause stop) v) same h.unplaced) p.schedule
-        is.placed.schedule
+        let same = same_assigned a low on h.assigned h.is_lowered h.units in
+        refuted a low on stop v
+        (subst (λ (b : Assigned). IsFirstUnplaced places d b (IsStopCause stop) v) same h.unplaced) s scheduled
+
+    pub timed_or_not : (fault : PlaceFault) → IsTimeFault g d places fault → ⊥
+    timed_or_not (Unstored f) h = lowered_or_not d.hold 1 g d a.lowered low f h
+    timed_or_not (Missing v) h =
+        let same = same_lowered h.lowered a.lowered h.is_lowered low in
+        absurd (omega (arith, h.lacks, on.place_count, ap (λ (l : Lowered). length l.nodes) same))
+    timed_or_not (Surplus v) h =
+        let same = same_lowered h.lowered a.lowered h.is_lowered low in
+        absurd (omega (arith, h.lacks, on.place_count, ap (λ (l : Lowered). length l.nodes) same))
+    timed_or_not (TooWide v) h =
+        unit_refuted IsTooWide (λ node u can wide. absurd (omega (arith, can.width, wide))) v h
+    timed_or_not (WrongUnit v) h = unit_refuted IsOnWrongUnit (λ node u can cause. cause.wrong can.right) v h
+    timed_or_not (Late v x from) h = cycle_refuted (late x from) v h
+    timed_or_not (Past v) h = cycle_refuted past v h
+    timed_or_not (Busy v) h = cycle_refuted busy v h
+    timed_or_not (FileWritten unit port v) h = cycle_refuted (written unit port) v h
+    timed_or_not (NoBus unit port v) h = cycle_refuted (busless unit port) v h
+    timed_or_not (FileFull unit port v) h = h
+    timed_or_not Memory h = h
+
+  module _ (p : Plan) (is : IsPlanAt places g d p) where
+    not_timed : (fault : PlaceFault) → IsTimeFault g d places fault → ⊥
+    not_timed fault h =
+        timed_or_not p.assigned is.placed.lowered is.units p.schedule is.placed.schedule fault h
 
     pub plan_or_not : (fault : PlaceFault) → IsPlaceFault g d places fault → ⊥
-    plan_or_not (Unstored f) h = lowered_or_not d.hold 1 g d p.assigned.lowered is.placed.lowered f h
-    plan_or_not (Missing v) h =
-        let same = same_lowered h.lowered p.assigned.lowered h.is_lowered is.placed.lowered in
-        absurd (omega (arith, h.lacks, is.units.place_count, ap (λ (l : Lowered). length l.nodes) same))
-    plan_or_not (Surplus v) h =
-        let same = same_lowered h.lowered p.assigned.lowered h.is_lowered is.placed.lowered in
-        absurd (omega (arith, h.lacks, is.units.place_count, ap (λ (l : Lowered). length l.nodes) same))
-    plan_or_not (TooWide v) h =
-        unit_refuted IsTooWide (λ node u can wide. absurd (omega (arith, can.width, wide))) v h
-    plan_or_not (WrongUnit v) h = unit_refuted IsOnWrongUnit (λ node u can cause. cause.wrong can.right) v h
-    plan_or_not (Late v x from) h = cycle_refuted (late x from) v h
-    plan_or_not (Past v) h = cycle_refuted past v h
-    plan_or_not (Busy v) h = cycle_refuted busy v h
-    plan_or_not (FileWritten unit port v) h = cycle_refuted (written unit port) v h
-    plan_or_not (NoBus unit port v) h = cycle_refuted (busless unit port) v h
+    plan_or_not (Unstored f) h = not_timed (Unstored f) h
+    plan_or_not (Missing v) h = not_timed (Missing v) h
+    plan_or_not (Surplus v) h = not_timed (Surplus v) h
+    plan_or_not (TooWide v) h = not_timed (TooWide v) h
+    plan_or_not (WrongUnit v) h = not_timed (WrongUnit v) h
+    plan_or_not (Late v x from) h = not_timed (Late v x from) h
+    plan_or_not (Past v) h = not_timed (Past v) h
+    plan_or_not (Busy v) h = not_timed (Busy v) h
+    plan_or_not (FileWritten unit port v) h = not_timed (FileWritten unit port v) h
+    plan_or_not (NoBus unit port v) h = not_timed (NoBus unit port v) h
     plan_or_not (FileFull unit port v) h =
         let same = same_assigned p.assigned is.placed.lowered is.units h.assigned h.is_lowered h.units in
         let arcs = same_arcs p.assigned is.placed.lowered is.units p.schedule is.placed.schedule p.arcs is.placed.arcs

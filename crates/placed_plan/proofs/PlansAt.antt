@@ -34,7 +34,7 @@ use Rattle.reg_alloc.specs.Faults.{IsFileFault}
 use Rattle.reg_alloc.specs.declared.fault.FileFault.{FileFault}
 use Rattle.reg_alloc.specs.declared.fault.FileFault.TheVariants as file
 use Rattle.placed_plan.specs.Places.{CanBeOn, AreOnGivenUnits, IsScheduleAt, IsGiven, IsPlanAt, IsNarrow}
-use Rattle.placed_plan.specs.Faults.{IsPlaceFault}
+use Rattle.placed_plan.specs.Faults.{IsPlaceFault, IsTimeFault}
 use Rattle.placed_plan.specs.Private.Answers.{IsAnswer}
 use Rattle.placed_plan.specs.Private.Errors.{of_line, of_file}
 use Rattle.placed_plan.specs.Private.Units.{IsMiscounted, IsMisplaced}
@@ -87,9 +87,29 @@ module _ (g : Graph) (d : Datapath) (places : List Place) (allowed : IsDatapath 
 module _ (g : Graph) (d : Datapath) (places : List Place) where
   -- The faults of the passes.
 
+  pub time_fault : (f : PlaceFault) → IsTimeFault g d places f → IsPlaceFault g d places f
+  time_fault (Unstored f) h = h
+  time_fault (Missing v) h = h
+  time_fault (Surplus v) h = h
+  time_fault (TooWide v) h = h
+  time_fault (WrongUnit v) h = h
+  time_fault (Late v x from) h = h
+  time_fault (Past v) h = h
+  time_fault (Busy v) h = h
+  time_fault (FileWritten unit port v) h = h
+  time_fault (NoBus unit port v) h = h
+  time_fault (FileFull unit port v) h = absurd h
+  time_fault Memory h = h
+
+  pub time_fails : (f : PlaceFault)
+      → (f ≡ Memory) ⊎ IsTimeFault g d places f
+      → (f ≡ Memory) ⊎ IsPlaceFault g d places f
+  time_fails f (inl e) = inl e
+  time_fails f (inr h) = inr (time_fault f h)
+
   pub line_fails : (f : LineFault)
       → (f ≡ line.Memory) ⊎ IsLineFault g d f
-      → (of_line f ≡ Memory) ⊎ IsPlaceFault g d places (of_line f)
+      → (of_line f ≡ Memory) ⊎ IsTimeFault g d places (of_line f)
   line_fails f (inl e) = inl (ap of_line e)
   line_fails (line.NoRam v) (inr h) = inr h
   line_fails (line.LinesFull v) (inr h) = inr h
@@ -99,7 +119,7 @@ module _ (g : Graph) (d : Datapath) (places : List Place) where
   module _ (l : Lowered) (low : IsLowered g d l) where
     pub count_fails : (f : PlaceFault)
         → IsMiscounted (length places) (length l.nodes) f
-        → IsPlaceFault g d places f
+        → IsTimeFault g d places f
     count_fails (Missing v) h = record { lowered = l; is_lowered = low; lacks = h.0; is = h.1 }
     count_fails (Surplus v) h = record { lowered = l; is_lowered = low; lacks = h.0; is = h.1 }
     count_fails (Unstored f) h = absurd h
@@ -116,7 +136,7 @@ module _ (g : Graph) (d : Datapath) (places : List Place) where
     pub unit_fails : length places ≡ length l.nodes
         → (f : PlaceFault)
         → (f ≡ Memory) ⊎ IsMisplaced places d l f
-        → (f ≡ Memory) ⊎ IsPlaceFault g d places f
+        → (f ≡ Memory) ⊎ IsTimeFault g d places f
     unit_fails count f (inl e) = inl e
     unit_fails count (TooWide v) (inr h) =
         inr (record { lowered = l; is_lowered = low; count = count; misplaced = h })
@@ -136,7 +156,7 @@ module _ (g : Graph) (d : Datapath) (places : List Place) where
   module _ (a : Assigned) (low : IsLowered g d a.lowered) (on : AreOnGivenUnits places d a) where
     pub cycle_fails : (f : PlaceFault)
         → (f ≡ Memory) ⊎ IsUnplaced places d a f
-        → (f ≡ Memory) ⊎ IsPlaceFault g d places f
+        → (f ≡ Memory) ⊎ IsTimeFault g d places f
     cycle_fails f (inl e) = inl e
     cycle_fails (Late v x from) (inr h) = inr (record { assigned = a; is_lowered = low; units = on; unplaced = h })
     cycle_fails (Past v) (inr h) = inr (record { assigned = a; is_lowered = low; units = on; unplaced = h })

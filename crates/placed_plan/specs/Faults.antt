@@ -99,3 +99,8 @@ module _ (g : Graph) (d : Datapath) (places : List Place) where
   IsPlaceFault (NoBus unit port v) = HasUnplacedNode (IsBusless (port_of unit port)) v
   IsPlaceFault (FileFull unit port v) = HasUnkeptNode (port_of unit port) v
   IsPlaceFault Memory = ⊥
+
+  -- the same but for registers: a fault of the places alone
+  abbrev pub IsTimeFault : PlaceFault → Type 0
+  IsTimeFault (FileFull unit port v) = ⊥
+  IsTimeFault fault = IsPlaceFault fault

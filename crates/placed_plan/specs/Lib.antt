@@ -1,4 +1,5 @@
 pub mod Places
 pub mod Causes
 pub mod Faults
+pub mod GivenPlans
 pub mod Private

@@ -3,6 +3,7 @@
 use bus_alloc::TableFault;
 use cyclic_life::ArcFault;
 use delay_memory::LineFault;
+use given_registers::RegisterFault;
 use reg_alloc::FileFault;
 use std::alloc::{AllocError, AllocFailed};
 use thiserror::Error;
@@ -122,6 +123,60 @@ impl From<FileFault> for PlaceFault {
         match fault {
             FileFault::Full { unit, port, node } => PlaceFault::FileFull { unit, port, node },
             FileFault::Memory => PlaceFault::Memory,
+        }
+    }
+}
+
+/// Why there is no plan with these places and these registers.
+#[derive(Debug, Clone, Copy, PartialEq, Eq, Drop, Error)]
+pub enum GivenPlanFault {
+    /// The places have none, whatever the registers are. `FileFull` and `Memory` never come in here.
+    #[error(transparent)]
+    Place(PlaceFault),
+    /// Each node stands at its place, and the copies of lifetimes have no registers around those that are given. `Memory`
+    /// never comes in here.
+    #[error(transparent)]
+    Registers(RegisterFault),
+    /// Out of memory.
+    #[error("no memory")]
+    Memory,
+}
+
+impl From<AllocError> for GivenPlanFault {
+    ghost use Rattle.std.specs.Prelude.{◌≡◌};
+    ghost use Rattle.placed_plan.specs.declared.fault.GivenPlanFault.TheVariants.{Memory};
+
+    ghost from_gives = { λ _ fault. fault ≡ Memory };
+
+    fn from(_: AllocError) -> GivenPlanFault {
+        GivenPlanFault::Memory
+    }
+}
+
+impl From<PlaceFault> for GivenPlanFault {
+    ghost use Rattle.std.specs.Prelude.{◌≡◌};
+    ghost use Rattle.placed_plan.specs.Private.Errors.{of_place};
+
+    ghost from_gives = { λ fault given_fault. given_fault ≡ of_place fault };
+
+    fn from(fault: PlaceFault) -> GivenPlanFault {
+        match fault {
+            PlaceFault::Memory => GivenPlanFault::Memory,
+            fault => GivenPlanFault::Place(fault),
+        }
+    }
+}
+
+impl From<RegisterFault> for GivenPlanFault {
+    ghost use Rattle.std.specs.Prelude.{◌≡◌};
+    ghost use Rattle.placed_plan.specs.Private.Errors.{of_registers};
+
+    ghost from_gives = { λ fault given_fault. given_fault ≡ of_registers fault };
+
+    fn from(fault: RegisterFault) -> GivenPlanFault {
+        match fault {
+            RegisterFault::Memory => GivenPlanFault::Memory,
+            fault => GivenPlanFault::Registers(fault),
         }
     }
 }

@@ -9,7 +9,7 @@ mod place;
 mod placing;
 mod units;
 
-pub use fault::PlaceFault;
-pub use passes::plan_at;
+pub use fault::{GivenPlanFault, PlaceFault};
+pub use passes::{plan_at, plan_given};
 pub use place::Place;
 pub use units::is_right_unit;
