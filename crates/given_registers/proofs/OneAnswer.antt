@@ -133,7 +133,8 @@ module _ (d : Datapath) (unroll : ℕ) (given : List GivenRegister) (arcs : List
       (λ l j listed copy. all.each l j (listed_there l j x.k x.i (length arcs) x.there listed) copy)
       (all.each x.k x.i x.there x.copy)
 
-  not_before : (p q : PortRef) (u v : ℕ) (x : IsWithoutRegister d unroll given arcs p u)
+  not_before :
+      (p q : PortRef) (u v : ℕ) (x : IsWithoutRegister d unroll given arcs p u)
       (y : IsWithoutRegister d unroll given arcs q v)
       → IsListedBefore x.k x.i y.k y.i
       → ⊥

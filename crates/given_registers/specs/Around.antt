@@ -1,6 +1,6 @@
--- Registers by first fit around those that are given: in each register file, in the order of the lifetimes and of their
--- copies, each copy for which none is given gets the least register in which no copy shares a cycle with it, neither one
--- for which it is given nor one before.
+-- Registers by first fit around those that are given: in each register file, in the order of the lifetimes and of
+-- their copies, each copy for which none is given gets the least register in which no copy shares a cycle with it,
+-- neither one for which it is given nor one before.
 use Rattle.std.specs.Prelude.{◌≡◌, ◌⊎◌, ℕ, ◌<◌, List, [], length, slice_index_or}
 use Rattle.datapath.specs.declared.types.Datapath.{Datapath}
 use Rattle.plan_core.specs.Hardware.{port_of, file_size}
@@ -63,10 +63,13 @@ module _ (d : Datapath) (unroll : ℕ) (given : List GivenRegister) (arcs : List
     -- the register is free for copy j of arc l
     pub record IsFree (l j register : ℕ) : Type 0 where
       pub from_given : (n k i : ℕ)
-          → IsGivenAt given arcs n k i → (given_at given n).register ≡ register
+          → IsGivenAt given arcs n k i
+          → (given_at given n).register ≡ register
           → AreBeside d.period unroll arcs k i l j
       pub from_before : (k i : ℕ)
-          → IsListedBefore k i l j → i < (arc_of arcs k).copies → register_of regs k i ≡ register
+          → IsListedBefore k i l j
+          → i < (arc_of arcs k).copies
+          → register_of regs k i ≡ register
           → AreBeside d.period unroll arcs k i l j
 
     -- copy j of arc l has a register that is given for it
@@ -88,8 +91,8 @@ module _ (d : Datapath) (unroll : ℕ) (given : List GivenRegister) (arcs : List
       pub copies : (k : ℕ) → k < length arcs → length (slice_index_or regs k []) ≡ (arc_of arcs k).copies
       pub each : (k i : ℕ) → k < length arcs → i < (arc_of arcs k).copies → HasRegister k i
 
--- The registers of the lifetimes' copies around those that are given, each of which its copy can have. The circle has as
--- many samples as the greatest count of copies.
+-- The registers of the lifetimes' copies around those that are given, each of which its copy can have. The circle has
+-- as many samples as the greatest count of copies.
 pub record AreAllottedAround (d : Datapath) (given : List GivenRegister) (arcs : List Arc) (regs : List (List ℕ)) :
     Type 0 where
   pub unroll : ℕ

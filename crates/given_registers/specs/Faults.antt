@@ -60,10 +60,12 @@ module _ (d : Datapath) (unroll : ℕ) (given : List GivenRegister) (arcs : List
     pub copy : i < (arc_of arcs k).copies
     pub ungiven : IsGiven given arcs k i → ⊥
     pub before : (l j : ℕ)
-        → IsListedBefore l j k i → j < (arc_of arcs l).copies
+        → IsListedBefore l j k i
+        → j < (arc_of arcs l).copies
         → HasRegister d unroll given arcs regs l j
     pub full : (register : ℕ)
-        → register < file_size d (arc_of arcs k).port → IsFree d unroll given arcs regs k i register
+        → register < file_size d (arc_of arcs k).port
+        → IsFree d unroll given arcs regs k i register
         → ⊥
     pub port_is : port ≡ (arc_of arcs k).port
     pub node_is : node ≡ (arc_of arcs k).node
@@ -80,8 +82,8 @@ module _ (d : Datapath) (given : List GivenRegister) (arcs : List Arc) where
     pub unroll_is : IsUnroll arcs unroll
     pub none : IsWithoutRegister d unroll given arcs port node
 
-  -- The fault is that of the first given register that its copy cannot have, else that of the first copy without one. To
-  -- be out of memory is none.
+  -- The fault is that of the first given register that its copy cannot have, else that of the first copy without one.
+  -- To be out of memory is none.
   abbrev pub IsRegisterFault : RegisterFault → Type 0
   IsRegisterFault (Given n cause) = IsBad n cause
   IsRegisterFault (Full unit port node) = IsFull (port_of unit port) node

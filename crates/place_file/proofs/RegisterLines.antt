@@ -1,5 +1,6 @@
 -- A line says one register of one copy, or is wrong in one way, and not both.
-use Rattle.std.proofs.Common.{◌≡◌, ◌∙◌, inl, inr, refl, sym, ap, arith, ℕ, zero, suc, ◌+◌, ◌<◌, ◌≤◌, ◌^◌, List, [], codes}
+use Rattle.std.proofs.Common.{◌≡◌, ◌∙◌, inl, inr, refl, sym, ap, arith, ℕ, zero, suc, ◌+◌, ◌<◌, ◌≤◌, ◌^◌, List, []}
+use Rattle.std.proofs.Common.{codes}
 use Rattle.std.proofs.Common.{drop, drop-drop}
 use Rattle.std.specs.Prelude.{slice_index_or}
 use Rattle.std.proofs.lemmas.List.{get_or-drop}
@@ -298,8 +299,10 @@ module _ (d : Datapath) (said : RegisterSaid) where
       let node = one_number (2 ^ 32) (2 ^ 32) said.node g.node h.node x.node y.node in
       let copy = one_number (2 ^ 8) (2 ^ 8) said.copy g.copy h.copy x.copy y.copy in
       ap (λ (n : ℕ). record { node = n; port = g.port; copy = g.copy; register = g.register }) node
-      ∙ ap (λ (n : ℕ). record { node = h.node; port = port_of n g.port.port; copy = g.copy; register = g.register }) unit
-      ∙ ap (λ (n : ℕ). record { node = h.node; port = port_of h.port.unit n; copy = g.copy; register = g.register }) port
+      ∙ ap (λ (n : ℕ). record { node = h.node; port = port_of n g.port.port; copy = g.copy; register = g.register })
+      unit
+      ∙ ap (λ (n : ℕ). record { node = h.node; port = port_of h.port.unit n; copy = g.copy; register = g.register })
+      port
       ∙ ap (λ (n : ℕ). record { node = h.node; port = h.port; copy = n; register = g.register }) copy
       ∙ ap (λ (n : ℕ). record { node = h.node; port = h.port; copy = h.copy; register = n }) register
 

@@ -30,10 +30,7 @@ module _ (d : Datapath) (text : List ℕ) where
     pub count : length lines ≡ length registers
     pub each : (k : ℕ)
         → k < length registers
-        → (i : ℕ)
-        × (i < n)
-        × (slice_index_or lines k 0 ≡ i + 1)
-        × GivesRegister d text i (given_at registers k)
+        → (i : ℕ) × (i < n) × (slice_index_or lines k 0 ≡ i + 1) × GivesRegister d text i (given_at registers k)
     pub all : (i : ℕ)
         → i < n
         → HasRegisterLine d text i

@@ -122,7 +122,10 @@ module _ (given : List GivenRegister) (arcs : List Arc) where
           × (allotted_at allotted t ≡ record { arc = l; copy = j; register = register })
 
 -- each copy that stands in the list before copy i of arc k has its register
-abbrev pub HaveRegistersBefore : (d : Datapath) (unroll : ℕ) → List GivenRegister → List Arc → List (List ℕ)
+abbrev pub HaveRegistersBefore : (d : Datapath) (unroll : ℕ)
+    → List GivenRegister
+    → List Arc
+    → List (List ℕ)
     → (k i : ℕ)
     → Type 0
 HaveRegistersBefore d unroll given arcs regs k i =
