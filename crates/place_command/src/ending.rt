@@ -3,8 +3,9 @@
 ghost use Rattle.std.specs.Prelude.{◌≡◌, None};
 ghost use Rattle.place_command.specs.Placed.{IsError, place_code};
 
-use place_file::GivenFault;
-use placed_plan::PlaceFault;
+use given_registers::{GivenCause, GivenRegister, RegisterFault};
+use place_file::{GivenFault, GivenRegisters, RegistersFault};
+use placed_plan::{GivenPlanFault, PlaceFault};
 use statuses::{Ending, Status};
 use thiserror::Error;
 
@@ -20,6 +21,16 @@ pub enum Refusal {
     /// A line gives no place.
     #[error("plan {0}")]
     Text(GivenFault),
+    /// A line gives no register.
+    #[error("plan {0}")]
+    Registers(RegistersFault),
+    /// The copy of this line, from 1, cannot have the register that it gives.
+    #[error("plan line {line}: {cause} {}.{} at node {}", given.port.unit, given.port.port, given.node)]
+    Register {
+        line: u32,
+        given: GivenRegister,
+        cause: GivenCause,
+    },
     /// The node of this line, from 1, cannot stand at its place.
     #[error("plan line {line}: {fault}")]
     Line { line: u32, fault: PlaceFault },
@@ -89,6 +100,51 @@ pub(crate) fn misplaced(fault: PlaceFault, lines: &[u32]) -> PlaceEnding
     match line_of(&fault, lines) {
         Some(line) => PlaceEnding::Refused(Refusal::Line { line, fault }),
         None => PlaceEnding::Refused(Refusal::Plan(fault)),
+    }
+}
+
+/// The ending where lifetimes have no registers around those that these lines give.
+fn unkept(fault: RegisterFault, lines: &[u32], given: &GivenRegisters) -> PlaceEnding
+    ensures { IsError result }
+{
+    match fault {
+        RegisterFault::Memory => PlaceEnding::from(Status::Memory),
+        RegisterFault::Full { unit, port, node } => {
+            misplaced(PlaceFault::FileFull { unit, port, node }, lines)
+        }
+        RegisterFault::Given { index, cause } => match (given.lines.get(index), given.registers.get(index)) {
+            (Some(line), Some(register)) => PlaceEnding::Refused(Refusal::Register {
+                line: *line,
+                given: *register,
+                cause,
+            }),
+            _ => PlaceEnding::Refused(Refusal::TooLong),
+        },
+    }
+}
+
+/// The ending where there is no plan with the places of these lines and these registers.
+pub(crate) fn unplanned(
+    fault: GivenPlanFault,
+    lines: &[u32],
+    given: &GivenRegisters,
+) -> PlaceEnding
+    ensures { IsError result }
+{
+    match fault {
+        GivenPlanFault::Place(fault) => misplaced(fault, lines),
+        GivenPlanFault::Registers(fault) => unkept(fault, lines, given),
+        GivenPlanFault::Memory => PlaceEnding::from(Status::Memory),
+    }
+}
+
+/// The ending where a text gives no registers.
+pub(crate) fn registerless(fault: RegistersFault) -> PlaceEnding
+    ensures { IsError result }
+{
+    match fault {
+        RegistersFault::Memory => PlaceEnding::from(Status::Memory),
+        fault => PlaceEnding::Refused(Refusal::Registers(fault)),
     }
 }
 

@@ -16,14 +16,15 @@ ghost use Rattle.place_command.specs.Placed.{ArePlaced, HasThePlan, IsDone, IsEr
 ghost use Rattle.place_command.specs.Private.Placing.{AreGivenIn, IsInputPlacing, IsFeasibleMicrocode};
 ghost use Rattle.statuses.specs.declared.status.Status.TheVariants.{Memory};
 
-use crate::ending::{PlaceEnding, Refusal, misplaced, ungiven};
+use crate::ending::{PlaceEnding, Refusal, registerless, ungiven, unplanned};
 use datapath::Datapath;
 use desk_core::{Desk, write_whole};
+use given_registers::GivenRegister;
 use lists::{Bytes, List};
 use micro_file::encode;
 use microcode_asm::assemble_feasible;
-use place_file::{Given, places_in};
-use placed_plan::{Place, plan_at};
+use place_file::{Given, GivenRegisters, places_in, registers_in};
+use placed_plan::{Place, plan_given};
 use plan_commands::{Inputs, datapath_in, read_inputs, source_in};
 use plan_core::Plan;
 use signal_graph::Graph;
@@ -37,6 +38,7 @@ pub(crate) struct Placed {
     pub plan: Plan,
     pub path: Datapath,
     pub places: List<Place>,
+    pub registers: List<GivenRegister>,
 }
 
 /// The places that the input gives.
@@ -55,7 +57,27 @@ fn given_in(alloc: Global, text: &Input, path: &Datapath) -> Result<Given, Place
     }
 }
 
-/// The plan of a graph with the places that the input gives.
+/// The registers that the input gives.
+fn registers_given_in(
+    alloc: Global,
+    text: &Input,
+    path: &Datapath,
+) -> Result<GivenRegisters, PlaceEnding>
+    requires path { IsDatapath path.now }
+    requires short { IsShort text.now }
+    ensures gives { IfOk result (λ given. AreRegistersIn text.now path.now given.registers) }
+    ensures err { IfErr result IsError }
+{
+    match text {
+        Input::Whole(bytes) => match registers_in(alloc, bytes.as_slice(), path) {
+            Ok(given) => Ok(given),
+            Err(fault) => Err(registerless(fault)),
+        },
+        Input::TooLong => Err(PlaceEnding::Refused(Refusal::TooLong)),
+    }
+}
+
+/// The plan of a graph with the places and the registers that the input gives.
 fn placed_over(
     alloc: Global,
     graph: Graph,
@@ -72,13 +94,16 @@ fn placed_over(
     ensures err { IfErr result IsError }
 {
     let given = given_in(alloc, text, &path)?;
-    match plan_at(alloc, graph, given.places.as_slice(), &path) {
+    let kept = registers_given_in(alloc, text, &path)?;
+    let places = given.places.as_slice();
+    match plan_given(alloc, graph, places, kept.registers.as_slice(), &path) {
         Ok(plan) => Ok(Placed {
             plan,
             path,
             places: given.places,
+            registers: kept.registers,
         }),
-        Err(fault) => Err(misplaced(fault, given.lines.as_slice())),
+        Err(fault) => Err(unplanned(fault, given.lines.as_slice(), &kept)),
     }
 }
 
