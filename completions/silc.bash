@@ -13,7 +13,7 @@ stages *.sil *.toml -
 pipe *.sil *.toml - * *
 frame *.sil *.toml - - - *
 net *.toml * *
-explain run|eval|compile|sim|schedule|list|demo|stages|pipe|frame|net
+explain run|eval|compile|sim|schedule|list|demo|stages|pipe|frame|net|place
 check *.sil
 draw datapath *.toml *.sil
 draw schedule * *.toml *.sil
@@ -68,6 +68,7 @@ synthesize *.toml
 board - *.mic /
 fuzz sources|datapaths|microcode|samples|damaged|all - -
 place *.sil *.toml * *
+place pipe *.sil *.toml * - * *
 same *.sil *.mic
 show tokens|tree|text|names|elements|types|graph *.sil
 show origins *.sil *.toml

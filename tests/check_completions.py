@@ -39,6 +39,8 @@ CASES = [
     (["frame", "fir.sil", "small.toml", "4", "0", ""], set()),
     (["frame", "fir.sil", "small.toml", "4", "0", "-", "f"], {"fir.sil", "fir.mic", "front.csv", "folder"}),
     (["explain", "fr"], {"frame"}),
+    (["explain", "pla"], {"place"}),
+    (["explain", "place", "fir.sil", "s"], {"small.toml"}),
     (["check", "f"], {"fir.sil", "folder"}),
     (["check", "--"], {"--all", "--library", "--warn"}),
     (["draw", "d"], {"datapath", "docs"}),

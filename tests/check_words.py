@@ -114,10 +114,23 @@ def placed_faults(room: Room) -> Iterator[str]:
         done = room.run("place", "a.sil", "dp", "plan", out.name)
         if (done.returncode, out.read_text()) != (status, left):
             yield f"place that ends with {status}: {done.returncode} {out.read_text()!r} {done.stderr!r}"
+    # Rows stay that came before a fault of the samples, and the number of stages is no file.
+    for status, left in ((0, "made"), (11, "made"), (16, "as it was")):
+        out.write_text("as it was")
+        program.write_text('#!/bin/sh\n[ "$1 $2 $3 $4 $5 $6" = "pipe a.sil dp plan 2 rows" ] && [ "$7" != out.mic ] &&'
+                           f' printf made >"$7"\nexit {status}\n')
+        done = room.run("place", "pipe", "a.sil", "dp", "plan", "2", "rows", out.name)
+        if (done.returncode, out.read_text()) != (status, left):
+            yield f"place pipe that ends with {status}: {done.returncode} {out.read_text()!r} {done.stderr!r}"
     (room.top / "link").symlink_to("out.mic")
-    done = room.run("place", "a.sil", "dp", "out.mic", "link")
-    if done.returncode != 2 or "by another name" not in done.stderr:
-        yield f"place into its plan by another name: {done.returncode} {done.stderr!r}"
+    for words in (("a.sil", "dp", "out.mic"), ("pipe", "a.sil", "dp", "out.mic", "2", "rows"),
+                  ("pipe", "a.sil", "dp", "plan", "2", "out.mic")):
+        done = room.run("place", *words, "link")
+        if done.returncode != 2 or "by another name" not in done.stderr:
+            yield f"place {words} into an input by another name: {done.returncode} {done.stderr!r}"
+    (room.top / "2").symlink_to("out.mic")
+    if room.run("place", "pipe", "a.sil", "dp", "plan", "2", "rows", out.name).returncode != status:
+        yield "place pipe takes the number of stages for a file"
     for left in room.top.glob(".silc.*"):
         yield f"place leaves {left.name}"
 

@@ -2,16 +2,18 @@
 """Whether each plan that the search finds for random programs on random processors passes the checker of plans, and
 `silc_place` takes it.
 
-usage: tests/plan/check_random.py [--silc PROGRAM] [--seconds N] [--placed] [COUNT [SEED]]
+usage: tests/plan/check_random.py [--silc PROGRAM] [--seconds N] [--placed | --piped] [COUNT [SEED]]
 
 Of COUNT programs, 200 where nothing is said, each is searched for N seconds, 0.15 where nothing is said, over one, two
 or four stages, by turns with the files and memories of its processor and with such as are large enough. A program that
 has no place by the rules in any period is left out, and another is made. Looked at is that each plan passes, with its
 buses and registers and without; that no period of the rules is lost; and that no bound and no solver refutes a period
 in which the rules have a plan. Of a plan over one stage `silc_place` makes microcode, which puts the rows of `silc
-eval` on `silc sim`; of the plan of the rules it makes that of `silc compile`. With --placed all are searched over one
-stage. It runs the built programs, or those that `SILC` and `SILC_PLACE` name. Without `silc_place` this is left out,
-and without a solver the heuristics are tried alone; then it ends with 77.
+eval` on `silc sim`; of the plan of the rules it makes that of `silc compile`. Plans over more run on `silc_place pipe`,
+with the rows of `silc eval`, late; those of the plan of the rules are what `silc pipe` writes. With --placed all are
+searched over one stage, with --piped over two to four. It runs the built programs, or those that `SILC` and
+`SILC_PLACE` name. Without `silc_place` this is left out, and without a solver the heuristics are tried alone; then it
+ends with 77.
 """
 from __future__ import annotations
 
@@ -70,9 +72,9 @@ class Tried:
             return False
         try:
             start, best = self.search(number, ruled, is_roomy)
-            if self.place and stages == 1:
+            if self.place:
                 rows = samples.text_of(rng, samples.rows_of(rng, source.inputs), True)
-                self.run(number, ruled, start, best, is_roomy, rows)
+                (self.run if stages == 1 else self.pipe)(number, ruled, start, best, is_roomy, rows)
         except (NoPlan, NoRows, ValueError) as why:
             self.fault(number, str(why))
         return True
@@ -123,6 +125,35 @@ class Tried:
                 self.fault(number, "other rows")
             self.seen["placed and run"] += 1
 
+    def pipe(self, number: int, ruled: Ruled, start: Places | None, best: Places | None, is_roomy: bool,
+             rows: bytes) -> None:
+        """`silc_place pipe` runs both plans. The rules' plan has the rows of `silc pipe`, and the best one those of the
+        source's solution, late."""
+        if start:
+            datapath = text_of(self.hardware(ruled, start, is_roomy)).encode()
+            answer = ran(self.silc, ["pipe", ruled.source, datapath, str(ruled.stages), STDIN, STDOUT], rows)
+            if answer.status or self.piped(ruled, start, is_roomy, rows) != answer.out:
+                self.fault(number, f"the rules' plan has other rows than pipe, which ends with {answer.status}")
+        if best:
+            solved = ran(self.silc, ["eval", ruled.source, STDIN, STDOUT], rows)
+            lines = solved.out.splitlines(keepends=True)
+            late = min(ruled.stages - 1, len(lines))
+            zero = b",".join([b"0"] * (lines[0].count(b",") + 1)) + b"\n" if lines else b""
+            if solved.status or self.piped(ruled, best, is_roomy, rows) != \
+                    late * zero + b"".join(lines[:len(lines) - late]):
+                self.fault(number, "other rows over its stages")
+            self.seen["placed and piped"] += 1
+
+    def piped(self, ruled: Ruled, places: Places, is_roomy: bool, rows: bytes) -> bytes:
+        """The rows that `silc_place pipe` writes with the units and cycles."""
+        assert self.place
+        datapath = text_of(self.hardware(ruled, places, is_roomy)).encode()
+        answer = ran(self.place, ["pipe", ruled.source, datapath, places.text().encode(), str(ruled.stages), STDIN,
+                                  STDOUT], rows)
+        if answer.status:
+            raise NoRows(f"silc_place pipe: {answer.said}")
+        return answer.out
+
     def placed(self, ruled: Ruled, places: Places, is_roomy: bool) -> bytes:
         """The microcode that `silc_place` makes of the units and cycles."""
         assert self.place
@@ -169,8 +200,8 @@ def main(words: list[str]) -> int:
     while words[:1] in (["--silc"], ["--seconds"]) and len(words) > 1:
         silc, seconds = (words[1], seconds) if words[0] == "--silc" else (silc, float(words[1]))
         words = words[2:]
-    if words[:1] == ["--placed"]:
-        stages, words = (1,), words[1:]
+    if words[:1] in (["--placed"], ["--piped"]):
+        stages, words = (1,) if words[0] == "--placed" else (2, 3, 4), words[1:]
     if len(words) > 2 or not all(word.isdigit() for word in words):
         print(__doc__, file=sys.stderr)
         return 2

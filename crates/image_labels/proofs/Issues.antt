@@ -1,7 +1,7 @@
 -- What an issue comes to is what its label says, where the labels of its cycle are right.
 use Rattle.std.proofs.Common.{◌≡◌, ℕ, ◌+◌, ◌-◌, ◌*◌, ◌/◌, ◌<◌, ◌≤◌, ⊎_elim, inl, inr, refl, sym, ap, ap₂, ◌∙◌, arith}
 use Rattle.std.proofs.Common.{length, ℤ, pos, negsuc, Option, Some, None, subst, slice_get, List}
-use Rattle.std.specs.Prelude.{IsSomeAnd, ◌-ℤ◌}
+use Rattle.std.specs.Prelude.{IsSomeAnd, ◌⊎◌, ◌-ℤ◌}
 use Rattle.std.specs.Int.{int_rem_euclid}
 use Rattle.std.proofs.lemmas.Int.{ints}
 use Rattle.std.proofs.lemmas.Option.{get_or_from_slice_get, slice_get_within}
@@ -33,14 +33,16 @@ use Rattle.image_labels.specs.declared.label.Certificate.{Certificate}
 use Rattle.image_labels.specs.declared.label.Label.{Label}
 use Rattle.image_labels.specs.declared.label.Label.TheVariants.{Unknown, Signal, Address, Constant}
 use Rattle.image_labels.specs.Labels.{turn_of, word_in, issue_label, operand_label, cell_label}
-use Rattle.image_labels.specs.Rules.{IsCommutative, Tells, IsNarrow}
+use Rattle.image_labels.specs.Rules.{IsCommutative, representative, Tells, IsNarrow, passed}
 use Rattle.image_labels.specs.Labelled.{sample_at, ReadsOperand, ReadsInOrder, ReadsExchanged, IsFit, IsLabelOf}
-use Rattle.image_labels.specs.Labelled.{IsOfNode}
+use Rattle.image_labels.specs.Labelled.{IsOfNode, IsFolded, IsDone}
 use Rattle.image_labels.specs.Labelled.{IsLoad, IsKept, IsMoved, IsConst, IsAddress}
 use Rattle.image_labels.specs.Run.{Run, rows_of, Says, IsRight}
 use Rattle.image_labels.proofs.Frames.{later_cell}
-use Rattle.image_labels.proofs.NodeWords.{word_is as node_word_is, node_sound, edge_sound, is_of_graph, sample_ago}
-use Rattle.image_labels.proofs.Rules.{meaning_exchanged, kept, word_bits, constant_at}
+use Rattle.image_labels.proofs.NodeWords.{word_is as node_word_is, node_sound, edge_sound, edge_there}
+use Rattle.image_labels.proofs.NodeWords.{is_of_graph, sample_ago}
+use Rattle.image_labels.proofs.CopyWords.{representative_word}
+use Rattle.image_labels.proofs.Rules.{meaning_exchanged, kept, word_bits, constant_at, fold_word}
 use Rattle.image_labels.proofs.Turns.{fit_of, sample_is, sample_below, row_is}
 
 pos_of : (n : ℕ) (z : ℤ) → IsBelow n z → z ≡ pos (to_nat z)
@@ -161,17 +163,36 @@ module _ {g : Graph} {image : Image} {certificate : Certificate} (run : Run g im
     late_sample : (s : ℕ) → past ≤ s → past ≤ k * image.unroll + s
     late_sample s le = omega (arith, le)
 
+    abbrev nodes : List ℕ
+    nodes = certificate.representatives
+
+    same_word : (v s : ℕ)
+        → v < length g.nodes
+        → 0 < s
+        → s ≤ sample_at image c
+        → run.words v (pos (k * image.unroll + s) -ℤ pos past)
+        ≡ run.words (representative nodes v) (pos (k * image.unroll + s) -ℤ pos past)
+    same_word v s in-v some le =
+        representative_word g run.stream run.words run.sound run.solves nodes run.fits.copies v (k * image.unroll + s)
+        in-v (omega (arith, some)) (in_samples s le)
+
     -- a label that tells a word says it
     tells_says : (label : Label) (value : ℤ) (v s : ℕ)
-        → Tells g label v s
+        → Tells g nodes label v s
+        → v < length g.nodes
+        → 0 < s
         → s ≤ sample_at image c
         → Says run k label value
         → value ≡ run.words v (pos (k * image.unroll + s) -ℤ pos past)
-    tells_says Unknown value v s tells le says = absurd tells
-    tells_says (Signal w r) value v s tells le says =
-        says ∙ ap₂ (λ (w r : ℕ). run.words w (pos (k * image.unroll + r) -ℤ pos past)) tells.0 tells.1
-    tells_says (Address cells x) value v s tells le says = absurd tells
-    tells_says (Constant word) value v s tells le says =
+    tells_says Unknown value v s tells in-v some le says = absurd tells
+    tells_says (Signal w r) value v s tells in-v some le says =
+        says
+        ∙ ap (λ r. run.words w (pos (k * image.unroll + r) -ℤ pos past)) tells.2
+        ∙ same_word w s tells.0 some le
+        ∙ ap (λ u. run.words u (pos (k * image.unroll + s) -ℤ pos past)) tells.1
+        ∙ sym (same_word v s in-v some le)
+    tells_says (Address cells x) value v s tells in-v some le says = absurd tells
+    tells_says (Constant word) value v s tells in-v some le says =
         says
         ∙ sym (constant_at g run.stream run.words run.sound run.solves v word (k * image.unroll + s) tells.0
         (late_sample s tells.1) (in_samples s le))
@@ -195,32 +216,45 @@ module _ {g : Graph} {image : Image} {certificate : Certificate} (run : Run g im
     reads_word v port q in-v in-q in-port reads =
         tells_says (operand_label image certificate c issue port) (operand micro log t issue port)
         (edge_of (node_of g v) q).node (sample_at image c - (edge_of (node_of g v) q).delay) reads
+        (edge_there g run.stream run.words run.sound run.solves v q in-v in-q)
+        (omega (arith, (edge_sound g run.stream run.words run.sound run.solves v q in-v in-q).delay))
         (omega arith) (operand_says port in-port)
         ∙ ap (run.words (edge_of (node_of g v) q).node)
         (sample_ago (k * image.unroll) (c / image.period) (edge_of (node_of g v) q).delay
         (edge_sound g run.stream run.words run.sound run.solves v q in-v in-q).delay)
 
-    -- what the issue's operands come to is what the node's do
-    reads_same : (v sample : ℕ)
-        → IsOfNode g image certificate c issue v sample
+    -- what the issue's operands come to is what the node's do that it reads
+    reads_same : (v : ℕ)
+        → v < length g.nodes
+        → issue.op ≡ (node_of g v).op
+        → ReadsInOrder g image certificate (sample_at image c) c issue (node_of g v)
+        ⊎ ReadsExchanged g image certificate (sample_at image c) c issue (node_of g v)
         → meaning_by (node_of g v).op (node_of g v) run.stream n (operand micro log t issue) ≡ run.words v (pos n)
-    reads_same v sample of =
+    reads_same v there same reads =
         ⊎_elim
         (λ (order : ReadsInOrder g image certificate (sample_at image c) c issue (node_of g v)).
-        node_word_is g run.stream run.words run.sound run.solves v n (operand micro log t issue) of.there in-n
-        (λ q in-q. let in-issue : q < operands issue.op = subst (λ o. q < operands o) (sym of.op) in-q in
-        reads_word v q q of.there in-q in-issue (order q in-issue)))
+        node_word_is g run.stream run.words run.sound run.solves v n (operand micro log t issue) there in-n
+        (λ q in-q. let in-issue : q < operands issue.op = subst (λ o. q < operands o) (sym same) in-q in
+        reads_word v q q there in-q in-issue (order q in-issue)))
         (λ (exchanged : ReadsExchanged g image certificate (sample_at image c) c issue (node_of g v)).
         let two : (q : ℕ) → q < 2 → q < operands issue.op = λ q less. two_operands issue.op exchanged.commutes q less in
         let node_two : (q : ℕ) → q < 2 → q < operands (node_of g v).op =
-        λ q less. subst (λ o. q < operands o) of.op (two q less) in
+        λ q less. subst (λ o. q < operands o) same (two q less) in
         meaning_exchanged (node_of g v).op (node_of g v) run.stream n (operand micro log t issue) (operand_word v)
-        (subst IsCommutative of.op exchanged.commutes)
-        (reads_word v 0 1 of.there (node_two 1 (omega arith)) (two 0 (omega arith)) exchanged.first)
-        (reads_word v 1 0 of.there (node_two 0 (omega arith)) (two 1 (omega arith)) exchanged.second)
-        ∙ node_word_is g run.stream run.words run.sound run.solves v n (operand_word v) of.there in-n
+        (subst IsCommutative same exchanged.commutes)
+        (reads_word v 0 1 there (node_two 1 (omega arith)) (two 0 (omega arith)) exchanged.first)
+        (reads_word v 1 0 there (node_two 0 (omega arith)) (two 1 (omega arith)) exchanged.second)
+        ∙ node_word_is g run.stream run.words run.sound run.solves v n (operand_word v) there in-n
         (λ q in-q. refl))
-        of.operands
+        reads
+
+    -- the word of a node now, by the number of its sample
+    word_now : (v sample : ℕ)
+        → sample ≡ sample_at image c
+        → run.words v (pos n) ≡ run.words v (pos (k * image.unroll + sample) -ℤ pos past)
+    word_now v sample now =
+        ap (run.words v) (sym (ap (λ s. pos (k * image.unroll + s) -ℤ pos past) now
+        ∙ now_too (k * image.unroll) (c / image.period)))
 
     node_says : (v sample : ℕ)
         → IsOfNode g image certificate c issue v sample
@@ -230,9 +264,28 @@ module _ {g : Graph} {image : Image} {certificate : Certificate} (run : Run g im
         value-meaning issue.op micro z run.stream log t n issue (node_of g v) (graph_op v sample of)
         (λ input. row_is run k c in-run) of.arg of.fmt
         ∙ ap (λ o. meaning_by o (node_of g v) run.stream n (operand micro log t issue)) of.op
-        ∙ reads_same v sample of
-        ∙ ap (run.words v) (sym (ap (λ s. pos (k * image.unroll + s) -ℤ pos past) of.now
-        ∙ now_too (k * image.unroll) (c / image.period)))
+        ∙ reads_same v of.there of.op of.operands
+        ∙ word_now v sample of.now
+
+    folded_says : (v sample : ℕ)
+        → IsFolded g image certificate c issue v sample
+        → Says run k (Signal v sample) (value micro z log t issue)
+    unfolding value
+    folded_says v sample of =
+        let u : ℕ = passed g v in
+        let same : issue.op ≡ (node_of g u).op = of.op ∙ sym of.fold.product in
+        ap (λ o. value_by o micro z log t issue) of.op
+        ∙ fold_word g run.stream run.words run.sound run.solves v issue.fmt n (operand micro log t issue) of.fold in-n
+        (sym (ap (λ o. meaning_by o (node_of g u) run.stream n (operand micro log t issue)) of.fold.product)
+        ∙ reads_same u of.fold.from same of.operands)
+        ∙ word_now v sample of.now
+
+    done_says : (v sample : ℕ)
+        → IsDone g image certificate c issue v sample
+        → Says run k (Signal v sample) (value micro z log t issue)
+    done_says v sample of =
+        ⊎_elim (λ (own : IsOfNode g image certificate c issue v sample). node_says v sample own)
+        (λ (folded : IsFolded g image certificate c issue v sample). folded_says v sample folded) of.way
 
     fit : IsFit g image certificate c issue
     fit = fit_of run c issue below among
@@ -316,7 +369,7 @@ module _ {g : Graph} {image : Image} {certificate : Certificate} (run : Run g im
         → IsLabelOf g image certificate c issue label
         → Says run k label (value micro z log t issue)
     label_says Unknown of = tt {0}
-    label_says (Signal v sample) (inl of) = node_says v sample of
+    label_says (Signal v sample) (inl of) = done_says v sample of
     label_says (Signal v sample) (inr of) = moved_says (Signal v sample) of
     label_says (Address cells x) of = addr_says cells x of
     label_says (Constant word) (inl of) = const_says word of

@@ -1,6 +1,8 @@
 pub mod Frames
 pub mod NodeWords
+pub mod Joins
 pub mod Rules
+pub mod CopyWords
 pub mod Turns
 pub mod Entries
 pub mod Issues
@@ -10,4 +12,5 @@ pub mod Clear
 pub mod Latches
 pub mod Runs
 pub mod Scans
+pub mod KeptCells
 pub mod Whole

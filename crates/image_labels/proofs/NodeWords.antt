@@ -1,8 +1,9 @@
 -- The word of a node in a sample, by the words of its operands.
 use Rattle.std.proofs.Common.{◌≡◌, ℕ, ◌+◌, ◌-◌, ◌<◌, ◌≤◌, refl, sym, ◌∙◌, arith, length, pos, negsuc, ℤ}
-use Rattle.std.specs.Prelude.{◌-ℤ◌}
+use Rattle.std.specs.Prelude.{◌-ℤ◌, ◌≢◌, slice_get, IsSomeAnd, Option, Some, None}
 use Rattle.std.proofs.lemmas.Int.{ints}
 use Rattle.std.proofs.lemmas.List.{get_or-map}
+use Rattle.std.proofs.lemmas.Option.{slice_get_within}
 use Rattle.lists.specs.Rows.{Rows}
 use Rattle.fix_word.specs.declared.operation.Op.{Op}
 use Rattle.fix_word.specs.declared.operation.Op.TheVariants as op
@@ -49,6 +50,21 @@ module _ (g : Graph) (stream : Rows) (words : Words) (sound : IsGraph g) (solves
       → IsEdge g (edge_of (node_of g v) q)
   edge_sound v q in-v in-q =
       (node_sound v in-v).edges q no_edge (omega (arith, in-q, (node_sound v in-v).edge_count))
+
+  -- the node that an operand is of
+  pub edge_there : (v q : ℕ)
+      → v < length g.nodes
+      → q < operands (node_of g v).op
+      → (edge_of (node_of g v) q).node < length g.nodes
+  edge_there v q in-v in-q =
+      there_by (slice_get g.nodes (edge_of (node_of g v) q).node) refl (edge_sound v q in-v in-q).node
+    where
+      there_by : (o : Option Node)
+          → slice_get g.nodes (edge_of (node_of g v) q).node ≡ o
+          → IsSomeAnd o (λ (node : Node). node.op ≢ op.Output)
+          → (edge_of (node_of g v) q).node < length g.nodes
+      there_by None e h = absurd h
+      there_by (Some node) e h = slice_get_within g.nodes (edge_of (node_of g v) q).node node e
 
   operand_is : (v n q : ℕ)
       → v < length g.nodes

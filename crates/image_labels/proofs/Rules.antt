@@ -1,7 +1,7 @@
 -- The rules of labels hold in each solution of a graph.
 use Rattle.std.proofs.Common.{◌≡◌, ℕ, ◌+◌, ◌-◌, ◌<◌, ◌≤◌, ◌==◌, ⊎_elim, refl, sym, ap, ◌∙◌, arith, subst, length, List}
 use Rattle.std.proofs.Common.{ℤ, pos, negsuc, Bool, true, false, not, ◌&&◌, ◌||◌, Option, Some, None, find}
-use Rattle.std.specs.Prelude.{◌-ℤ◌}
+use Rattle.std.specs.Prelude.{◌-ℤ◌, ◌*ℤ◌}
 use Rattle.std.specs.Bool.{Decides}
 use Rattle.std.specs.Ordering.{int_eq}
 use Rattle.std.proofs.Math.IntN.{+ℤ_comm, *ℤ_comm}
@@ -31,8 +31,10 @@ use Rattle.signal_graph.proofs.Fits.{zero_word}
 use Rattle.signal_graph.proofs.Members.{found_member}
 use Rattle.plan_soundness.specs.Samples.{past}
 use Rattle.plan_soundness.specs.Private.Solution.{meaning_by}
-use Rattle.image_labels.specs.Rules.{IsCommutative, IsConstant, GivesBits, HasBits}
-use Rattle.image_labels.proofs.NodeWords.{node_sound, sample_before}
+use Rattle.plan_core.specs.Operands.{edge_of}
+use Rattle.image_labels.specs.Rules.{IsCommutative, IsConstant, GivesBits, HasBits, passed, IsFold}
+use Rattle.image_labels.proofs.Joins.{joined}
+use Rattle.image_labels.proofs.NodeWords.{node_sound, sample_before, word_is}
 
 -- operands exchanged
 
@@ -206,3 +208,40 @@ module _ (g : Graph) (stream : Rows) (words : Words) (sound : IsGraph g) (solves
       → words v (pos s -ℤ pos past) ≡ word
   constant_at v word s is late in-run =
       ap (words v) (sym (later_sample s late)) ∙ constant_word v word (s - past) is (omega (arith, late, in-run))
+
+  format_of : (v : ℕ) (o : Op)
+      → v < length g.nodes
+      → (node_of g v).op ≡ o
+      → IsFormatWhere (is_quantised (class_of o)) (node_of g v).fmt
+  format_of v o in-v is =
+      subst (λ (o : Op). IsFormatWhere (is_quantised (class_of o)) (node_of g v).fmt) is
+      (node_sound g stream words sound solves v in-v).fmt
+
+  no_delay : (n d : ℕ) → d ≡ 0 → pos n -ℤ pos d ≡ pos n
+  no_delay n d none = omega (arith, ints, none)
+
+  -- what a pass makes of the word that a node gives in the same sample
+  passed_word : (v n : ℕ) (fmt : Format)
+      → IsFold g v fmt
+      → n < length stream
+      → form_of (words (passed g v) (pos n)) (node_of g v).fmt ≡ words v (pos n)
+  passed_word v n fmt is in-n =
+      let read : ℕ → ℤ = λ (q : ℕ).
+      words (edge_of (node_of g v) q).node (pos n -ℤ pos (edge_of (node_of g v) q).delay) in
+      ap (λ (m : ℤ). form_of (words (passed g v) m) (node_of g v).fmt)
+      (sym (no_delay n (edge_of (node_of g v) 0).delay is.delay))
+      ∙ sym (ap (λ (o : Op). meaning_by o (node_of g v) stream n read) is.pass)
+      ∙ word_is g stream words sound solves v n read is.there in-n (λ q in-q. refl)
+
+  -- a product in the joined format gives the word of the pass at once
+  pub fold_word : (v : ℕ) (fmt : Format) (n : ℕ) (f : ℕ → ℤ)
+      → IsFold g v fmt
+      → n < length stream
+      → meaning_by op.Mul (node_of g (passed g v)) stream n f ≡ words (passed g v) (pos n)
+      → apply_of op.Mul fmt (f 0) (f 1) (f 2) ≡ words v (pos n)
+  fold_word v fmt n f is in-n product =
+      sym (joined (f 0 *ℤ f 1) (node_of g (passed g v)).fmt (node_of g v).fmt fmt
+      (format_of (passed g v) op.Mul is.from is.product).width.narrowest
+      (format_of v op.Pass is.there is.pass).width.narrowest is.joined)
+      ∙ ap (λ (m : ℤ). form_of m (node_of g v).fmt) product
+      ∙ passed_word v n fmt is in-n

@@ -7,6 +7,7 @@ use Rattle.micro_image.specs.Fields.{microprogram_of, unit_of, no_unit}
 use Rattle.micro_image.specs.Valid.{IsValid, IsUnit}
 use Rattle.image_labels.specs.declared.label.Certificate.{Certificate}
 use Rattle.image_labels.specs.Labels.{turn_of}
+use Rattle.image_labels.specs.Rules.{AreCopies}
 use Rattle.image_labels.specs.Labelled.{IsLabelled, IsRegisterStart, IsCellStart}
 use Rattle.image_labels.specs.Private.Checked.{AreCyclesFit, AreRegistersStart, AreCellsStart, AreRowsPut}
 
@@ -27,13 +28,15 @@ module _ (g : Graph) (image : Image) (certificate : Certificate) (valid : IsVali
   unit_valid u below = valid.units u no_unit below
 
   pub labelled : image.outs ≡ g.outs
+      → AreCopies g certificate.representatives (length g.nodes)
       → AreCyclesFit g image certificate turn
       → AreRegistersStart g image certificate turn 32
       → AreCellsStart g image certificate turn 32
       → AreRowsPut image image.unroll
       → IsLabelled g image certificate
-  labelled outs cycles registers cells rows = record {
+  labelled outs copies cycles registers cells rows = record {
     outs = outs;
+    copies = copies;
     cycles = λ c below. cycles c (omega (arith, below, same));
     registers = λ u p r in-u in-p in-r.
         let unit : IsUnit image.units (unit_of (microprogram_of image) u) = unit_valid u in-u in

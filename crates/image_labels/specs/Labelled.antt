@@ -25,7 +25,7 @@ use Rattle.plan_soundness.specs.Private.Cells.{cell_in}
 use Rattle.image_labels.specs.declared.label.Label.{Label}
 use Rattle.image_labels.specs.declared.label.Label.TheVariants.{Unknown, Signal, Address, Constant}
 use Rattle.image_labels.specs.declared.label.Certificate.{Certificate}
-use Rattle.image_labels.specs.Rules.{IsCommutative, Tells, IsNarrow}
+use Rattle.image_labels.specs.Rules.{IsCommutative, AreCopies, Tells, IsNarrow, passed, IsFold}
 use Rattle.image_labels.specs.Labels.{turn_of, word_in, delay_on, issued_in, ended_in, issue_label, register_label}
 use Rattle.image_labels.specs.Labels.{operand_label, cell_label}
 
@@ -106,7 +106,8 @@ module _ (g : Graph) (image : Image) (certificate : Certificate) where
   -- in this sample the issue of cycle c reads operand q of the node at this port
   abbrev pub ReadsOperand : (sample c : ℕ) → Issue → Node → (port q : ℕ) → Type 0
   ReadsOperand sample c issue node port q =
-      Tells g (operand_label image certificate c issue port) (edge_of node q).node (sample - (edge_of node q).delay)
+      Tells g certificate.representatives (operand_label image certificate c issue port) (edge_of node q).node
+      (sample - (edge_of node q).delay)
 
   -- the issue of cycle c reads the operands of the node, each at its port
   abbrev pub ReadsInOrder : (sample c : ℕ) → Issue → Node → Type 0
@@ -129,6 +130,18 @@ module _ (g : Graph) (image : Image) (certificate : Certificate) where
     pub operands : ReadsInOrder (sample_at image c) c issue (node_of g v)
         ⊎ ReadsExchanged (sample_at image c) c issue (node_of g v)
 
+  -- the issue of cycle c is a product that gives at once what node v makes of a product in its sample
+  pub record IsFolded (c : ℕ) (issue : Issue) (v sample : ℕ) : Type 0 where
+    pub op : issue.op ≡ op.Mul
+    pub fold : IsFold g v issue.fmt
+    pub now : sample ≡ sample_at image c
+    pub operands : ReadsInOrder (sample_at image c) c issue (node_of g (passed g v))
+        ⊎ ReadsExchanged (sample_at image c) c issue (node_of g (passed g v))
+
+  -- the issue of cycle c does what node v does in its sample, or gives its word at once
+  pub record IsDone (c : ℕ) (issue : Issue) (v sample : ℕ) : Type 0 where
+    pub way : IsOfNode c issue v sample ⊎ IsFolded c issue v sample
+
   -- the issue of cycle c is a pass that keeps all bits of a word with this label
   pub record IsKept (c : ℕ) (issue : Issue) (label : Label) : Type 0 where
     pub op : issue.op ≡ op.Pass
@@ -144,7 +157,7 @@ module _ (g : Graph) (image : Image) (certificate : Certificate) where
   -- the label is one of the issue of cycle c
   abbrev pub IsLabelOf : (c : ℕ) → Issue → Label → Type 0
   IsLabelOf c issue Unknown = Unit {0}
-  IsLabelOf c issue (Signal v sample) = IsOfNode c issue v sample ⊎ IsMoved c issue (Signal v sample)
+  IsLabelOf c issue (Signal v sample) = IsDone c issue v sample ⊎ IsMoved c issue (Signal v sample)
   IsLabelOf c issue (Address cells x) = IsAddress image c issue cells x
   IsLabelOf c issue (Constant word) = IsConst issue word ⊎ IsMoved c issue (Constant word)
 
@@ -190,6 +203,7 @@ module _ (g : Graph) (image : Image) (certificate : Certificate) where
   -- the labels of the certificate fit
   pub record IsLabelled : Type 0 where
     pub outs : image.outs ≡ g.outs
+    pub copies : AreCopies g certificate.representatives (length g.nodes)
     pub cycles : (c : ℕ) → c < turn_of image → IsFitCycle c
     pub registers : (u p r : ℕ)
         → u < length image.units

@@ -2,23 +2,28 @@
 ghost use Rattle.std.specs.Prelude.{◌≡◌, ◌<◌, ◌≤◌, ◌+◌, ◌*◌, ◌⊎◌, ◌↔◌, length, IsTrue};
 ghost use Rattle.signal_graph.specs.GraphRules.{IsGraph, first_output as first_output_in};
 ghost use Rattle.signal_graph.specs.GraphSolves.{node_of};
-ghost use Rattle.fix_word.specs.declared.operation.Op.TheVariants.{Output};
+ghost use Rattle.fix_word.specs.declared.operation.Op.TheVariants.{Mul, Output};
 ghost use Rattle.operations.specs.Ranges.{to_nat};
 ghost use Rattle.micro_image.specs.Conflict.{IsMemory};
 ghost use Rattle.micro_image.specs.Valid.{IsValid};
 ghost use Rattle.image_labels.specs.declared.label.Label.TheVariants.{Signal};
 ghost use Rattle.image_labels.specs.Labels.{turn_of, delay_on as delay_of, issue_label as label_of_issue};
+ghost use Rattle.image_labels.specs.Rules.{passed as passed_by, IsFold};
 ghost use Rattle.image_labels.specs.Private.Checked.{IsIssuedBefore};
-ghost use Rattle.image_labels.specs.Labelled.{sample_at as sample_of, ReadsInOrder, ReadsExchanged, IsFree, IsOfNode, IsLoad, IsKept, IsMoved, IsConst, IsAddress, IsLabelOf, IsInRam, IsPut, IsFit};
+ghost use Rattle.image_labels.specs.Private.Settled.{AreAllQuiet};
+ghost use Rattle.image_labels.specs.Labelled.{sample_at as sample_of, ReadsInOrder, ReadsExchanged, IsFree, IsOfNode, IsFolded, IsDone, IsLoad, IsKept, IsMoved, IsConst, IsAddress, IsLabelOf, IsInRam, IsPut, IsFit};
 
+use crate::copies::{same_format, same_operation};
+use crate::folds::{is_fold, passed};
 use crate::hardware::{
     cell_in, cells_on, delay_on, gap_on, issued_in, modulus_of, number_of, word_in,
 };
 use crate::label::{Certificate, Label};
-use crate::labels::{cell_label, is_signal, issue_label, operand_label, same_label};
+use crate::labels::{is_signal, issue_label, operand_label, same_label};
 use crate::narrow::{is_narrow, is_width};
 use crate::operands::reads_operands;
-use fix_word::{Format, Op};
+use crate::settled::label_in;
+use fix_word::Op;
 use micro_image::{Image, Issue};
 use signal_graph::{Graph, Node};
 
@@ -28,18 +33,6 @@ pub fn sample_at(image: &Image, cycle: u16) -> u32
     ensures { result ≡ sample_of image.now cycle }
 {
     1024 + u32::from(cycle / image.period)
-}
-
-fn same_format(a: Format, b: Format) -> bool
-    ensures { IsTrue result ↔ (a ≡ b) }
-{
-    a == b
-}
-
-fn same_operation(a: Op, b: Op) -> bool
-    ensures { IsTrue result ↔ (a ≡ b) }
-{
-    a == b
 }
 
 /// Whether the operation, the format and the argument of an issue are those of a node.
@@ -104,6 +97,79 @@ fn is_of_node(
     does_at(graph, issue, node) && reads_node(graph, image, certificate, now, cycle, issue, node)
 }
 
+/// Whether an issue is a product that gives at once what a node makes of a product.
+fn does_fold(graph: &Graph, issue: &Issue, node: u32) -> bool
+    ensures { IsTrue result
+        ↔ ((issue.now.op ≡ Mul) × IsFold graph.now node issue.now.fmt) }
+{
+    same_operation(issue.op, Op::Mul) && is_fold(graph, node, issue.fmt)
+}
+
+/// Whether an issue reads in a sample the operands of the node whose word a node reads.
+fn reads_passed(
+    graph: &Graph,
+    image: &Image,
+    certificate: &Certificate,
+    sample: u32,
+    cycle: u16,
+    issue: &Issue,
+    node: u32,
+) -> bool
+    requires node { node < length graph.now.nodes }
+    requires from { passed_by graph.now node < length graph.now.nodes }
+    requires cycle { cycle ≤ length image.now.words }
+    ensures { IsTrue result
+        ↔ (ReadsInOrder graph.now image.now certificate.now sample cycle issue.now
+        (node_of graph.now (passed_by graph.now node))
+        ⊎ ReadsExchanged graph.now image.now certificate.now sample cycle issue.now
+        (node_of graph.now (passed_by graph.now node))) }
+{
+    let from = passed(graph, node);
+    reads_node(graph, image, certificate, sample, cycle, issue, from)
+}
+
+/// Whether an issue is a product that gives at once what a node makes of a product in a sample.
+fn is_folded(
+    graph: &Graph,
+    image: &Image,
+    certificate: &Certificate,
+    cycle: u16,
+    issue: &Issue,
+    node: u32,
+    sample: u32,
+) -> bool
+    requires valid { IsValid image.now }
+    requires cycle { cycle ≤ length image.now.words }
+    ensures { IsTrue result
+        ↔ IsFolded graph.now image.now certificate.now cycle issue.now node sample }
+{
+    let now = sample_at(image, cycle);
+    if sample != now {
+        return false;
+    }
+    does_fold(graph, issue, node)
+        && reads_passed(graph, image, certificate, now, cycle, issue, node)
+}
+
+/// Whether an issue does what a node does in a sample, or gives its word at once.
+fn is_done(
+    graph: &Graph,
+    image: &Image,
+    certificate: &Certificate,
+    cycle: u16,
+    issue: &Issue,
+    node: u32,
+    sample: u32,
+) -> bool
+    requires valid { IsValid image.now }
+    requires cycle { cycle ≤ length image.now.words }
+    ensures { IsTrue result
+        ↔ IsDone graph.now image.now certificate.now cycle issue.now node sample }
+{
+    is_of_node(graph, image, certificate, cycle, issue, node, sample)
+        || is_folded(graph, image, certificate, cycle, issue, node, sample)
+}
+
 /// Whether an issue loads a cell with this label.
 fn is_load(
     image: &Image,
@@ -111,14 +177,16 @@ fn is_load(
     cycle: u16,
     issue: &Issue,
     label: Label,
+    quiet: bool,
 ) -> bool
-    requires { cycle ≤ length image.now.words }
+    requires cycle { cycle ≤ length image.now.words }
+    requires quiet { IsTrue quiet → AreAllQuiet image.now certificate.now 32 }
     ensures { IsTrue result ↔ IsLoad image.now certificate.now cycle issue.now label }
 {
     match issue.op {
         Op::Load => match operand_label(image, certificate, cycle, issue, 0) {
             Label::Address(_, x) => same_label(
-                cell_label(image, certificate, u32::from(issue.unit), x, cycle),
+                label_in(image, certificate, u32::from(issue.unit), x, cycle, quiet),
                 label,
             ),
             _ => false,
@@ -160,12 +228,14 @@ fn is_moved(
     cycle: u16,
     issue: &Issue,
     label: Label,
+    quiet: bool,
 ) -> bool
     requires valid { IsValid image.now }
     requires cycle { cycle ≤ length image.now.words }
+    requires quiet { IsTrue quiet → AreAllQuiet image.now certificate.now 32 }
     ensures { IsTrue result ↔ IsMoved graph.now image.now certificate.now cycle issue.now label }
 {
-    is_load(image, certificate, cycle, issue, label)
+    is_load(image, certificate, cycle, issue, label, quiet)
         || is_kept(graph, image, certificate, cycle, issue, label)
 }
 
@@ -202,20 +272,22 @@ fn is_label_of(
     cycle: u16,
     issue: &Issue,
     label: Label,
+    quiet: bool,
 ) -> bool
     requires valid { IsValid image.now }
     requires cycle { cycle ≤ length image.now.words }
+    requires quiet { IsTrue quiet → AreAllQuiet image.now certificate.now 32 }
     ensures { IsTrue result ↔ IsLabelOf graph.now image.now certificate.now cycle issue.now label }
 {
     match label {
         Label::Unknown => true,
         Label::Signal(node, sample) => {
-            is_of_node(graph, image, certificate, cycle, issue, node, sample)
-                || is_moved(graph, image, certificate, cycle, issue, label)
+            is_done(graph, image, certificate, cycle, issue, node, sample)
+                || is_moved(graph, image, certificate, cycle, issue, label, quiet)
         }
         Label::Address(cells, x) => is_address(image, cycle, issue, cells, x),
         Label::Constant(word) => {
-            is_const(issue, word) || is_moved(graph, image, certificate, cycle, issue, label)
+            is_const(issue, word) || is_moved(graph, image, certificate, cycle, issue, label, quiet)
         }
     }
 }
@@ -328,15 +400,17 @@ fn has_label(
     certificate: &Certificate,
     cycle: u16,
     issue: &Issue,
+    quiet: bool,
 ) -> bool
     requires valid { IsValid image.now }
     requires cycle { cycle ≤ length image.now.words }
+    requires quiet { IsTrue quiet → AreAllQuiet image.now certificate.now 32 }
     ensures { IsTrue result
         ↔ IsLabelOf graph.now image.now certificate.now cycle issue.now
         (label_of_issue certificate.now cycle issue.now.unit) }
 {
     let label = issue_label(certificate, cycle, u32::from(issue.unit));
-    is_label_of(graph, image, certificate, cycle, issue, label)
+    is_label_of(graph, image, certificate, cycle, issue, label, quiet)
 }
 
 /// Whether an issue ends in its turn.
@@ -384,14 +458,16 @@ pub fn is_fit(
     certificate: &Certificate,
     cycle: u16,
     issue: &Issue,
+    quiet: bool,
 ) -> bool
     requires graph { IsGraph graph.now }
     requires valid { IsValid image.now }
     requires cycle { cycle < length image.now.words }
+    requires quiet { IsTrue quiet → AreAllQuiet image.now certificate.now 32 }
     ensures yes { IsTrue result → IsFit graph.now image.now certificate.now cycle issue.now }
     ensures no { IsFit graph.now image.now certificate.now cycle issue.now → IsTrue result }
 {
     is_timely(image, cycle, u32::from(issue.unit))
         && is_placed(graph, image, certificate, cycle, issue)
-        && has_label(graph, image, certificate, cycle, issue)
+        && has_label(graph, image, certificate, cycle, issue, quiet)
 }

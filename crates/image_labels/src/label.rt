@@ -19,10 +19,17 @@ pub enum Label {
 /// Where the words of a graph are in a turn of an image: what an image is checked by. Nothing is asked of it.
 #[derive(Drop)]
 pub struct Certificate {
+    /// For each node of the graph the one that stands for it, which has the same word in each sample.
+    pub representatives: List<u32>,
     /// What the issue of each cycle of the turn and each unit comes to: that of cycle c on unit u is at 32 c + u.
     pub issues: List<Label>,
     /// What each register holds when a turn starts: register r of port p of unit u is at 1024 u + 256 p + r.
     pub registers: List<Label>,
     /// What each cell of a ram holds when a turn starts: cell x of unit u is at 65536 u + x.
     pub cells: List<Label>,
+    /// In which cycle of the turn the first store into each cell ends, or 0, in the order of `cells`. No answer rests on
+    /// this and the next list: where they have other cycles, the answer takes longer.
+    pub fresh: List<u16>,
+    /// The cycle after the one in which the last store into each cell ends, or 0.
+    pub settled: List<u16>,
 }

@@ -4,6 +4,7 @@ ghost use Rattle.image_labels.specs.declared.label.Label.{Label as LabelOf};
 ghost use Rattle.micro_image.specs.Fields.{nth};
 ghost use Rattle.image_labels.specs.declared.label.Label.TheVariants.{Unknown, Signal};
 ghost use Rattle.image_labels.specs.Labels.{issue_label as label_of_issue, driven_label as label_of_bus, register_label as label_of_register, operand_label as label_of_operand, cell_label as label_of_cell, stored_label, word_in as word_of, is_address as is_address_of};
+ghost use Rattle.image_labels.specs.Private.Settled.{fresh_at, settled_at};
 
 use crate::hardware::{delay_on, driver_of, ended_in, issued_in, register_at, take_into, word_in};
 use crate::label::{Certificate, Label};
@@ -66,6 +67,30 @@ pub fn first_cell(certificate: &Certificate, unit: u32, cell: u32) -> Label
     ensures { result ≡ nth certificate.now.cells (unit * 65536 + cell) Unknown }
 {
     label_at(&certificate.cells, unit as usize * 65536 + cell as usize)
+}
+
+fn cycle_at(cycles: &List<u16>, index: usize) -> u16
+    ensures { result ≡ nth cycles.now index 0 }
+{
+    if index < cycles.len() {
+        cycles[index]
+    } else {
+        0
+    }
+}
+
+/// The last cycle in which a cell has what it holds when a turn starts, as the certificate has it.
+pub fn fresh_in(certificate: &Certificate, unit: u32, cell: u32) -> u16
+    ensures { result ≡ fresh_at certificate.now unit cell }
+{
+    cycle_at(&certificate.fresh, unit as usize * 65536 + cell as usize)
+}
+
+/// The first cycle in which it has what it holds when the turn ends.
+pub fn settled_in(certificate: &Certificate, unit: u32, cell: u32) -> u16
+    ensures { result ≡ settled_at certificate.now unit cell }
+{
+    cycle_at(&certificate.settled, unit as usize * 65536 + cell as usize)
 }
 
 /// The label of what a bus carries in a cycle.

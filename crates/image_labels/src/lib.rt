@@ -2,8 +2,10 @@
 //! graph's solution, whoever made it.
 #![tactic(auto)]
 
+mod copies;
 mod cycles;
 mod fits;
+mod folds;
 mod hardware;
 mod label;
 mod labels;
@@ -13,6 +15,7 @@ mod narrow;
 mod operands;
 mod recovery;
 mod rows;
+mod settled;
 mod starts;
 mod validation;
 

@@ -2,11 +2,13 @@
 ghost use Rattle.std.specs.Prelude.{◌≤◌, length};
 ghost use Rattle.micro_image.specs.Valid.{IsValid};
 
+use crate::copies::edge_at;
 use crate::fits::sample_at;
+use crate::folds::{is_fold, passed};
 use crate::label::{Certificate, Label};
 use crate::labels::{issue_label, operand_label};
 use crate::mismatch::Mismatch;
-use crate::operands::{edge_at, tells};
+use crate::operands::tells;
 use fix_word::Op;
 use micro_image::{Image, Issue};
 use signal_graph::{Edge, Graph, Node};
@@ -79,7 +81,7 @@ fn operand_misfit(
             let edge = edge_at(edges, u32::from(port));
             let label = operand_label(image, certificate, cycle, issue, u32::from(port));
             let wants = sample.saturating_sub(u32::from(edge.delay));
-            if !tells(graph, label, edge.node, wants) {
+            if !tells(graph, certificate, label, edge.node, wants) {
                 let reader = Reader {
                     cycle,
                     unit: issue.unit,
@@ -99,6 +101,17 @@ pub fn does_node(graph: &Graph, issue: &Issue, node: u32) -> bool {
     node < graph.nodes.len() && does(issue, &graph.nodes[node])
 }
 
+/// The node whose operands an issue reads that comes to the word of a node: that node, or the product that it passes on.
+pub fn done_node(graph: &Graph, issue: &Issue, node: u32) -> Option<u32> {
+    if does_node(graph, issue, node) {
+        return Some(node);
+    }
+    if matches!(issue.op, Op::Mul) && is_fold(graph, node, issue.fmt) {
+        return Some(passed(graph, node));
+    }
+    None
+}
+
 /// Why an issue does not fit.
 pub fn misfit(
     graph: &Graph,
@@ -114,10 +127,17 @@ pub fn misfit(
     let unexplained = Mismatch::Issue(cycle, unit);
     match issue_label(certificate, cycle, u32::from(unit)) {
         Label::Signal(node, _) if !matches!(issue.op, Op::Load) => {
-            if !does_node(graph, issue, node) {
-                return Mismatch::OtherOperation { cycle, unit, node };
+            match done_node(graph, issue, node) {
+                Some(done) => operand_misfit(
+                    graph,
+                    image,
+                    certificate,
+                    cycle,
+                    issue,
+                    done,
+                ).unwrap_or(unexplained),
+                None => Mismatch::OtherOperation { cycle, unit, node },
             }
-            operand_misfit(graph, image, certificate, cycle, issue, node).unwrap_or(unexplained)
         }
         _ => unexplained,
     }

@@ -8,6 +8,9 @@ pub enum Mismatch {
     /// The image puts another count of words than the graph.
     #[error("the count of output words differs")]
     Outs,
+    /// A node is no copy of the one that stands for it.
+    #[error("node {0} is no copy of the one that stands for it")]
+    Copy(u32),
     /// An issue reads another word at a port than its node does there.
     #[error("cycle {cycle}: port {port} of unit {unit} has node {has} of {ago} samples ago, where node {node} reads node \
          {wants} of {delay}")]

@@ -1,26 +1,14 @@
 //! Whether an issue reads the operands of a node.
 ghost use Rattle.std.specs.Prelude.{◌≡◌, ◌⊎◌, ◌≤◌, ◌↔◌, length, IsTrue};
-ghost use Rattle.plan_core.specs.Operands.{no_edge};
-ghost use Rattle.micro_image.specs.Fields.{nth};
 ghost use Rattle.image_labels.specs.Rules.{IsCommutative, IsConstant, Tells};
 ghost use Rattle.image_labels.specs.Labelled.{ReadsOperand, ReadsInOrder, ReadsExchanged};
 
+use crate::copies::{edge_at, representative};
 use crate::label::{Certificate, Label};
 use crate::labels::operand_label;
 use fix_word::Op;
 use micro_image::{Image, Issue, reads};
-use signal_graph::{Edge, Edges, Graph, Node};
-
-pub fn edge_at(edges: &Edges, port: u32) -> Edge
-    ensures { result ≡ nth edges.now port no_edge }
-{
-    let port = port as usize;
-    if port < edges.len() {
-        edges[port]
-    } else {
-        Edge { node: 0, delay: 0 }
-    }
-}
+use signal_graph::{Graph, Node};
 
 /// Whether an operation gives the same where its two operands are exchanged.
 pub fn commutes(op: Op) -> bool
@@ -45,11 +33,16 @@ fn is_constant(graph: &Graph, node: u32, word: i64) -> bool
 }
 
 /// Whether a label tells the word of a node in a sample.
-pub fn tells(graph: &Graph, label: Label, node: u32, sample: u32) -> bool
-    ensures { IsTrue result ↔ Tells graph.now label node sample }
+pub fn tells(graph: &Graph, certificate: &Certificate, label: Label, node: u32, sample: u32) -> bool
+    ensures { IsTrue result ↔ Tells graph.now certificate.now.representatives label node sample }
 {
+    let nodes = &certificate.representatives;
     match label {
-        Label::Signal(v, s) => v == node && s == sample,
+        Label::Signal(v, s) => {
+            (v as usize) < graph.nodes.len()
+                && representative(nodes, v) == representative(nodes, node)
+                && s == sample
+        }
         Label::Constant(word) => 1024 <= sample && is_constant(graph, node, word),
         _ => false,
     }
@@ -75,6 +68,7 @@ fn reads_operand(
     let label = operand_label(image, certificate, cycle, issue, port);
     tells(
         graph,
+        certificate,
         label,
         edge.node,
         sample.saturating_sub(u32::from(edge.delay)),

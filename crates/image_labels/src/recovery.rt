@@ -1,21 +1,22 @@
 //! Finds labels for an image by its graph: from each output to the nodes that it reads, and so on to what these read.
 //! Nothing rests on what is found, as `validate` asks nothing of it.
-ghost use Rattle.std.specs.Prelude.{◌≤◌, length};
+ghost use Rattle.std.specs.Prelude.{◌<◌, ◌≤◌, length, IfSome};
 ghost use Rattle.micro_image.specs.Valid.{IsValid};
 
+use crate::copies::{edge_at, is_copy, representative};
 use crate::fits::{first_output, sample_at};
 use crate::hardware::{
     cell_in, cells_on, delay_on, driver_of, ended_in, issued_in, modulus_of, number_of,
     register_at, take_into, word_in,
 };
 use crate::label::{Certificate, Label};
-use crate::labels::{first_cell, issue_label, operand_label, stores_into};
-use crate::misfits::does_node;
-use crate::operands::{commutes, edge_at};
+use crate::labels::{first_cell, fresh_in, issue_label, operand_label, settled_in, stores_into};
+use crate::misfits::{does_node, done_node};
+use crate::operands::commutes;
 use fix_word::Op;
 use lists::List;
 use micro_image::{Image, Issue};
-use signal_graph::{Edges, Graph};
+use signal_graph::{Edges, Graph, Node};
 use std::alloc::{AllocError, Global};
 
 /// The most units of an image, and for how many a certificate has room in each cycle.
@@ -30,6 +31,12 @@ const CELLS: usize = 65536;
 const PORTS: u32 = 3;
 /// The port at which a store reads its word.
 const WORD_PORT: u32 = 1;
+/// What numbers are mixed by.
+const MIXER: u64 = 0x9E37_79B9_7F4A_7C15;
+/// A place at which no node is noted.
+const FREE: u32 = u32::MAX;
+/// How many places are looked at for a node.
+const PROBES: u64 = 16;
 /// More nodes than a graph has.
 const MOST_NODES: usize = 1 << 30;
 
@@ -71,6 +78,15 @@ enum Writer {
 struct Search {
     certificate: Certificate,
     known: List<Known>,
+}
+
+/// So many zeros.
+fn zeros(alloc: Global, count: usize) -> Result<List<u16>, AllocError> {
+    let mut zeros = List::new(alloc);
+    for _ in 0..count {
+        zeros.push(0)?;
+    }
+    Ok(zeros)
 }
 
 /// So many labels of which nothing is known.
@@ -127,6 +143,12 @@ fn storer_of(
 ) -> Option<u16>
     requires { cycle ≤ length image.now.words }
 {
+    if settled_in(certificate, unit, cell) <= cycle {
+        return last_storer_of(image, certificate, unit, cell);
+    }
+    if cycle <= fresh_in(certificate, unit, cell) {
+        return None;
+    }
     let delay = u16::from(delay_on(image, unit));
     for back in 0..cycle {
         let before = cycle - back - 1;
@@ -138,6 +160,15 @@ fn storer_of(
         }
     }
     None
+}
+
+/// The cycle in which the last store of a turn into a cell was issued.
+fn last_storer_of(image: &Image, certificate: &Certificate, unit: u32, cell: u32) -> Option<u16> {
+    let delay = u16::from(delay_on(image, unit));
+    match settled_in(certificate, unit, cell) {
+        0 => None,
+        settled => Some((settled - 1).saturating_sub(delay)),
+    }
 }
 
 /// The register whose word a unit stores that is issued a store in a cycle.
@@ -172,7 +203,7 @@ fn moves(graph: &Graph, image: &Image, issue: &Issue, cycle: u16, signal: Signal
 }
 
 /// The label of an issue that is to come to a word: that word of a load and of a pass that moves it, and else the node's
-/// of its own sample, if it does what the node does.
+/// of its own sample, if it does what the node does or gives its word at once.
 fn label_for(
     graph: &Graph,
     image: &Image,
@@ -185,13 +216,11 @@ fn label_for(
     if matches!(issue.op, Op::Load) || moves(graph, image, issue, cycle, signal) {
         return Some(signal);
     }
-    if does_node(graph, issue, signal.node) {
-        return Some(Signal {
-            node: signal.node,
-            sample: sample_at(image, cycle),
-        });
-    }
-    None
+    done_node(graph, issue, signal.node)?;
+    Some(Signal {
+        node: signal.node,
+        sample: sample_at(image, cycle),
+    })
 }
 
 /// Notes what an issue comes to that has no label yet.
@@ -324,7 +353,6 @@ fn want_kept(
 ) -> Result<(), AllocError>
     requires { IsValid image.now }
 {
-    let turn = image.words.len() as u16;
     let cells = cells_on(image, unit);
     if cells == 0 || cells > CELLS {
         return Ok(());
@@ -338,7 +366,7 @@ fn want_kept(
         put_signal(&mut search.certificate.cells, index, signal);
         cell = cell_in(cells as u32, u64::from(cell), u16::from(image.unroll)) as u32;
         signal = a_turn_later(image, signal);
-        if let Some(issued) = storer_of(image, &search.certificate, unit, cell, turn) {
+        if let Some(issued) = last_storer_of(image, &search.certificate, unit, cell) {
             let register = stored_register(image, issued, unit);
             return want_stored(search, graph, image, register, issued, signal);
         }
@@ -416,11 +444,11 @@ fn read_register(issue: &Issue, unit: u32, port: u32) -> Register {
     }
 }
 
-/// The word of an operand in a sample.
-fn operand_signal(edges: &Edges, operand: u32, sample: u32) -> Signal {
+/// The word of an operand in a sample, by the node that stands for its own.
+fn operand_signal(nodes: &List<u32>, edges: &Edges, operand: u32, sample: u32) -> Signal {
     let edge = edge_at(edges, operand);
     Signal {
-        node: edge.node,
+        node: representative(nodes, edge.node),
         sample: sample.saturating_sub(u32::from(edge.delay)),
     }
 }
@@ -444,34 +472,41 @@ fn last_writer(image: &Image, register: Register, cycle: u16) -> Option<(u16, u3
 fn may_give(graph: &Graph, image: &Image, issue: &Issue, cycle: u16, signal: Signal) -> bool
     requires { IsValid image.now }
 {
-    let own = does_node(graph, issue, signal.node) && signal.sample == sample_at(image, cycle);
+    let done = done_node(graph, issue, signal.node).is_some();
+    let own = done && signal.sample == sample_at(image, cycle);
     own || matches!(issue.op, Op::Load) || moves(graph, image, issue, cycle, signal)
 }
 
-/// Whether a register may hold a word at the start of a cycle, by the issue that wrote it.
-fn may_hold(graph: &Graph, image: &Image, register: Register, cycle: u16, signal: Signal) -> bool
+/// The issue that wrote a register last before a cycle, and what it comes to if the register holds this word then.
+fn written(image: &Image, register: Register, cycle: u16, signal: Signal) -> Option<Known>
     requires valid { IsValid image.now }
     requires cycle { cycle ≤ length image.now.words }
 {
-    match last_writer(image, register, cycle) {
-        Some((cycle, unit, later)) => {
-            let signal = Signal {
-                node: signal.node,
-                sample: signal.sample.saturating_add(later),
-            };
-            usize::from(cycle) < image.words.len()
-                && match issued_in(word_in(image, cycle), unit) {
-                    Some(issue) => may_give(graph, image, issue, cycle, signal),
-                    None => false,
-                }
+    let (cycle, unit, later) = last_writer(image, register, cycle)?;
+    let Signal { node, sample } = signal;
+    let sample = sample.saturating_add(later);
+    Some(Known {
+        cycle,
+        unit,
+        signal: Signal { node, sample },
+    })
+}
+
+/// Whether an issue may come to its word, as far as it itself shows.
+fn may_come(graph: &Graph, image: &Image, known: Known) -> bool
+    requires { IsValid image.now }
+{
+    usize::from(known.cycle) < image.words.len()
+        && match issued_in(word_in(image, known.cycle), known.unit) {
+            Some(issue) => may_give(graph, image, issue, known.cycle, known.signal),
+            None => false,
         }
-        None => true,
-    }
 }
 
 /// Whether an issue may read an operand of a node at a port.
 fn may_read(
     graph: &Graph,
+    nodes: &List<u32>,
     image: &Image,
     issue: &Issue,
     known: Known,
@@ -483,20 +518,113 @@ fn may_read(
     requires cycle { known.cycle ≤ length image.now.words }
 {
     let register = read_register(issue, known.unit, port);
-    let signal = operand_signal(edges, operand, sample_at(image, known.cycle));
-    may_hold(graph, image, register, known.cycle, signal)
+    let signal = operand_signal(nodes, edges, operand, sample_at(image, known.cycle));
+    match written(image, register, known.cycle, signal) {
+        Some(known) => may_come(graph, image, known),
+        None => true,
+    }
 }
 
-/// Whether an issue reads the two operands of a node exchanged, as far as the issues show that wrote them.
-fn is_exchanged(graph: &Graph, image: &Image, issue: &Issue, known: Known, edges: &Edges) -> bool
+/// Whether an issue may read a node's operands, in either order where it gives the same.
+fn may_read_both(
+    graph: &Graph,
+    nodes: &List<u32>,
+    image: &Image,
+    issue: &Issue,
+    known: Known,
+    edges: &Edges,
+) -> bool
     requires valid { IsValid image.now }
     requires cycle { known.cycle ≤ length image.now.words }
 {
-    commutes(issue.op)
-        && !(may_read(graph, image, issue, known, edges, 0, 0)
-            && may_read(graph, image, issue, known, edges, 1, 1))
-        && may_read(graph, image, issue, known, edges, 0, 1)
-        && may_read(graph, image, issue, known, edges, 1, 0)
+    (may_read(graph, nodes, image, issue, known, edges, 0, 0)
+        && (edges.len() < 2 || may_read(graph, nodes, image, issue, known, edges, 1, 1)))
+        || (commutes(issue.op)
+            && may_read(graph, nodes, image, issue, known, edges, 0, 1)
+            && may_read(graph, nodes, image, issue, known, edges, 1, 0))
+}
+
+/// Whether an issue may read the operands of a node, if it has any.
+fn may_read_node(
+    graph: &Graph,
+    nodes: &List<u32>,
+    image: &Image,
+    issue: &Issue,
+    known: Known,
+    node: u32,
+) -> bool
+    requires valid { IsValid image.now }
+    requires cycle { known.cycle ≤ length image.now.words }
+{
+    let node = node as usize;
+    if node >= graph.nodes.len() {
+        return false;
+    }
+    let edges = &graph.nodes[node].edges;
+    edges.is_empty() || may_read_both(graph, nodes, image, issue, known, edges)
+}
+
+/// Whether an issue may come to its word, as far as the issues show that wrote what it reads.
+fn may_come_by_reads(graph: &Graph, nodes: &List<u32>, image: &Image, known: Known) -> bool
+    requires { IsValid image.now }
+{
+    if usize::from(known.cycle) >= image.words.len() {
+        return false;
+    }
+    match issued_in(word_in(image, known.cycle), known.unit) {
+        Some(issue) => match done_node(graph, issue, known.signal.node) {
+            Some(node) => may_read_node(graph, nodes, image, issue, known, node),
+            None => true,
+        },
+        None => false,
+    }
+}
+
+/// Whether an issue may read an operand of a node at a port, as far as the issues show that wrote what its writer reads.
+fn may_read_by_reads(
+    graph: &Graph,
+    nodes: &List<u32>,
+    image: &Image,
+    issue: &Issue,
+    known: Known,
+    edges: &Edges,
+    port: u32,
+    operand: u32,
+) -> bool
+    requires valid { IsValid image.now }
+    requires cycle { known.cycle ≤ length image.now.words }
+{
+    let register = read_register(issue, known.unit, port);
+    let signal = operand_signal(nodes, edges, operand, sample_at(image, known.cycle));
+    match written(image, register, known.cycle, signal) {
+        Some(known) => may_come_by_reads(graph, nodes, image, known),
+        None => true,
+    }
+}
+
+/// Whether an issue reads the two operands of a node exchanged, as far as the issues show that wrote them, and where
+/// these may be either, those that wrote what they read.
+fn is_exchanged(
+    graph: &Graph,
+    nodes: &List<u32>,
+    image: &Image,
+    issue: &Issue,
+    known: Known,
+    edges: &Edges,
+) -> bool
+    requires valid { IsValid image.now }
+    requires cycle { known.cycle ≤ length image.now.words }
+{
+    if !commutes(issue.op)
+        || !may_read(graph, nodes, image, issue, known, edges, 0, 1)
+        || !may_read(graph, nodes, image, issue, known, edges, 1, 0)
+    {
+        return false;
+    }
+    !(may_read(graph, nodes, image, issue, known, edges, 0, 0)
+        && may_read(graph, nodes, image, issue, known, edges, 1, 1)
+        && may_read_by_reads(graph, nodes, image, issue, known, edges, 0, 0)
+        && may_read_by_reads(graph, nodes, image, issue, known, edges, 1, 1))
 }
 
 /// The operand that an issue reads at a port.
@@ -519,17 +647,22 @@ fn want_operands(
     requires valid { IsValid image.now }
     requires cycle { known.cycle ≤ length image.now.words }
 {
-    let node = known.signal.node as usize;
+    let node = match done_node(graph, issue, known.signal.node) {
+        Some(node) => node as usize,
+        None => return Ok(()),
+    };
     if node >= graph.nodes.len() {
         return Ok(());
     }
     let edges = &graph.nodes[node].edges;
-    let exchanged = is_exchanged(graph, image, issue, known, edges);
+    let nodes = &search.certificate.representatives;
+    let exchanged = is_exchanged(graph, nodes, image, issue, known, edges);
     for port in 0..PORTS {
         if (port as usize) < edges.len() {
             let register = read_register(issue, known.unit, port);
             let operand = operand_at(exchanged, port);
-            let signal = operand_signal(edges, operand, sample_at(image, known.cycle));
+            let nodes = &search.certificate.representatives;
+            let signal = operand_signal(nodes, edges, operand, sample_at(image, known.cycle));
             want_register(search, graph, image, register, known.cycle, signal)?;
         }
     }
@@ -651,6 +784,45 @@ fn put_addresses(image: &Image, labels: &mut List<Label>, turn: u16)
     }
 }
 
+/// The cell that a store is into which ends on a unit in a cycle.
+fn cell_stored(image: &Image, certificate: &Certificate, cycle: u16, unit: u32) -> Option<u32>
+    requires { cycle < length image.now.words }
+{
+    let issue = ended_in(image, cycle, unit)?;
+    if !matches!(issue.op, Op::Store) {
+        return None;
+    }
+    let issued = cycle.saturating_sub(u16::from(delay_on(image, unit)));
+    match operand_label(image, certificate, issued, issue, 0) {
+        Label::Address(_, cell) => Some(cell),
+        _ => None,
+    }
+}
+
+/// Notes that a store ends in a cycle, behind all that were noted.
+fn note_store(certificate: &mut Certificate, index: usize, cycle: u16) {
+    if index < certificate.settled.len() && index < certificate.fresh.len() {
+        if certificate.settled[index] == 0 {
+            certificate.fresh[index] = cycle;
+        }
+        certificate.settled[index] = cycle.saturating_add(1);
+    }
+}
+
+/// Notes the first and the last store of a turn into each cell.
+fn put_stores(image: &Image, certificate: &mut Certificate, turn: u16)
+    requires { turn ≤ length image.now.words }
+{
+    for cycle in 0..turn {
+        for unit in 0..UNITS {
+            if let Some(cell) = cell_stored(image, certificate, cycle, unit) {
+                let index = unit as usize * CELLS + cell as usize;
+                note_store(certificate, index, cycle);
+            }
+        }
+    }
+}
+
 /// The node whose word an output puts.
 fn output_node(graph: &Graph, issue: &Issue) -> Option<u32> {
     let first = first_output(graph);
@@ -685,6 +857,88 @@ fn want_outputs(
     Ok(())
 }
 
+/// A number that copies of a node share.
+fn mix(nodes: &List<u32>, node: &Node) -> u64 {
+    let mut mixed = u64::from(node.fmt.width).wrapping_add(node.arg.unsigned_abs());
+    for port in 0..PORTS {
+        let edge = edge_at(&node.edges, port);
+        let operand = u64::from(representative(nodes, edge.node));
+        mixed = mixed
+            .wrapping_mul(MIXER)
+            .wrapping_add(operand)
+            .wrapping_mul(MIXER)
+            .wrapping_add(u64::from(edge.delay));
+    }
+    mixed
+}
+
+/// The first place that is free or has a node that one is a copy of, from that of the number that copies share on.
+fn place_of(graph: &Graph, nodes: &List<u32>, places: &List<u32>, v: u32) -> Option<usize>
+    requires { v < length graph.now.nodes }
+    ensures { IfSome result (λ place. place < length places.now) }
+{
+    let count = places.len();
+    if count == 0 {
+        return None;
+    }
+    let first = mix(nodes, &graph.nodes[v as usize]);
+    for probe in 0..PROBES {
+        let place = (first.wrapping_add(probe) % count as u64) as usize;
+        let other = places[place];
+        if other == FREE || is_copy(graph, nodes, v, other) {
+            return Some(place);
+        }
+    }
+    None
+}
+
+/// Finds the node that stands for a node: one of which it is a copy, or itself, which is noted then.
+fn put_representative(graph: &Graph, nodes: &mut List<u32>, places: &mut List<u32>, v: u32)
+    requires { v < length graph.now.nodes }
+{
+    if let Some(place) = place_of(graph, nodes, places, v) {
+        let other = places[place];
+        if other == FREE {
+            places[place] = v;
+        } else if (v as usize) < nodes.len() {
+            nodes[v as usize] = other;
+        }
+    }
+}
+
+/// The numbers below one.
+fn numbers(alloc: Global, count: u32) -> Result<List<u32>, AllocError> {
+    let mut numbers = List::new(alloc);
+    for number in 0..count {
+        numbers.push(number)?;
+    }
+    Ok(numbers)
+}
+
+/// So many places that are free.
+fn free_places(alloc: Global, count: u32) -> Result<List<u32>, AllocError> {
+    let mut places = List::new(alloc);
+    for _ in 0..count {
+        places.push(FREE)?;
+    }
+    Ok(places)
+}
+
+/// For each node one that stands for it: itself, or one below it of which it is a copy.
+fn representatives(alloc: Global, graph: &Graph) -> Result<List<u32>, AllocError> {
+    let count = if graph.nodes.len() < MOST_NODES {
+        graph.nodes.len() as u32
+    } else {
+        0
+    };
+    let mut nodes = numbers(alloc, count)?;
+    let mut places = free_places(alloc, 2 * count)?;
+    for v in 0..count {
+        put_representative(graph, &mut nodes, &mut places, v);
+    }
+    Ok(nodes)
+}
+
 /// How many units an image has.
 fn count_units(image: &Image) -> usize
     ensures { result ≤ 32 }
@@ -703,13 +957,17 @@ pub fn recover(alloc: Global, graph: &Graph, image: &Image) -> Result<Certificat
     let issues = usize::from(turn) * UNITS as usize;
     let mut search = Search {
         certificate: Certificate {
+            representatives: representatives(alloc, graph)?,
             issues: unknowns(alloc, issues)?,
             registers: unknowns(alloc, units * UNIT_REGISTERS)?,
             cells: unknowns(alloc, units * CELLS)?,
+            fresh: zeros(alloc, units * CELLS)?,
+            settled: zeros(alloc, units * CELLS)?,
         },
         known: List::new(alloc),
     };
     put_addresses(image, &mut search.certificate.issues, turn);
+    put_stores(image, &mut search.certificate, turn);
     if !reads_constants_late(graph) {
         put_constants(image, &mut search.certificate.issues, turn);
     }

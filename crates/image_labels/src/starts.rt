@@ -8,15 +8,15 @@ ghost use Rattle.micro_image.specs.Valid.{IsValid};
 ghost use Rattle.image_labels.specs.Labels.{register_label as label_of_register, cell_label as label_of_cell};
 ghost use Rattle.image_labels.specs.Labelled.{IsWordBefore, IsRegisterStart, IsCellStart};
 ghost use Rattle.image_labels.specs.Private.Checked.{IsFileStart, AreFilesStart, AreRegistersStart, IsRamStart, AreCellsStart};
+ghost use Rattle.image_labels.specs.Private.Settled.{AreAllQuiet};
 
 use crate::hardware::{
     cell_in, cells_on, files_on, initial_cell, initial_register, registers_on, word_before,
 };
 use crate::label::{Certificate, Label};
-use crate::labels::{
-    cell_label, first_cell, first_register, is_signal, register_label, same_label,
-};
+use crate::labels::{first_cell, first_register, is_signal, register_label, same_label};
 use crate::mismatch::Mismatch;
+use crate::settled::label_in;
 use micro_image::Image;
 use signal_graph::Graph;
 
@@ -86,9 +86,11 @@ fn is_cell_start(
     cells: u32,
     cell: u32,
     turn: u16,
+    quiet: bool,
 ) -> bool
     requires turn { turn ≡ length image.now.words }
     requires cell { cell < cells }
+    requires quiet { IsTrue quiet → AreAllQuiet image.now certificate.now 32 }
     ensures { IsTrue result
         ↔ IsCellStart graph.now image.now certificate.now turn cells unit cell }
 {
@@ -98,7 +100,7 @@ fn is_cell_start(
             let last = cell_in(cells, u64::from(cell), u16::from(image.unroll)) as u32;
             is_before(graph, node, sample, initial_cell(image, unit, cell))
                 && is_signal(
-                    cell_label(image, certificate, unit, last, turn),
+                    label_in(image, certificate, unit, last, turn, quiet),
                     node,
                     later(sample, image.unroll),
                 )
@@ -108,7 +110,7 @@ fn is_cell_start(
             let last = cell_in(cells, u64::from(cell), u16::from(image.unroll)) as u32;
             initial_cell(image, unit, cell) == word
                 && same_label(
-                    cell_label(image, certificate, unit, last, turn),
+                    label_in(image, certificate, unit, last, turn, quiet),
                     Label::Constant(word),
                 )
         }
@@ -183,13 +185,15 @@ fn check_ram(
     unit: u32,
     cells: u32,
     turn: u16,
+    quiet: bool,
 ) -> Result<(), Mismatch>
-    requires { turn ≡ length image.now.words }
+    requires turn { turn ≡ length image.now.words }
+    requires quiet { IsTrue quiet → AreAllQuiet image.now certificate.now 32 }
     ensures ok { OnOk result (IsRamStart graph.now image.now certificate.now turn cells unit cells) }
     ensures err { OnErr result (IsRamStart graph.now image.now certificate.now turn cells unit cells → ⊥) }
 {
     for cell in 0..cells {
-        if !is_cell_start(graph, image, certificate, unit, cells, cell, turn) {
+        if !is_cell_start(graph, image, certificate, unit, cells, cell, turn, quiet) {
             return Err(Mismatch::Cell(unit, cell));
         }
     }
@@ -202,16 +206,18 @@ pub fn check_cells(
     image: &Image,
     certificate: &Certificate,
     turn: u16,
+    quiet: bool,
 ) -> Result<(), Mismatch>
     requires valid { IsValid image.now }
     requires turn { turn ≡ length image.now.words }
+    requires quiet { IsTrue quiet → AreAllQuiet image.now certificate.now 32 }
     ensures ok { OnOk result (AreCellsStart graph.now image.now certificate.now turn 32) }
     ensures err { OnErr result (AreCellsStart graph.now image.now certificate.now turn 32 → ⊥) }
 {
     for unit in 0..32u32 {
         if (unit as usize) < image.units.len() {
             let cells = cells_on(image, unit) as u32;
-            check_ram(graph, image, certificate, unit, cells, turn)?;
+            check_ram(graph, image, certificate, unit, cells, turn, quiet)?;
         }
     }
     Ok(())

@@ -7,4 +7,5 @@ mod signals;
 mod text;
 
 pub use names::{NodeNames, node_names};
+pub use owners::{Owner, owners_of};
 pub use text::{put, put_number};

@@ -1,1 +1,4 @@
 pub mod Made
+pub mod Lines
+pub mod Refusing
+pub mod OneAnswer

@@ -19,7 +19,7 @@ use Rattle.silc_files.specs.Limits.{text_limit}
 use Rattle.silc_files.specs.Reading.{OnlyReads, IsInput}
 use Rattle.silc_files.specs.declared.files.Input.{Input}
 use Rattle.silc_files.proofs.Endings.{finished}
-use Rattle.plan_commands.specs.Compile.{HasTheSolution}
+use Rattle.plan_commands.specs.Compile.{HasTheSolution, IsWrittenOf}
 use Rattle.plan_commands.specs.Compiling.{IsMadeOf}
 use Rattle.plan_commands.specs.Headline.{CarriesTheSolution}
 use Rattle.plan_commands.specs.Planning.{AreRead, IsSourceIn, IsPathIn}
@@ -77,27 +77,30 @@ module _ (src datapath plan : Name) (old mid new : View) (inputs : Inputs) (are 
       let at = r.plan in
       record {
         read = through_from plan text_limit old mid new first.unchanged.files through;
-        compiled = λ files specified. record {
-          program = r.program;
-          path = d;
-          places = placed.places;
-          gives = is.gives (content_of (files plan)) (text_is files (first.unchanged.files ∙ specified));
-          plan = p;
-          planned = r.specified files specified;
-          given = at_given g d placed.places r.allowed keeps.sound p at;
-          routed = at_routed g d placed.places r.allowed keeps.sound p at;
-          narrow = at_narrow g d placed.places r.allowed keeps.sound p at;
-          image = of.image;
-          image_of = of.image_of;
-          spelled = of.spelled;
-          short = of.short;
-          inputs = of.image_of.inputs ∙ ap (map width_of) (at.placed.inputs ∙ keeps.keeps.inputs);
-          outs = of.image_of.outs ∙ at.placed.outs ∙ keeps.keeps.outs;
-          runs =
-              runs_the_solution r.program g of.image keeps
-              (of.runs g keeps.sound (at_feasible g d placed.places r.allowed keeps.sound p at));
-          period = of.image_of.period;
-        };
+        compiled = λ files specified.
+            let its = is.gives (content_of (files plan)) (text_is files (first.unchanged.files ∙ specified)) in
+            record {
+              program = r.program;
+              path = d;
+              places = placed.places;
+              within = its.0;
+              gives = its.1;
+              plan = p;
+              planned = r.specified files specified;
+              given = at_given g d placed.places r.allowed keeps.sound p at;
+              routed = at_routed g d placed.places r.allowed keeps.sound p at;
+              narrow = at_narrow g d placed.places r.allowed keeps.sound p at;
+              image = of.image;
+              image_of = of.image_of;
+              spelled = of.spelled;
+              short = of.short;
+              inputs = of.image_of.inputs ∙ ap (map width_of) (at.placed.inputs ∙ keeps.keeps.inputs);
+              outs = of.image_of.outs ∙ at.placed.outs ∙ keeps.keeps.outs;
+              runs =
+                  runs_the_solution r.program g of.image keeps
+                  (of.runs g keeps.sound (at_feasible g d placed.places r.allowed keeps.sound p at));
+              period = of.image_of.period;
+            };
       }
 
 -- what is placed carries the solution
@@ -124,12 +127,14 @@ carries source datapath text microcode h =
 module _ (src datapath plan out : Name) (old mid new : View) (microcode : Content) (apart : out ≢ plan)
     (same : mid.files ≡ old.files) (of : IsMadeOf (ArePlaced src datapath plan) plan old mid microcode)
     (whole : IsWrittenWhole out microcode mid new) where
+  pub written : IsWrittenOf (ArePlaced src datapath plan) plan out old new
+  written =
+      compile_done (ArePlaced src datapath plan) plan out microcode old mid new same of
+      (finished plan out text_limit microcode old mid new apart of.read whole) whole.files
+
   -- OUT has the plan where it is written
   pub has_plan : IfSpecified (HasThePlan src datapath plan out) old.files new.files
-  has_plan =
-      written_at (ArePlaced src datapath plan) plan out old new
-      (compile_done (ArePlaced src datapath plan) plan out microcode old mid new same of
-      (finished plan out text_limit microcode old mid new apart of.read whole) whole.files)
+  has_plan = written_at (ArePlaced src datapath plan) plan out old new written
 
   -- and the solution
   pub has_solution : IfSpecified (HasTheSolution src datapath out) old.files new.files

@@ -1,6 +1,6 @@
 -- What `silc_place SRC DP PLAN OUT` writes: microcode of the plan that has the places that PLAN gives.
 use Rattle.std.specs.Prelude.{◌≡◌, ◌≢◌, ◌≤◌, ℕ, List, length, map}
-use Rattle.desk_core.specs.View.{Name, Content, Files}
+use Rattle.desk_core.specs.View.{Name, Content, Files, View}
 use Rattle.desk_core.specs.Desk.{content_of}
 use Rattle.datapath.specs.declared.types.Datapath.{Datapath}
 use Rattle.front_end.specs.GraphOf.{IsProgramGraph}
@@ -13,22 +13,25 @@ use Rattle.placed_plan.specs.declared.place.Place.{Place}
 use Rattle.place_file.specs.Given.{GivesPlaces}
 use Rattle.silage_meaning.specs.Solves.{input_types, output_types}
 use Rattle.silage_syntax.specs.Tree.{Program}
-use Rattle.silc_files.specs.Limits.{microcode_limit}
+use Rattle.silc_files.specs.Limits.{text_limit, microcode_limit}
 use Rattle.statuses.specs.Status.{code_of}
 use Rattle.statuses.specs.declared.status.Status.TheVariants.{Done, Desk}
-use Rattle.plan_commands.specs.Compile.{IsDoneOf}
+use Rattle.plan_commands.specs.Compile.{IsDoneOf, IsWriteAnswerOf}
 use Rattle.plan_commands.specs.Headline.{SpellsOnly, RunsTheSolution}
 use Rattle.plan_commands.specs.Plans.{IsPlannedOverBy}
 use Rattle.place_command.specs.declared.ending.PlaceEnding.{PlaceEnding}
 use Rattle.place_command.specs.declared.ending.PlaceEnding.TheVariants.{Told, Refused}
+use Rattle.place_command.specs.Refusals.{IsPlaceError, IsPlanRejected}
 
 -- The program of the source has a plan over the datapath of the file, in which each node stands where its line of the
--- text says, and the text has no other lines that begin with `node`. The microcode spells the image of that plan in
--- version 2 and nothing else, and that image runs the program's one solution in the datapath's period.
+-- text says, and the text has no other lines that begin with `node`, and not too many bytes. The microcode spells the
+-- image of that plan in version 2 and nothing else, and that image runs the program's one solution in the datapath's
+-- period.
 pub record IsPlaced (source datapath text microcode : List ℕ) : Type 0 where
   pub program : Program
   pub path : Datapath
   pub places : List Place
+  pub within : length text ≤ text_limit
   pub gives : GivesPlaces path text places
   pub plan : Plan
   pub planned : IsPlannedOverBy IsProgramGraph (IsPlanAt places) source datapath program path plan
@@ -59,14 +62,17 @@ abbrev pub IsDone : PlaceEnding → Type 0
 IsDone (Told ending) = ending.status ≡ Done
 IsDone (Refused refusal) = ⊥
 
--- it is an error
-abbrev pub IsError : PlaceEnding → Type 0
-IsError ending = IsDone ending → ⊥
-
 -- it ended before OUT was begun
 abbrev pub IsUnmade : PlaceEnding → Type 0
 IsUnmade (Told ending) = (ending.status ≢ Done) × (ending.status ≢ Desk)
 IsUnmade (Refused refusal) = Unit {0}
+
+-- When each ending comes, and what it leaves. SRC's fault is told first, then DP's, then PLAN's, then that of its
+-- places.
+abbrev pub IsPlaceAnswer : (src datapath plan out : Name) → View → View → PlaceEnding → Type 0
+IsPlaceAnswer src datapath plan out old new (Told ending) =
+    IsWriteAnswerOf (ArePlaced src datapath plan) (IsPlaceError src datapath plan) plan out old new ending.status
+IsPlaceAnswer src datapath plan out old new (Refused refusal) = IsPlanRejected src datapath plan refusal old new
 
 -- the exit code where PLAN gives no plan
 abbrev pub refused : ℕ

@@ -1,7 +1,11 @@
 //! How the command ended.
 
 ghost use Rattle.std.specs.Prelude.{◌≡◌, None};
-ghost use Rattle.place_command.specs.Placed.{IsError, place_code};
+ghost use Rattle.place_command.specs.Placed.{place_code};
+ghost use Rattle.place_command.specs.Refusals.{text_refusal, named_node, place_refusal};
+ghost use Rattle.place_command.specs.Private.Endings.{HasItsLine, IsToldAs};
+ghost use Rattle.place_file.specs.declared.fault.GivenFault.TheVariants as of_given;
+ghost use Rattle.placed_plan.specs.declared.fault.PlaceFault.TheVariants as of_place;
 
 use given_registers::{GivenCause, GivenRegister, RegisterFault};
 use place_file::{GivenFault, GivenRegisters, RegistersFault};
@@ -70,7 +74,9 @@ impl From<Status> for PlaceEnding {
 }
 
 /// The node that the fault names, where its number is that of a place.
-fn node_of(fault: &PlaceFault) -> Option<u32> {
+fn node_of(fault: &PlaceFault) -> Option<u32>
+    ensures { result ≡ named_node fault.now }
+{
     match fault {
         PlaceFault::Line(_) | PlaceFault::Missing(_) | PlaceFault::Memory => None,
         PlaceFault::Surplus(node)
@@ -85,21 +91,28 @@ fn node_of(fault: &PlaceFault) -> Option<u32> {
     }
 }
 
-/// The line that gives the node its place, from 1.
-fn line_of(fault: &PlaceFault, lines: &[u32]) -> Option<u32> {
-    lines.get(node_of(fault)? as usize).copied()
+/// The refusal of places with this fault, which these lines give.
+fn refusal_at(fault: PlaceFault, lines: &[u32]) -> Refusal
+    requires { HasItsLine lines.now fault }
+    ensures { result ≡ place_refusal lines.now fault }
+{
+    match node_of(&fault) {
+        Some(node) => Refusal::Line {
+            line: lines[node as usize],
+            fault,
+        },
+        None => Refusal::Plan(fault),
+    }
 }
 
 /// The ending where nodes cannot stand at their places, which these lines give.
 pub(crate) fn misplaced(fault: PlaceFault, lines: &[u32]) -> PlaceEnding
-    ensures { IsError result }
+    requires { HasItsLine lines.now fault }
+    ensures { IsToldAs (fault ≡ of_place.Memory) (place_refusal lines.now fault) result }
 {
-    if fault == PlaceFault::Memory {
-        return PlaceEnding::from(Status::Memory);
-    }
-    match line_of(&fault, lines) {
-        Some(line) => PlaceEnding::Refused(Refusal::Line { line, fault }),
-        None => PlaceEnding::Refused(Refusal::Plan(fault)),
+    match fault {
+        PlaceFault::Memory => PlaceEnding::from(Status::Memory),
+        fault => PlaceEnding::Refused(refusal_at(fault, lines)),
     }
 }
 
@@ -150,7 +163,7 @@ pub(crate) fn registerless(fault: RegistersFault) -> PlaceEnding
 
 /// The ending where a text gives no places.
 pub(crate) fn ungiven(fault: GivenFault) -> PlaceEnding
-    ensures { IsError result }
+    ensures { IsToldAs (fault ≡ of_given.Memory) (text_refusal fault) result }
 {
     match fault {
         GivenFault::Memory => PlaceEnding::from(Status::Memory),

@@ -1,6 +1,6 @@
 //! From files to microcode.
 
-ghost use Rattle.std.specs.Prelude.{◌≡◌, ◌≢◌, [], ◌∷◌, IfOk, IfErr};
+ghost use Rattle.std.specs.Prelude.{◌≡◌, ◌≢◌, [], ◌∷◌, length, IfOk, IfErr};
 ghost use Rattle.datapath.specs.Allowed.{IsDatapath};
 ghost use Rattle.desk_core.specs.Desk.{FaultsNeverFall, IfSpecified};
 ghost use Rattle.desk_core.specs.Whole.{IsUnchangedButInput};
@@ -12,7 +12,9 @@ ghost use Rattle.silc_files.specs.Endings.{IsAmong, UsesOnly};
 ghost use Rattle.silc_files.specs.Reading.{IsShort, OnlyReads};
 ghost use Rattle.plan_commands.specs.Compile.{HasTheSolution};
 ghost use Rattle.plan_commands.specs.Compiling.{IsMadeOf};
-ghost use Rattle.place_command.specs.Placed.{ArePlaced, HasThePlan, IsDone, IsError, IsUnmade};
+ghost use Rattle.place_command.specs.Placed.{ArePlaced, HasThePlan, IsPlaceAnswer, IsDone, IsUnmade};
+ghost use Rattle.place_command.specs.Private.Endings.{IsEndingOf, IsGivenIn, IsUngivenIn, IsUnplacedIn, IsNoInputPlacing};
+ghost use Rattle.place_command.specs.Private.Endings.{IsNotMade};
 ghost use Rattle.place_command.specs.Private.Placing.{AreGivenIn, IsInputPlacing, IsFeasibleMicrocode};
 ghost use Rattle.statuses.specs.declared.status.Status.TheVariants.{Memory};
 
@@ -45,8 +47,9 @@ pub(crate) struct Placed {
 fn given_in(alloc: Global, text: &Input, path: &Datapath) -> Result<Given, PlaceEnding>
     requires path { IsDatapath path.now }
     requires short { IsShort text.now }
-    ensures gives { IfOk result (λ given. AreGivenIn text.now path.now given.places) }
-    ensures err { IfErr result IsError }
+    ensures count { IfOk result (λ given. length given.lines ≡ length given.places) }
+    ensures given { IfOk result (IsGivenIn text.now path.now) }
+    ensures err { IfErr result (IsEndingOf (IsUngivenIn text.now path.now)) }
 {
     match text {
         Input::Whole(bytes) => match places_in(alloc, bytes.as_slice(), path) {
@@ -91,7 +94,7 @@ fn placed_over(
     ensures path { IfOk result (λ placed. placed.path ≡ path) }
     ensures plan { IfOk result (λ placed. IsPlanAt placed.places graph path placed.plan) }
     ensures gives { IfOk result (λ placed. AreGivenIn text.now placed.path placed.places) }
-    ensures err { IfErr result IsError }
+    ensures err { IfErr result (IsEndingOf (IsUnplacedIn text.now graph path)) }
 {
     let given = given_in(alloc, text, &path)?;
     let kept = registers_given_in(alloc, text, &path)?;
@@ -111,7 +114,7 @@ fn placed_over(
 fn placed_of(alloc: Global, inputs: &Inputs, text: &Input) -> Result<Placed, PlaceEnding>
     requires { IsShort text.now }
     ensures ok { IfOk result (IsInputPlacing inputs.now text.now) }
-    ensures err { IfErr result IsError }
+    ensures err { IfErr result (IsNoInputPlacing inputs.now text.now) }
 {
     let accepted = source_in(alloc, &inputs.source)?;
     let path = datapath_in(alloc, &inputs.datapath)?;
@@ -141,7 +144,7 @@ fn make<D: Desk>(
         (D.view desk.new) }
     ensures ok { IfOk result (IsMadeOf (ArePlaced source.now datapath.now plan.now) plan.now (D.view desk.old)
         (D.view desk.new)) }
-    ensures err { IfErr result IsError }
+    ensures err { IfErr result (IsNotMade source.now datapath.now plan.now (D.view desk.old) (D.view desk.new)) }
 {
     let inputs = read_inputs(alloc, desk, source, datapath)?;
     let text = read_input(alloc, desk, plan)?;
@@ -161,6 +164,9 @@ pub fn place<D: Desk>(
 ) -> PlaceEnding
     requires { output.now ≢ plan.now }
     ensures faults { FaultsNeverFall (D.view desk.old) (D.view desk.new) }
+    // When each ending comes, so that the first of several faults is told, and what it leaves.
+    ensures answer { IsPlaceAnswer source.now datapath.now plan.now output.now (D.view desk.old) (D.view desk.new)
+        result }
     // What is written where it is done: the solution of the source, as microcode of the plan that is given.
     ensures headline { IsDone result → IfSpecified (HasTheSolution source.now datapath.now output.now)
         (D.view desk.old).files (D.view desk.new).files }

@@ -1,5 +1,5 @@
 -- A line says one register of one copy, or is wrong in one way, and not both.
-use Rattle.std.proofs.Common.{◌≡◌, ◌∙◌, refl, sym, ap, arith, below_more, ℕ, zero, suc, ◌<◌, ◌^◌, List}
+use Rattle.std.proofs.Common.{◌≡◌, ◌∙◌, inl, inr, refl, sym, ap, arith, ℕ, zero, suc, ◌+◌, ◌<◌, ◌≤◌, ◌^◌, codes}
 use Rattle.datapath.specs.Allowed.{IsDatapath}
 use Rattle.datapath.specs.declared.types.Datapath.{Datapath}
 use Rattle.operations.specs.declared.units.PortRef.{PortRef}
@@ -7,53 +7,279 @@ use Rattle.plan_core.specs.Hardware.{port_of}
 use Rattle.plan_core.proofs.OneHeight.{neither_less}
 use Rattle.given_registers.specs.declared.given.GivenRegister.{GivenRegister}
 use Rattle.place_file.specs.Given.{IsNumber, IsUnitNamed}
-use Rattle.place_file.specs.Registers.{RegisterSaid, SaysRegister, IsRight, cause_at, IsBadRegisterLine}
+use Rattle.place_file.specs.Registers.{RegisterSaid, SaysRegister, AreRightBefore, IsFirstWrong, IsBadRegisterLine}
 use Rattle.place_file.specs.declared.fault.RegisterLineCause.{RegisterLineCause}
 use Rattle.place_file.specs.declared.fault.RegisterLineCause.TheVariants.{Form, Number, Unit as UnknownUnit}
 use Rattle.place_file.proofs.OneLine.{one_number, one_unit}
 
 module _ (d : Datapath) (said : RegisterSaid) where
-  abbrev Right : ℕ → Type 0
-  Right k = IsRight d said k
+  abbrev Before : ℕ → Type 0
+  Before k = AreRightBefore d said k
 
-  -- all words before word k are right
-  abbrev pub AreRight : ℕ → Type 0
-  AreRight k = (j : ℕ) → j < k → Right j
+  abbrev FirstWrong : ℕ → Type 0
+  FirstWrong k = IsFirstWrong d said k
 
-  pub right_one : AreRight 1
-  right_one = below_more (IsRight d said) 0 (λ j less. absurd (omega (arith, less))) tt
+  -- What holds where word k is the first that is wrong.
+  pub wrong_register : (((n : ℕ) × IsNumber (2 ^ 8) said.register n) → ⊥)
+      → FirstWrong 1
+  wrong_register wrong = record {
+    before = record {
+      register = λ less. absurd (omega (arith, less));
+      unit_label = λ less. absurd (omega (arith, less));
+      unit = λ less. absurd (omega (arith, less));
+      port_label = λ less. absurd (omega (arith, less));
+      port = λ less. absurd (omega (arith, less));
+      node_label = λ less. absurd (omega (arith, less));
+      node = λ less. absurd (omega (arith, less));
+      copy_label = λ less. absurd (omega (arith, less));
+      copy = λ less. absurd (omega (arith, less));
+    };
+    wrong = λ b. wrong (b.register (omega arith));
+  }
 
-  pub next_right : (k : ℕ) → AreRight k → Right k → AreRight (k + 1)
-  next_right k before here = below_more (IsRight d said) k before here
+  pub wrong_unit_label : ((n : ℕ) × IsNumber (2 ^ 8) said.register n)
+      → (said.unit_label ≡ codes "unit" → ⊥)
+      → FirstWrong 2
+  wrong_unit_label register wrong = record {
+    before = record {
+      register = λ less. register;
+      unit_label = λ less. absurd (omega (arith, less));
+      unit = λ less. absurd (omega (arith, less));
+      port_label = λ less. absurd (omega (arith, less));
+      port = λ less. absurd (omega (arith, less));
+      node_label = λ less. absurd (omega (arith, less));
+      node = λ less. absurd (omega (arith, less));
+      copy_label = λ less. absurd (omega (arith, less));
+      copy = λ less. absurd (omega (arith, less));
+    };
+    wrong = λ b. wrong (b.unit_label (omega arith));
+  }
 
-  pub bad_at : (k : ℕ) → AreRight k → (Right k → ⊥) → IsBadRegisterLine d said (cause_at k)
-  bad_at k before wrong = record { k = k; before = before; wrong = wrong; cause_is = refl }
+  pub wrong_unit : ((n : ℕ) × IsNumber (2 ^ 8) said.register n)
+      → (said.unit_label ≡ codes "unit")
+      → (((u : ℕ) × IsUnitNamed d said.unit u) → ⊥)
+      → FirstWrong 3
+  wrong_unit register unit_label wrong = record {
+    before = record {
+      register = λ less. register;
+      unit_label = λ less. unit_label;
+      unit = λ less. absurd (omega (arith, less));
+      port_label = λ less. absurd (omega (arith, less));
+      port = λ less. absurd (omega (arith, less));
+      node_label = λ less. absurd (omega (arith, less));
+      node = λ less. absurd (omega (arith, less));
+      copy_label = λ less. absurd (omega (arith, less));
+      copy = λ less. absurd (omega (arith, less));
+    };
+    wrong = λ b. wrong (b.unit (omega arith));
+  }
+
+  pub wrong_port_label : ((n : ℕ) × IsNumber (2 ^ 8) said.register n)
+      → (said.unit_label ≡ codes "unit")
+      → ((u : ℕ) × IsUnitNamed d said.unit u)
+      → (said.port_label ≡ codes "port" → ⊥)
+      → FirstWrong 4
+  wrong_port_label register unit_label unit wrong = record {
+    before = record {
+      register = λ less. register;
+      unit_label = λ less. unit_label;
+      unit = λ less. unit;
+      port_label = λ less. absurd (omega (arith, less));
+      port = λ less. absurd (omega (arith, less));
+      node_label = λ less. absurd (omega (arith, less));
+      node = λ less. absurd (omega (arith, less));
+      copy_label = λ less. absurd (omega (arith, less));
+      copy = λ less. absurd (omega (arith, less));
+    };
+    wrong = λ b. wrong (b.port_label (omega arith));
+  }
+
+  pub wrong_port : ((n : ℕ) × IsNumber (2 ^ 8) said.register n)
+      → (said.unit_label ≡ codes "unit")
+      → ((u : ℕ) × IsUnitNamed d said.unit u)
+      → (said.port_label ≡ codes "port")
+      → (((n : ℕ) × IsNumber (2 ^ 8) said.port n) → ⊥)
+      → FirstWrong 5
+  wrong_port register unit_label unit port_label wrong = record {
+    before = record {
+      register = λ less. register;
+      unit_label = λ less. unit_label;
+      unit = λ less. unit;
+      port_label = λ less. port_label;
+      port = λ less. absurd (omega (arith, less));
+      node_label = λ less. absurd (omega (arith, less));
+      node = λ less. absurd (omega (arith, less));
+      copy_label = λ less. absurd (omega (arith, less));
+      copy = λ less. absurd (omega (arith, less));
+    };
+    wrong = λ b. wrong (b.port (omega arith));
+  }
+
+  pub wrong_node_label : ((n : ℕ) × IsNumber (2 ^ 8) said.register n)
+      → (said.unit_label ≡ codes "unit")
+      → ((u : ℕ) × IsUnitNamed d said.unit u)
+      → (said.port_label ≡ codes "port")
+      → ((n : ℕ) × IsNumber (2 ^ 8) said.port n)
+      → (said.node_label ≡ codes "node" → ⊥)
+      → FirstWrong 6
+  wrong_node_label register unit_label unit port_label port wrong = record {
+    before = record {
+      register = λ less. register;
+      unit_label = λ less. unit_label;
+      unit = λ less. unit;
+      port_label = λ less. port_label;
+      port = λ less. port;
+      node_label = λ less. absurd (omega (arith, less));
+      node = λ less. absurd (omega (arith, less));
+      copy_label = λ less. absurd (omega (arith, less));
+      copy = λ less. absurd (omega (arith, less));
+    };
+    wrong = λ b. wrong (b.node_label (omega arith));
+  }
+
+  pub wrong_node : ((n : ℕ) × IsNumber (2 ^ 8) said.register n)
+      → (said.unit_label ≡ codes "unit")
+      → ((u : ℕ) × IsUnitNamed d said.unit u)
+      → (said.port_label ≡ codes "port")
+      → ((n : ℕ) × IsNumber (2 ^ 8) said.port n)
+      → (said.node_label ≡ codes "node")
+      → (((n : ℕ) × IsNumber (2 ^ 32) said.node n) → ⊥)
+      → FirstWrong 7
+  wrong_node register unit_label unit port_label port node_label wrong = record {
+    before = record {
+      register = λ less. register;
+      unit_label = λ less. unit_label;
+      unit = λ less. unit;
+      port_label = λ less. port_label;
+      port = λ less. port;
+      node_label = λ less. node_label;
+      node = λ less. absurd (omega (arith, less));
+      copy_label = λ less. absurd (omega (arith, less));
+      copy = λ less. absurd (omega (arith, less));
+    };
+    wrong = λ b. wrong (b.node (omega arith));
+  }
+
+  pub wrong_copy_label : ((n : ℕ) × IsNumber (2 ^ 8) said.register n)
+      → (said.unit_label ≡ codes "unit")
+      → ((u : ℕ) × IsUnitNamed d said.unit u)
+      → (said.port_label ≡ codes "port")
+      → ((n : ℕ) × IsNumber (2 ^ 8) said.port n)
+      → (said.node_label ≡ codes "node")
+      → ((n : ℕ) × IsNumber (2 ^ 32) said.node n)
+      → (said.copy_label ≡ codes "copy" → ⊥)
+      → FirstWrong 8
+  wrong_copy_label register unit_label unit port_label port node_label node wrong = record {
+    before = record {
+      register = λ less. register;
+      unit_label = λ less. unit_label;
+      unit = λ less. unit;
+      port_label = λ less. port_label;
+      port = λ less. port;
+      node_label = λ less. node_label;
+      node = λ less. node;
+      copy_label = λ less. absurd (omega (arith, less));
+      copy = λ less. absurd (omega (arith, less));
+    };
+    wrong = λ b. wrong (b.copy_label (omega arith));
+  }
+
+  pub wrong_copy : ((n : ℕ) × IsNumber (2 ^ 8) said.register n)
+      → (said.unit_label ≡ codes "unit")
+      → ((u : ℕ) × IsUnitNamed d said.unit u)
+      → (said.port_label ≡ codes "port")
+      → ((n : ℕ) × IsNumber (2 ^ 8) said.port n)
+      → (said.node_label ≡ codes "node")
+      → ((n : ℕ) × IsNumber (2 ^ 32) said.node n)
+      → (said.copy_label ≡ codes "copy")
+      → (((n : ℕ) × IsNumber (2 ^ 8) said.copy n) → ⊥)
+      → FirstWrong 9
+  wrong_copy register unit_label unit port_label port node_label node copy_label wrong = record {
+    before = record {
+      register = λ less. register;
+      unit_label = λ less. unit_label;
+      unit = λ less. unit;
+      port_label = λ less. port_label;
+      port = λ less. port;
+      node_label = λ less. node_label;
+      node = λ less. node;
+      copy_label = λ less. copy_label;
+      copy = λ less. absurd (omega (arith, less));
+    };
+    wrong = λ b. wrong (b.copy (omega arith));
+  }
+
+  fewer : (j k : ℕ) → j ≤ k → Before k → Before j
+  fewer j k low b = record {
+    register = λ less. b.register (omega (arith, less, low));
+    unit_label = λ less. b.unit_label (omega (arith, less, low));
+    unit = λ less. b.unit (omega (arith, less, low));
+    port_label = λ less. b.port_label (omega (arith, less, low));
+    port = λ less. b.port (omega (arith, less, low));
+    node_label = λ less. b.node_label (omega (arith, less, low));
+    node = λ less. b.node (omega (arith, less, low));
+    copy_label = λ less. b.copy_label (omega (arith, less, low));
+    copy = λ less. b.copy (omega (arith, less, low));
+  }
+
+  -- there is one such word
+  not_later : (j k : ℕ) → FirstWrong j → FirstWrong k → j < k → ⊥
+  not_later j k x y less = x.wrong (fewer (j + 1) k (omega (arith, less)) y.before)
+
+  one_wrong : (j k : ℕ) → FirstWrong j → FirstWrong k → j ≡ k
+  one_wrong j k x y = neither_less j k (not_later j k x y) (not_later k j y x)
+
+  -- labels stand at the even places
+  by_turns : ℕ → RegisterLineCause
+  by_turns zero = Form
+  by_turns (suc zero) = Number
+  by_turns (suc (suc k)) = by_turns k
+
+  cause_at : ℕ → RegisterLineCause
+  cause_at (suc (suc (suc zero))) = UnknownUnit
+  cause_at k = by_turns k
+
+  wrong_at : (cause : RegisterLineCause)
+      → IsBadRegisterLine d said cause
+      → (k : ℕ) × FirstWrong k × (cause ≡ cause_at k)
+  wrong_at Form (inl x) = (2, x, refl)
+  wrong_at Form (inr (inl x)) = (4, x, refl)
+  wrong_at Form (inr (inr (inl x))) = (6, x, refl)
+  wrong_at Form (inr (inr (inr x))) = (8, x, refl)
+  wrong_at Number (inl x) = (1, x, refl)
+  wrong_at Number (inr (inl x)) = (5, x, refl)
+  wrong_at Number (inr (inr (inl x))) = (7, x, refl)
+  wrong_at Number (inr (inr (inr x))) = (9, x, refl)
+  wrong_at UnknownUnit x = (3, x, refl)
 
   pub one_bad : (c e : RegisterLineCause) → IsBadRegisterLine d said c → IsBadRegisterLine d said e → c ≡ e
   one_bad c e x y =
-      let same = neither_less x.k y.k (λ less. x.wrong (y.before x.k less)) (λ less. y.wrong (x.before y.k less)) in
-      x.cause_is ∙ ap cause_at same ∙ sym y.cause_is
+      let a = wrong_at c x in
+      let b = wrong_at e y in
+      a.2 ∙ ap cause_at (one_wrong a.0 b.0 a.1 b.1) ∙ sym b.2
 
   -- in a line that says a register all words are right
-  all_right : (g : GivenRegister) → SaysRegister d said g → (k : ℕ) → Right k
-  all_right g says zero = tt
-  all_right g says 1 = (g.register, says.register)
-  all_right g says 2 = says.unit_label
-  all_right g says 3 = (g.port.unit, says.unit)
-  all_right g says 4 = says.port_label
-  all_right g says 5 = (g.port.port, says.port)
-  all_right g says 6 = says.node_label
-  all_right g says 7 = (g.node, says.node)
-  all_right g says 8 = says.copy_label
-  all_right g says 9 = (g.copy, says.copy)
-  all_right g says (suc (suc (suc (suc (suc (suc (suc (suc (suc (suc k)))))))))) = tt
+  all_right : (g : GivenRegister) → SaysRegister d said g → (k : ℕ) → Before k
+  all_right g says k = record {
+    register = λ less. (g.register, says.register);
+    unit_label = λ less. says.unit_label;
+    unit = λ less. (g.port.unit, says.unit);
+    port_label = λ less. says.port_label;
+    port = λ less. (g.port.port, says.port);
+    node_label = λ less. says.node_label;
+    node = λ less. (g.node, says.node);
+    copy_label = λ less. says.copy_label;
+    copy = λ less. (g.copy, says.copy);
+  }
 
   pub good_not_bad : (g : GivenRegister)
       → SaysRegister d said g
       → (cause : RegisterLineCause)
       → IsBadRegisterLine d said cause
       → ⊥
-  good_not_bad g says cause bad = bad.wrong (all_right g says bad.k)
+  good_not_bad g says cause bad =
+      let at = wrong_at cause bad in
+      at.1.wrong (all_right g says (at.0 + 1))
 
   -- one register is said
   pub one_register : IsDatapath d

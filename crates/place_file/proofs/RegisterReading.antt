@@ -1,6 +1,7 @@
 -- The registers that the lines of a text give, read one after another.
 use Rattle.std.proofs.Common.{◌≡◌, ◌∙◌, ◌⊎◌, inl, inr, ⊎_elim, refl, sym, ap, ap₂, subst, arith, ℕ, ◌+◌, ◌<◌, ◌≤◌, List}
-use Rattle.std.proofs.Common.{[], ◌∷◌, ◌++◌, length, Contains, ext_get_or, Option, Some, None, codes}
+use Rattle.std.proofs.Common.{[], ◌∷◌, ◌++◌, length, Contains, ext_get_or, Option, Some, None, Result, Ok, Err, codes}
+use Rattle.std.proofs.Common.{drop, length-drop, Bor}
 use Rattle.std.specs.Prelude.{slice_index_or}
 use Rattle.std.specs.List.{AllPairs}
 use Rattle.std.proofs.lemmas.Bool.{cases_lt}
@@ -15,6 +16,8 @@ use Rattle.place_file.specs.Lines.{lines_of, line_at}
 use Rattle.place_file.specs.Registers.{RegisterSaid, words_by, SaysRegister, IsBadRegisterLine, HasRegisterLine}
 use Rattle.place_file.specs.Registers.{GivesRegister, AreRegistersBy, HasBadRegisterLine, IsRegistersFault}
 use Rattle.place_file.specs.Private.Registers.{IsReadRegister, IsUnreadRegister}
+use Rattle.place_file.specs.Private.Words.{lines_left}
+use Rattle.place_file.proofs.Reading.{line_there, line_is}
 use Rattle.place_file.specs.declared.registers.GivenRegisters.{GivenRegisters}
 use Rattle.place_file.specs.declared.fault.RegistersFault.{RegistersFault}
 use Rattle.place_file.specs.declared.fault.RegistersFault.TheVariants.{Line, Memory}
@@ -151,8 +154,31 @@ module _ (d : Datapath) (text : List ℕ) where
     }
     first_bad Memory there h = absurd h
 
+    -- the same of the line as it is read
+    module _ (bytes : List ℕ) (left : List (List ℕ)) (is : bytes ∷ left ≡ drop i (lines_of text)) where
+      pub read_bad : (f : RegistersFault) → IsUnreadRegister d (words_by bytes) (i + 1) f → IsRegistersFault d text f
+      read_bad f h =
+          first_bad f (line_there (lines_of text) i bytes left is)
+          (subst (λ (line : List ℕ). IsUnreadRegister d (words_by line) (i + 1) f)
+          (sym (line_is (lines_of text) i bytes left is)) h)
+
+  pub gives_read : (i : ℕ) (bytes : List ℕ) (left : List (List ℕ))
+      → bytes ∷ left ≡ drop i (lines_of text)
+      → (g : GivenRegister)
+      → ((words_by bytes).head ≡ codes "register") × SaysRegister d (words_by bytes) g
+      → GivesRegister d text i g
+  gives_read i bytes left is g read =
+      let line = sym (line_is (lines_of text) i bytes left is) in
+      record {
+        line = record {
+          there = line_there (lines_of text) i bytes left is;
+          head = subst (λ (l : List ℕ). (words_by l).head ≡ codes "register") line read.0;
+        };
+        says = subst (λ (l : List ℕ). SaysRegister d (words_by l) g) line read.1;
+      }
+
   -- where all lines are read
-  pub all_read : (registers : List GivenRegister) (lines : List ℕ)
+  all_read : (registers : List GivenRegister) (lines : List ℕ)
       → AreFirst (length (lines_of text)) registers lines
       → AreRegistersBy d text (record { registers = registers; lines = lines })
   all_read registers lines b = record {
@@ -161,6 +187,18 @@ module _ (d : Datapath) (text : List ℕ) where
     all = λ i h. b.all i h.there h;
     order = b.order;
   }
+
+  pub all_left : (i : ℕ) (registers : List GivenRegister) (lines : List ℕ) (left : Option (Bor (List ℕ)))
+      → left ≡ None
+      → lines_left left ≡ drop i (lines_of text)
+      → i ≤ length (lines_of text)
+      → AreFirst i registers lines
+      → AreRegistersBy d text (record { registers = registers; lines = lines })
+  all_left i registers lines left none is within b =
+      let count = ap length (sym (ap lines_left none) ∙ is) in
+      all_read registers lines
+      (subst (λ (n : ℕ). AreFirst n registers lines)
+      (omega (arith, count, length-drop i (lines_of text), within)) b)
 
   module _ (allowed : IsDatapath d) where
     module _ (x y : GivenRegisters) (a : AreRegistersBy d text x) (b : AreRegistersBy d text y) where
@@ -173,7 +211,7 @@ module _ (d : Datapath) (text : List ℕ) where
             other.0,
             there,
             get_or_default y.lines other.0 v 0 there ∙ other.2 ∙ sym each.1
-            ∙ sym (get_or_default x.lines h.0 v 0 h.1) ∙ h.2,
+                ∙ sym (get_or_default x.lines h.0 v 0 h.1) ∙ h.2,
           )
 
     one_lines : (x y : GivenRegisters)
@@ -233,6 +271,17 @@ module _ (d : Datapath) (text : List ℕ) where
         (subst (λ (n : ℕ). IsBadRegisterLine d (words_by (line_at text n)) c) at x.bad) y.bad)
     one_fault Memory h x y = absurd x
     one_fault (Line line c) Memory x y = absurd y
+
+    -- What is answered where a line is wrong.
+    module _ (r : Result GivenRegisters RegistersFault) (f : RegistersFault) (is : r ≡ Err f)
+        (why : IsRegistersFault d text f) where
+      pub fails_found : (given : GivenRegisters) → AreRegistersBy d text given → (r ≡ Ok given) ⊎ (r ≡ Err Memory)
+      fails_found given by = absurd (given_or_not given by f why)
+
+      pub fails_refused : (fault : RegistersFault)
+          → IsRegistersFault d text fault
+          → (r ≡ Err fault) ⊎ (r ≡ Err Memory)
+      fails_refused fault h = inl (is ∙ ap (λ (x : RegistersFault). Err x) (one_fault f fault why h))
 
 -- what the code reads of a line
 pub read_some : (d : Datapath) (said : RegisterSaid) (r : Option GivenRegister) (g : GivenRegister)

@@ -1,5 +1,5 @@
 -- Which registers a text gives, in lines as `register 2 unit add port 0 node 3 copy 0`.
-use Rattle.std.specs.Prelude.{◌≡◌, ℕ, ◌+◌, ◌<◌, ◌^◌, List, length, slice_index_or, codes, Unit}
+use Rattle.std.specs.Prelude.{◌≡◌, ◌⊎◌, ℕ, ◌+◌, ◌<◌, ◌^◌, List, length, slice_index_or, codes}
 use Rattle.std.specs.List.{AllPairs}
 use Rattle.datapath.specs.declared.types.Datapath.{Datapath}
 use Rattle.given_registers.specs.Around.{given_at}
@@ -52,34 +52,28 @@ module _ (d : Datapath) (said : RegisterSaid) where
     pub copy_label : said.copy_label ≡ codes "copy"
     pub copy : IsNumber (2 ^ 8) said.copy g.copy
 
-  -- word k is right, from 1 on
-  abbrev pub IsRight : (k : ℕ) → Type 0
-  IsRight 1 = (n : ℕ) × IsNumber (2 ^ 8) said.register n
-  IsRight 2 = said.unit_label ≡ codes "unit"
-  IsRight 3 = (u : ℕ) × IsUnitNamed d said.unit u
-  IsRight 4 = said.port_label ≡ codes "port"
-  IsRight 5 = (n : ℕ) × IsNumber (2 ^ 8) said.port n
-  IsRight 6 = said.node_label ≡ codes "node"
-  IsRight 7 = (n : ℕ) × IsNumber (2 ^ 32) said.node n
-  IsRight 8 = said.copy_label ≡ codes "copy"
-  IsRight 9 = (n : ℕ) × IsNumber (2 ^ 8) said.copy n
-  IsRight k = Unit {0}
+  -- the words before word k, from 0 on, are right behind the first one
+  pub record AreRightBefore (k : ℕ) : Type 0 where
+    pub register : 1 < k → (n : ℕ) × IsNumber (2 ^ 8) said.register n
+    pub unit_label : 2 < k → said.unit_label ≡ codes "unit"
+    pub unit : 3 < k → (u : ℕ) × IsUnitNamed d said.unit u
+    pub port_label : 4 < k → said.port_label ≡ codes "port"
+    pub port : 5 < k → (n : ℕ) × IsNumber (2 ^ 8) said.port n
+    pub node_label : 6 < k → said.node_label ≡ codes "node"
+    pub node : 7 < k → (n : ℕ) × IsNumber (2 ^ 32) said.node n
+    pub copy_label : 8 < k → said.copy_label ≡ codes "copy"
+    pub copy : 9 < k → (n : ℕ) × IsNumber (2 ^ 8) said.copy n
 
--- what is wrong where word k is the first that is
-abbrev pub cause_at : (k : ℕ) → RegisterLineCause
-cause_at 1 = Number
-cause_at 3 = UnknownUnit
-cause_at 5 = Number
-cause_at 7 = Number
-cause_at 9 = Number
-cause_at k = Form
+  -- word k is the first that is wrong
+  pub record IsFirstWrong (k : ℕ) : Type 0 where
+    pub before : AreRightBefore k
+    pub wrong : AreRightBefore (k + 1) → ⊥
 
--- the first word that is wrong
-pub record IsBadRegisterLine (d : Datapath) (said : RegisterSaid) (cause : RegisterLineCause) : Type 0 where
-  pub k : ℕ
-  pub before : (j : ℕ) → j < k → IsRight d said j
-  pub wrong : IsRight d said k → ⊥
-  pub cause_is : cause ≡ cause_at k
+  -- the first word that is wrong: one for which another stands, no number, or no name of a unit
+  abbrev pub IsBadRegisterLine : RegisterLineCause → Type 0
+  IsBadRegisterLine Form = IsFirstWrong 2 ⊎ IsFirstWrong 4 ⊎ IsFirstWrong 6 ⊎ IsFirstWrong 8
+  IsBadRegisterLine Number = IsFirstWrong 1 ⊎ IsFirstWrong 5 ⊎ IsFirstWrong 7 ⊎ IsFirstWrong 9
+  IsBadRegisterLine UnknownUnit = IsFirstWrong 3
 
 module _ (d : Datapath) (text : List ℕ) where
   -- line i of the text, from 0 on, is there and begins with the word `register`

@@ -5,3 +5,5 @@ pub mod OneCause
 pub mod OneFault
 pub mod PlansAt
 pub mod GivenPlans
+pub mod PlaceTests
+pub mod WorkedPlaces

@@ -6,3 +6,4 @@ pub mod OneFault
 pub mod OwnPlaces
 pub mod PlansAt
 mod WorkedPlaces
+mod WorkedFaults

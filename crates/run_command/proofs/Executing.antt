@@ -142,10 +142,10 @@ module _ (src datapath : Name) (old new : View) (planned : Planned) (plan : IsRe
 
 -- The machine of a plan was made, and then it ran over the files. `Tells` says what a status tells of a source and a
 -- datapath, `IsPlanned` which plan is made, and `rows_of` which rows of the program's solution the machine puts.
-module _ {P : Type 0} (Tells : Status → (source datapath : List ℕ) → Type 0)
+module _ {P : Type 0} {Reads : Name → Type 0} (Tells : Status → (source datapath : List ℕ) → Type 0)
     (IsPlanned : (source datapath : List ℕ) → Program → Datapath → P → Type 0)
     (rows_of : Program → Words → (count : ℕ) → Rows) (src datapath samples out : Name) (old mid new : View)
-    (machine : Snapshot) (first : OnlyReads (IsAmong (src ∷ datapath ∷ [])) old mid)
+    (machine : Snapshot) (first : OnlyReads Reads old mid)
     (is : IsPlannedMachine IsPlanned rows_of src datapath old mid machine) where
   abbrev micro : Microprogram
   micro = micro_of machine.code

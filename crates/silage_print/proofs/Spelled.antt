@@ -1,5 +1,5 @@
 -- How the bytes of a text are put together.
-use Rattle.std.proofs.Common.{◌≡◌, Bool, true, false, ℕ, List, [], ◌∷◌, ◌++◌, Some, refl, sym, ap, ◌∙◌}
+use Rattle.std.proofs.Common.{◌≡◌, Bool, true, false, ℕ, zero, suc, List, [], ◌∷◌, ◌++◌, Some, refl, sym, ap, ◌∙◌}
 use Rattle.std.proofs.Common.{get_or, arith}
 use Rattle.std.specs.List.{flat_map}
 use Rattle.std.specs.Prelude.{nat_eq, decimal, if◌then◌else◌, length, map, take, drop, ◌<◌, ◌≤◌, ◌+◌, ◌-◌, slice_get}
@@ -13,6 +13,11 @@ use Rattle.silage_lex.specs.declared.TokenKind.TheVariants as kind
 use Rattle.silage_print.specs.Text.{spaced, spelled, opened, closed, sign_text, number, listed, after_comma, filled}
 use Rattle.silage_print.specs.Text.{pointed}
 use Rattle.silage_print.specs.Private.Puts.{Puts}
+
+pub text_at : {A : Type 0} (xs : List A) (n : ℕ) (x d : A) → slice_get xs n ≡ Some x → get_or xs n d ≡ x
+text_at [] n x d e = cc
+text_at (y ∷ xs) zero x d e = cc
+text_at (y ∷ xs) (suc n) x d e = text_at xs n x d e
 
 pub symbol_spelled : (n : ℕ) (text : List ℕ)
     → slice_get symbols n ≡ Some text

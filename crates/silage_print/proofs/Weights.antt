@@ -36,7 +36,6 @@ use Rattle.silage_print.specs.Text.{mode_text, operator_mark, operator_precedenc
 use Rattle.silage_print.specs.Text.{expr_precedence, is_unsigned, is_loose_operand, shift_mark, expr_text}
 use Rattle.silage_print.specs.Text.{branches_text}
 use Rattle.silage_print.proofs.Levels.{chain_level, rule_level}
-use mathlib.Core.Bool.{or-false}
 
 -- Tables of symbols.
 -- each row of a table
@@ -160,6 +159,10 @@ pub record IsFree (count : TokenKind → ℕ) : Type 0 where
   pub truth : (b : Bool) → count (word (truth_word b)) ≡ 0
   pub trunc : count (word keyword.TRUNC) ≡ 0
   pub comma : count (symbol punctuation.COMMA) ≡ 0
+
+or_false : (b : Bool) → (b || false) ≡ b
+or_false true = refl
+or_false false = refl
 
 -- Where each kind of token counts so much.
 module _ (count : TokenKind → ℕ) where
@@ -511,7 +514,7 @@ module _ (count : TokenKind → ℕ) where
     operand_by ts false e i j u x alone =
         let same : extra (is_loose_operand e) ≡ extra (nat_lt (expr_precedence e) 6) =
         ap (λ t. extra (nat_lt (expr_precedence e) 6 || t)) u
-        ∙ ap extra (or-false (nat_lt (expr_precedence e) 6)) in
+        ∙ ap extra (or_false (nat_lt (expr_precedence e) 6)) in
         omega (arith, same, x)
 
     mutual

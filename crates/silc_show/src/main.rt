@@ -15,7 +15,6 @@ mod manifests;
 mod names;
 mod operation_names;
 mod origins;
-mod owners;
 mod page;
 mod path;
 mod plans;

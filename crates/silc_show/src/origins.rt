@@ -14,7 +14,6 @@ use crate::definitions::{Definition, defined_at, definitions};
 use crate::elements::put_signal;
 use crate::flat::expanded_of;
 use crate::graph::{accepted_of, put_operands};
-use crate::owners::owners_of;
 use crate::page::{Page, Refused};
 use crate::path::datapath_of;
 use crate::source::line_of;
@@ -25,6 +24,7 @@ use fix_word::Op;
 use flow_graph::build;
 use front_end::Accepted;
 use lists::List;
+use node_names::{Owner, owners_of};
 use operations::operation_name;
 use signal_graph::{FlatProgram, Graph, Node};
 use silage_tree::{Program, Top};
@@ -36,8 +36,8 @@ struct Origins<'a> {
     program: &'a Program,
     elements: &'a Elements,
     definitions: &'a [Definition],
-    /// For each node of the graph the number of its element.
-    owners: &'a [u32],
+    /// For each node of the graph its element.
+    owners: &'a [Owner],
 }
 
 /// The name of an element, after that of its function where this is not main's instance.
@@ -95,14 +95,14 @@ fn put_nodes(page: &mut Page, of: &Origins<'_>, nodes: &List<Node>) {
         page.number("node ", number);
         page.number(" graph ", graph_node);
         if let Some(owner) = of.owners.get(graph_node) {
-            put_origin(page, of, *owner);
+            put_origin(page, of, owner.element);
         }
         put_operation(page, node);
     }
 }
 
-/// For each node of the graph of a flat program the number of its element.
-fn node_owners(page: &mut Page, flat: &FlatProgram) -> Result<Vec<u32>, Refused>
+/// For each node of the graph of a flat program its element.
+fn node_owners(page: &mut Page, flat: &FlatProgram) -> Result<Vec<Owner>, Refused>
     requires { IsFlat (flat_form.view flat.now) }
 {
     let Ok(whole) = build(page.alloc, flat) else {

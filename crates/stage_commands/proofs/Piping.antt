@@ -37,7 +37,7 @@ use Rattle.statuses.specs.declared.status.Status.{Status}
 use Rattle.statuses.specs.declared.status.Status.TheVariants.{Done}
 
 -- a microprogram that runs the graph of a program late runs the program's one solution late
-staged_runs : (stages : ℕ) (p : Program) (g : Graph) (micro : Microprogram)
+pub staged_runs : (stages : ℕ) (p : Program) (g : Graph) (micro : Microprogram)
     → IsGraphFor p g
     → RunsSolutionLate (stages - 1) g micro
     → RunsRowsOf (staged_out stages) p micro

@@ -13,4 +13,4 @@ mod samples;
 pub use piper::pipe;
 pub use planning::{StagePlanned, read_stage_plan, stage_plan_of};
 pub use printer::stages;
-pub use samples::pipe_samples;
+pub use samples::{Ready, pipe_ready, pipe_samples};

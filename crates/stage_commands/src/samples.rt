@@ -18,7 +18,7 @@ use statuses::Status;
 
 /// A machine before its first sample, and the rows that its samples are read into.
 #[derive(Drop)]
-pub(crate) struct Ready {
+pub struct Ready {
     pub machine: GuardedMachine,
     pub rows: Rows,
 }
@@ -82,7 +82,7 @@ fn pipe_files<D: Desk>(
 }
 
 /// Runs the machine over SAMPLES into OUT, and gives it after the last sample.
-pub(crate) fn pipe_ready<D: Desk>(
+pub fn pipe_ready<D: Desk>(
     ready: Ready,
     desk: &mut D,
     samples: &str,

@@ -7,5 +7,5 @@
 mod reporter;
 mod status;
 
-pub use reporter::report;
+pub use reporter::{report, report_error};
 pub use status::{Ending, ImageFault, SampleFault, Status, UnitRefusal, code};

@@ -12,11 +12,11 @@ use std::fmt::{self, Write};
 type Piece = ArrayString<80>;
 
 /// The line of an error, up to the name of the element.
-fn write_error(piece: &mut Piece, ending: &Ending) -> fmt::Result {
+fn write_error(piece: &mut Piece, program: &str, ending: &Ending) -> fmt::Result {
     let status = ending.status;
     match ending.line {
-        Some(number) => write!(piece, "silc: line {number}: {status}"),
-        None => write!(piece, "silc: {status}"),
+        Some(number) => write!(piece, "{program}: line {number}: {status}"),
+        None => write!(piece, "{program}: {status}"),
     }
 }
 
@@ -41,13 +41,14 @@ fn write_subscripts(piece: &mut Piece, element: &Element) -> fmt::Result {
     }
 }
 
-/// Reports an error up to the end of its line.
-fn report_error<D: Desk>(desk: &mut D, ending: &Ending)
+/// Reports an error that names no unit, in one line that begins with the name of the program. That has at most 18 bytes,
+/// else the line is cut off. It takes no memory, and names of elements have any length.
+pub fn report_error<D: Desk>(desk: &mut D, program: &str, ending: &Ending)
     ensures faults { FaultsNeverFall (D.view desk.old) (D.view desk.new) }
     ensures unchanged { IsUnchanged (D.view desk.old) (D.view desk.new) }
 {
     let mut piece = Piece::new();
-    let _ = write_error(&mut piece, ending);
+    let _ = write_error(&mut piece, program, ending);
     if let Some(element) = named_element(ending) {
         let _ = piece.write_str(" ");
         desk.complain(piece.as_bytes());
@@ -129,6 +130,6 @@ pub fn report<D: Desk>(desk: &mut D, ending: &Ending)
 {
     match unit_error(ending) {
         Some(error) => report_unit(desk, &error),
-        None => report_error(desk, ending),
+        None => report_error(desk, "silc", ending),
     }
 }

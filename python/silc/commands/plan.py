@@ -6,11 +6,12 @@ usage: tools/plan [--stages S] [--seconds N] [--registers] [--period P] [--roomy
 
 PLAN, or standard output, gets the text that `silc schedule` prints, or with --stages, 1 to 4, that of `silc stages`:
 lines `node V cycle T unit NAME`, with the buses and the registers. It is looked for in the least period that is found
-in N seconds, 60 where nothing is said: by list scheduling and modulo scheduling over several priorities, and by a SAT
-solver of Debian where one is there (cadical or minisat), from the bound upward. It begins with the plan of the rules,
-so that no period is lost. Standard error tells how it goes on, and at the end whether the period is the least: no plan
-is below the bound of resources, critical path and recurrences, and what the solver refutes has no plan with any buses
-and any registers.
+in N seconds, 60 where nothing is said: over one stage by dives, which narrow the windows of all nodes after each that
+they place; by list scheduling and modulo scheduling over several priorities; and by a SAT solver of Debian where one is
+there (cadical or minisat), from the bound upward. It begins with the plan of the rules, so that no period is lost.
+Standard error tells how it goes on, and at the end whether the period is the least: no plan is below the bound of
+resources, critical path and recurrences, and what probing of the windows or the solver refutes has no plan with any
+buses and any registers.
 
 --registers lessens the registers by their bits, as wide as the words that come into each file, in 40 % of the time, or
 in all of it with --period: first the copies that make the microprogram longer, then the bits. --period looks for a plan

@@ -5,12 +5,15 @@ the datapath with the period of the plan and with files and memories that it jus
 """
 from __future__ import annotations
 
+import fcntl
 import json
+import os
 import subprocess
 import tempfile
 import time
 import tomllib
 from collections.abc import Callable, Iterable, Iterator
+from contextlib import contextmanager
 from dataclasses import dataclass
 from pathlib import Path
 
@@ -22,7 +25,7 @@ from silc.planning.check import NoPlan, check
 from silc.planning.places import Places
 from silc.planning.registers import bits_of
 from silc.planning.ruled import Ruled, fitted, places_of
-from silc.planning.search import Finder, Known, Wanted, spans
+from silc.planning.search import PROBING, Finder, Known, Wanted, spans
 from silc.planning.windows import Bounds
 from silc.programs import command, in_checkout, with_package
 from silc.running import STDIN, STDOUT, ran
@@ -38,7 +41,7 @@ CORES = {"ice40": ("logic cells", "flip-flops", "block memories"),
          "xilinx": ("logic cells", "flip-flops", "memories in cells", "block memories", "multipliers")}
 CORES_HEAD = ("| Example | Processor | Plan | Period | LUT4 | Flip-flops | RAM40 | xilinx: cells | Flip-flops | LUTRAM "
               "| RAMB | DSP48 |\n|---|---|---|---|---|---|---|---|---|---|---|---|\n")
-BY_BOUND, BY_SOLVER, OPEN = "yes, by the bound", "yes, by the solver", "open: "
+BY_BOUND, BY_PROBING, BY_SOLVER, OPEN = "yes, by the bound", "yes, by probing", "yes, by the solver", "open: "
 # The share of the time that goes to the registers, beside that for the period.
 REGISTERS = 0.25
 Say = Callable[[str], None]
@@ -145,7 +148,7 @@ class Kept:
     def check_row(self, row: str | None, best: Places) -> None:
         least = row.split(" | ")[-1].rstrip(" |\n") if row else ""
         if row != self.row(best, least) or (least == BY_BOUND) != (best.period == self.known.bound) or \
-                least not in (BY_BOUND, BY_SOLVER) and not least.startswith(OPEN):
+                least not in (BY_BOUND, BY_PROBING, BY_SOLVER) and not least.startswith(OPEN):
             raise Wrong(f"its row is {row and row.strip()}, and not {self.row(best, least).strip()}")
 
     def check_rows(self, microcode: bytes, samples: bytes) -> None:
@@ -181,8 +184,9 @@ def least_of(places: Places, known: Known) -> str:
     """The last cell of a row: whether the period is the least."""
     if places.period == known.bound:
         return BY_BOUND
-    left = known.open(places.period)
-    return OPEN + spans(left) if left else BY_SOLVER
+    if left := known.open(places.period):
+        return OPEN + spans(left)
+    return BY_PROBING if known.refuted.get(places.period - 1) == PROBING else BY_SOLVER
 
 
 def periods_in(text: str) -> set[int]:
@@ -205,14 +209,26 @@ def rows_in(page: str, begin: str = BEGIN) -> dict[tuple[str, str], str]:
 
 
 def with_row(row: str, key: tuple[str, str], begin: str = BEGIN, head: str = HEAD) -> None:
-    """Puts a row into a table of the page."""
-    text = PAGE.read_text()
-    rows = rows_in(text, begin)
-    rows[key] = row
-    before, found, rest = text.partition(begin)
-    assert found, f"{PAGE} has no line {begin}"
-    after = rest.partition(END)[2]
-    put_whole(PAGE, before + begin + head + "".join(row for _, row in sorted(rows.items())) + END + after)
+    """Puts a row into a table of the page, while no other run does."""
+    with alone():
+        text = PAGE.read_text()
+        rows = rows_in(text, begin)
+        rows[key] = row
+        before, found, rest = text.partition(begin)
+        assert found, f"{PAGE} has no line {begin}"
+        after = rest.partition(END)[2]
+        put_whole(PAGE, before + begin + head + "".join(row for _, row in sorted(rows.items())) + END + after)
+
+
+@contextmanager
+def alone() -> Iterator[None]:
+    """Waits until no other run changes the page, and keeps others from it."""
+    folder = os.open(PAGE.parent, os.O_RDONLY)
+    try:
+        fcntl.flock(folder, fcntl.LOCK_EX)
+        yield
+    finally:
+        os.close(folder)
 
 
 def synthesized(microcode: bytes, datapath: Path) -> Iterator[object]:

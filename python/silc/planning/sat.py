@@ -64,13 +64,14 @@ class Clauses:
 
 
 class Encoding:
-    """The clauses of a problem in a period. `TooShort` where a bound refutes it. Beside a plan of another period they
-    have only places that are so many cycles from its own at most, as far as the period is shorter."""
+    """The clauses of a problem in a period. `TooShort` where a bound refutes it. The windows may be narrower than those
+    by what waits, where no plan has others. Beside some cycles they have only places that are so near to these."""
 
-    def __init__(self, problem: Problem, period: int, near: Places | None = None, radius: int = 0) -> None:
-        self.problem, self.period, self.windows = problem, period, windows_of(problem, period)
+    def __init__(self, problem: Problem, period: int, windows: Windows | None = None, near: list[int] | None = None,
+                 radius: int = 0) -> None:
+        self.problem, self.period, self.windows = problem, period, windows or windows_of(problem, period)
         if near:
-            self.windows = narrowed(self.windows, [cycle * period // near.period for cycle in near.cycles], radius)
+            self.windows = narrowed(self.windows, near, radius)
         self.is_whole = near is None
         self.clauses = Clauses()
         self.true = self.clauses.new()

@@ -2,25 +2,31 @@
 from __future__ import annotations
 
 import time
+from collections import Counter
 from collections.abc import Callable, Sequence
 from dataclasses import dataclass, field
 from random import Random
 
 from silc.hardware.words import Range
+from silc.planning.dive import ORDERS, Dive
 from silc.planning.modulo import found
+from silc.planning.narrow import Narrowed
 from silc.planning.places import Places, Unfit
 from silc.planning.problem import Problem
 from silc.planning.registers import Annealing
 from silc.planning.sat import FOUND, REFUTED, Encoding, Solving
-from silc.planning.windows import Bounds
+from silc.planning.windows import Bounds, TooShort, Windows
 
-# The shares of the time: of the first look by heuristics, of the periods where registers come after, of a fit.
-FIRST, PERIODS, FIT = 0.15, 0.6, 0.1
-# The share of the time that a solver has for a period at first.
-FIRST_SHARE, LEAST_SHARE = 0.03, 1.0
+# The shares of the time: of probing at first, of the first look by heuristics, of the periods where registers come
+# after, of a fit. Then of probing before a period is solved.
+PROBED, FIRST, PERIODS, FIT = 0.1, 0.5, 0.6, 0.1
+SOLVED_PROBED = 0.3
+# The share of the time that a solver has for a period at first, and where it is dived in meanwhile.
+FIRST_SHARE, DIVED_SHARE, LEAST_SHARE = 0.03, 0.1, 1.0
 LONGEST_LOOK, SLICE, WAIT = 2.0, 0.2, 0.01
-# How far a plan is at first from that of a longer period beside which it is looked for.
-RADIUS = 6
+# How far a plan is at first from that of a longer period beside which it is looked for, and from the cycles of a dive.
+RADIUS, NEAR = 6, (0, 2, 5)
+PROBING = "probing"
 
 
 @dataclass
@@ -39,7 +45,8 @@ class Wanted:
 
 @dataclass
 class Known:
-    """What is known of periods: the least that no bound refutes, with why none is below, and what a solver refuted."""
+    """What is known of periods: the least that no bound refutes, with why none is below, and what probing or a solver
+    refuted."""
     bound: int
     reason: str
     refuted: dict[int, str] = field(default_factory=dict)
@@ -54,7 +61,7 @@ class Known:
             return f"{period} is not known to be the least: {spans(left)} {'is' if len(left) == 1 else 'are'} open"
         by = ", ".join(f"{spans([at for at in self.refuted if self.refuted[at] == why and at < period])} by {why}"
                        for why in sorted(set(self.refuted.values())))
-        shorter = f"; the solver refutes {by}" if period > self.bound else ""
+        shorter = f"; refuted: {by}" if period > self.bound else ""
         return f"{period} is the least: none is below {self.bound} ({self.reason}){shorter}"
 
 
@@ -84,11 +91,18 @@ class Finder:
         bound = bounds.least()
         self.known = Known(bound, bounds.reason(bound))
         self.rng, self.turn, self.began = Random(wanted.seed), 0, time.monotonic()
+        # When the search for periods ends.
+        self.end = self.began
         # Of periods plans for whose registers there is no room.
         self.crowded: dict[int, Places] = {}
         # Periods in which the solver's plan has other buses than the first that are free.
         self.unrouted: set[int] = set()
         self.radius, self.is_stopped = RADIUS, False
+        # Over one stage the windows of periods, as far as they are narrowed, the weights of their nodes for dives, and
+        # how many dives there were.
+        self.narrowed: dict[int, Narrowed] = {}
+        self.weights: dict[int, list[int]] = {}
+        self.dives: Counter[int] = Counter()
 
     def run(self) -> None:
         """Searches until the time is over, all is known, or it is interrupted."""
@@ -119,16 +133,18 @@ class Finder:
     def find(self, until: float) -> None:
         """Looks by heuristics first, and then solves periods, each in its turn for twice as long as before. Where only
         plans without room for their registers are left, it looks for room again."""
-        now = time.monotonic()
+        now, self.end = time.monotonic(), until
+        self.refute(now + PROBED * (until - now))
         self.look(now + FIRST * (until - now))
-        share = max(LEAST_SHARE, FIRST_SHARE * (until - now))
+        share = max(LEAST_SHARE, (FIRST_SHARE if self.problem.stages > 1 else DIVED_SHARE) * (until - now))
         while time.monotonic() < until:
             left = self.left()
             if left and self.wanted.solver:
                 self.descend(until, share)
                 for period in turns(self.left()):
                     if time.monotonic() < until and period in self.left():
-                        self.solve(Encoding(self.problem, period), min(until, time.monotonic() + share))
+                        is_last = len(self.left()) == 1
+                        self.settle(period, until if is_last else min(until, time.monotonic() + share))
                 share, self.radius = 2 * share, 2 * self.radius
             elif left:
                 self.slice(until)
@@ -139,25 +155,93 @@ class Finder:
         if self.wanted.solver and (left := self.left()):
             self.say(f"{self.wanted.solver} did not end in its time for period {spans(left)}")
 
+    def refute(self, until: float) -> None:
+        """Probes periods from the bound upward, over one stage, up to the first that this does not refute."""
+        while self.problem.stages == 1 and (left := self.left()) and time.monotonic() < until:
+            if self.windows(left[0], until):
+                return
+
+    def windows(self, period: int, until: float) -> Windows | None:
+        """The windows of an open period over one stage, as far as probing narrows them by then; none where it refutes
+        the period, and then each that is shorter."""
+        try:
+            if period not in self.narrowed:
+                self.narrowed[period] = Narrowed(self.problem, period)
+            self.narrowed[period].probe(until)
+            return self.narrowed[period].windows()
+        except TooShort:
+            shorter = self.known.open(period + 1)
+            self.known.refuted |= dict.fromkeys(shorter, PROBING)
+            self.say(f"period {spans(shorter)} is refuted by {PROBING}")
+            return None
+
+    def settle(self, period: int, until: float) -> None:
+        """Solves a period, with its windows as far as they are narrowed in a part of the time."""
+        windows = None
+        if self.problem.stages == 1:
+            windows = self.windows(period, time.monotonic() + SOLVED_PROBED * (until - time.monotonic()))
+        if period in self.left():
+            self.solve(Encoding(self.problem, period, windows), until, self.problem.stages == 1)
+
     def descend(self, until: float, share: float) -> None:
         """Solves the next shorter period near the best plan, as often as that goes."""
         while self.best and (left := self.left()) and time.monotonic() < until:
-            encoding = Encoding(self.problem, left[-1], self.best, self.radius)
-            self.solve(encoding, min(until, time.monotonic() + share))
+            near = [cycle * left[-1] // self.best.period for cycle in self.best.cycles]
+            encoding = Encoding(self.problem, left[-1], None, near, self.radius)
+            self.solve(encoding, min(until, time.monotonic() + share), self.problem.stages == 1)
             if left[-1] in self.left():
                 return
 
+    def dive(self, period: int, until: float) -> bool:
+        """One dive in a period over one stage, in the next order. Whether it comes to a plan."""
+        if self.problem.stages > 1 or not self.windows(period, time.monotonic()):
+            return False
+        weight = self.weights.setdefault(period, [0] * len(self.problem.nodes))
+        dive = Dive(self.narrowed[period], weight, self.rng, self.dives[period])
+        self.dives[period] += 1
+        cycles = dive.go_on(until)
+        return cycles is not None and self.fits(period, cycles, until)
+
+    def fits(self, period: int, cycles: list[int], until: float) -> bool:
+        """Whether there are units for the cycles of a dive, which a solver finds where nodes have several, in cycles
+        nearby if need be."""
+        if all(len(node.units) == 1 for node in self.problem.nodes):
+            places = Places(self.problem, period, [node.units[0] for node in self.problem.nodes], cycles)
+            try:
+                places.route()
+            except Unfit:
+                return False
+            return self.keep(places, "a dive")
+        windows = self.narrowed[period].windows()
+        for radius in NEAR:
+            if self.wanted.solver and period in self.left():
+                encoding = Encoding(self.problem, period, windows, cycles, radius)
+                self.solve(encoding, min(until, time.monotonic() + FIT * self.wanted.seconds))
+        return period not in self.left()
+
     def look(self, until: float) -> None:
-        """Halves what is left between the bound and the best, by heuristics alone."""
+        """Tries the least open period, and halves what is left between that and the best, by heuristics alone."""
+        if self.problem.stages == 1 and self.left() and self.tried(self.left()[0], until):
+            return
         low, high = self.low(), self.limit()
         while low < high and time.monotonic() < until:
             middle = (low + high) // 2
-            if self.tried(middle, min(until, time.monotonic() + LONGEST_LOOK)):
+            if self.tried(middle, until):
                 high = self.limit()
             else:
                 low = middle + 1
 
     def tried(self, period: int, until: float) -> bool:
+        """A dive in each order, and then several short searches for a plan in a period."""
+        stages = self.problem.stages
+        if stages == 1 and period in self.left():
+            self.windows(period, time.monotonic() + PROBED * (until - time.monotonic()))
+        for _ in ORDERS:
+            if period in self.left() and time.monotonic() < until and self.dive(period, until):
+                return True
+        return self.searched(period, min(until, time.monotonic() + (LONGEST_LOOK if stages > 1 else SLICE)))
+
+    def searched(self, period: int, until: float) -> bool:
         """Several short searches for a plan in a period."""
         while time.monotonic() < until:
             places = found(self.problem, period, self.rng, self.turn, min(until, time.monotonic() + LONGEST_LOOK / 4))
@@ -172,15 +256,20 @@ class Finder:
         if not left:
             return
         period = self.rng.choice(left[-2:])
-        self.tried(period, min(until, time.monotonic() + SLICE))
+        if not self.dive(period, until):
+            self.searched(period, min(until, time.monotonic() + SLICE))
 
-    def solve(self, encoding: Encoding, until: float) -> None:
-        """Has the solver say whether a period has a plan, or near the best plan one."""
+    def solve(self, encoding: Encoding, until: float, is_dived: bool = False) -> None:
+        """Has the solver say whether a period has a plan, or near some cycles one, and dives in the period meanwhile
+        where that is meant."""
         assert self.wanted.solver
         solving = Solving(self.wanted.solver, encoding)
         try:
             while solving.status() is None and time.monotonic() < until and encoding.period < self.limit():
-                time.sleep(WAIT)
+                if not is_dived:
+                    time.sleep(WAIT)
+                elif self.dive(encoding.period, self.end):
+                    return
             self.told(encoding, solving)
         finally:
             solving.stop()

@@ -1,10 +1,14 @@
 -- The parts of a labelled image that are looked at one after another, as far as they are.
-use Rattle.std.specs.Prelude.{◌≡◌, ℕ, ◌-◌, ◌/◌, ◌<◌, ◌≤◌, [], length, IsSome}
+use Rattle.std.specs.Prelude.{◌≡◌, ℕ, ◌-◌, ◌/◌, ◌<◌, ◌≤◌, ◌⊎◌, List, [], length, IsSome}
+use Rattle.operations.specs.Operations.{operands}
 use Rattle.signal_graph.specs.declared.graph.Graph.{Graph}
+use Rattle.signal_graph.specs.declared.graph.Node.{Node}
+use Rattle.plan_core.specs.Operands.{edge_of}
 use Rattle.micro_image.specs.declared.image.Image.{Image}
 use Rattle.micro_image.specs.Fields.{nth, microprogram_of, unit_of}
 use Rattle.image_labels.specs.declared.label.Certificate.{Certificate}
 use Rattle.image_labels.specs.Labels.{word_in, issued_in}
+use Rattle.image_labels.specs.Rules.{representative, AreSameOperands, IsCopy}
 use Rattle.image_labels.specs.Labelled.{IsFitCycle, IsRegisterStart, IsCellStart, IsRowWord, PutsOn}
 
 module _ (g : Graph) (image : Image) (certificate : Certificate) where
@@ -65,3 +69,12 @@ IsRowPut image sample count = (j : ℕ) → j < count → IsRowWord image sample
 -- all are in the first samples
 abbrev pub AreRowsPut : Image → (count : ℕ) → Type 0
 AreRowsPut image count = (sample : ℕ) → sample < count → IsRowPut image sample image.outs
+
+-- the operands of two nodes are the same
+abbrev pub HasSameOperands : (nodes : List ℕ) → (v u : ℕ) → (a b : Node) → Type 0
+HasSameOperands nodes v u a b =
+    (q : ℕ) → q < operands a.op → AreSameOperands nodes v u (edge_of a q) (edge_of b q)
+
+-- the node stands for itself, or is a copy of the one that does
+abbrev pub IsOwnOrCopy : Graph → (nodes : List ℕ) → (v : ℕ) → Type 0
+IsOwnOrCopy g nodes v = (representative nodes v ≡ v) ⊎ IsCopy g nodes v (representative nodes v)

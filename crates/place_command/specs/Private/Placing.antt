@@ -12,7 +12,7 @@ use Rattle.plan_soundness.specs.Run.{RunsSolution}
 use Rattle.placed_plan.specs.Places.{IsPlanAt}
 use Rattle.placed_plan.specs.declared.place.Place.{Place}
 use Rattle.place_file.specs.Given.{GivesPlaces}
-use Rattle.silc_files.specs.Limits.{microcode_limit}
+use Rattle.silc_files.specs.Limits.{text_limit, microcode_limit}
 use Rattle.silc_files.specs.Reading.{IsInput}
 use Rattle.silc_files.specs.declared.files.Input.{Input}
 use Rattle.plan_commands.specs.Headline.{SpellsOnly}
@@ -20,9 +20,10 @@ use Rattle.plan_commands.specs.Planning.{IsInputPlanBy}
 use Rattle.plan_commands.specs.declared.planning.Inputs.{Inputs}
 use Rattle.place_command.specs.declared.placer.Placed.{Placed}
 
--- the text of the input gives the places
+-- the text of the input gives the places, and is not too long
 abbrev pub AreGivenIn : Input → Datapath → List Place → Type 0
-AreGivenIn input d places = (text : Content) → IsInput text input → GivesPlaces d text places
+AreGivenIn input d places =
+    (text : Content) → IsInput text input → (length text ≤ text_limit) × GivesPlaces d text places
 
 -- the plan of the inputs, with the places that the text gives
 pub record IsInputPlacing (inputs : Inputs) (text : Input) (placed : Placed) : Type 0 where

@@ -8,7 +8,8 @@ pub returns : goal.returns
 returns c =
     let is : IsLabelled c.args.graph.now c.args.image.now c.args.certificate.now =
     labelled c.args.graph.now c.args.image.now c.args.certificate.now c.requires.image _ (omega arith) (omega arith)
-    c.in_ok-check_cycles.ensures.ok c.in_ok-check_registers.ensures.ok c.in_ok-check_cells.ensures.ok
+    c.in_ok-check_copies.ensures.ok c.in_ok-check_cycles.ensures.ok c.in_ok-check_registers.ensures.ok
+    c.in_ok-check_cells.ensures.ok
     c.in_ok-check_rows.ensures.ok in
     record {
       runs =

@@ -1,0 +1,62 @@
+-- The endings of the command's parts.
+use Rattle.std.specs.Prelude.{◌≡◌, ◌⊎◌, ◌<◌, ◌≤◌, List, ℕ, length, IfSome}
+use Rattle.datapath.specs.declared.types.Datapath.{Datapath}
+use Rattle.desk_core.specs.View.{Name, Content, View}
+use Rattle.place_file.specs.Given.{IsGivenBy}
+use Rattle.place_file.specs.declared.given.Given.{Given}
+use Rattle.placed_plan.specs.declared.fault.PlaceFault.{PlaceFault}
+use Rattle.plan_commands.specs.Planning.{IsNoInputPlanOf}
+use Rattle.plan_commands.specs.declared.planning.Inputs.{Inputs}
+use Rattle.signal_graph.specs.declared.graph.Graph.{Graph}
+use Rattle.silc_files.specs.Limits.{text_limit}
+use Rattle.silc_files.specs.Reading.{IsInput}
+use Rattle.silc_files.specs.declared.files.Input.{Input}
+use Rattle.statuses.specs.declared.status.Status.TheVariants.{Memory}
+use Rattle.place_command.specs.Refusals.{named_node, IsTextRefused, IsMisplaced, IsRefusedPlan, IsInputRefusal}
+use Rattle.place_command.specs.Refusals.{IsInputRefused, IsPlaceError, IsPlanRejected}
+use Rattle.place_command.specs.declared.ending.PlaceEnding.{PlaceEnding}
+use Rattle.place_command.specs.declared.ending.PlaceEnding.TheVariants.{Told, Refused}
+use Rattle.place_command.specs.declared.ending.Refusal.{Refusal}
+
+-- the node that the fault names has a line among these
+abbrev pub HasItsLine : List ℕ → PlaceFault → Type 0
+HasItsLine lines fault = IfSome (named_node fault) (λ v. v < length lines)
+
+-- the ending tells this refusal, or want of memory where that is why
+abbrev pub IsToldAs : (IsMemory : Type 0) → Refusal → PlaceEnding → Type 0
+IsToldAs IsMemory why (Told ending) = IsMemory × (ending.status ≡ Memory)
+IsToldAs IsMemory why (Refused refusal) = (IsMemory → ⊥) × (refusal ≡ why)
+
+-- the ending tells a refusal of which this holds, or want of memory
+abbrev pub IsEndingOf : (Tells : Refusal → Type 0) → PlaceEnding → Type 0
+IsEndingOf Tells (Told ending) = ending.status ≡ Memory
+IsEndingOf Tells (Refused refusal) = Tells refusal
+
+-- the input's text gives the places, and is not too long
+abbrev pub IsGivenIn : Input → Datapath → Given → Type 0
+IsGivenIn input d given = (text : Content) → IsInput text input → (length text ≤ text_limit) × IsGivenBy d text given
+
+-- it gives none
+abbrev pub IsUngivenIn : Input → Datapath → Refusal → Type 0
+IsUngivenIn input d refusal = (text : Content) → IsInput text input → IsTextRefused d text refusal
+
+-- it gives none, or places with which the graph has no plan
+abbrev pub IsUnplacedIn : Input → Graph → Datapath → Refusal → Type 0
+IsUnplacedIn input g d refusal =
+    (text : Content) → IsInput text input → IsTextRefused d text refusal ⊎ IsMisplaced g d text refusal
+
+-- why the inputs have no plan with the places that the text gives
+abbrev pub IsNoInputPlacing : Inputs → Input → PlaceEnding → Type 0
+IsNoInputPlacing inputs text (Told ending) =
+    IsNoInputPlanOf IsInputRefusal IsInputRefused inputs.source inputs.datapath ending.status
+IsNoInputPlacing inputs text (Refused refusal) =
+    (s d t : Content)
+    → IsInput s inputs.source
+    → IsInput d inputs.datapath
+    → IsInput t text
+    → IsRefusedPlan refusal s d t
+
+-- why no microcode is made
+abbrev pub IsNotMade : (src datapath plan : Name) → View → View → PlaceEnding → Type 0
+IsNotMade src datapath plan old new (Told ending) = IsPlaceError src datapath plan old new ending.status
+IsNotMade src datapath plan old new (Refused refusal) = IsPlanRejected src datapath plan refusal old new

@@ -1,0 +1,4 @@
+pub mod Endings
+pub mod Piped
+pub mod Unpiped
+pub mod Private
