@@ -8,9 +8,12 @@ use Rattle.micro_image.specs.declared.image.Image.{Image}
 use Rattle.plan_core.specs.declared.plan.Plan.{Plan}
 use Rattle.plan_soundness.specs.ImageOf.{IsImageOf, width_of}
 use Rattle.plan_soundness.specs.Units.{IsRouted}
-use Rattle.placed_plan.specs.Places.{IsPlanAt, IsGiven, IsNarrow}
+use Rattle.placed_plan.specs.GivenPlans.{IsPlanGiven, HasRegisters}
+use Rattle.placed_plan.specs.Places.{IsGiven, IsNarrow}
 use Rattle.placed_plan.specs.declared.place.Place.{Place}
+use Rattle.given_registers.specs.declared.given.GivenRegister.{GivenRegister}
 use Rattle.place_file.specs.Given.{GivesPlaces}
+use Rattle.place_file.specs.Registers.{GivesRegisters}
 use Rattle.silage_meaning.specs.Solves.{input_types, output_types}
 use Rattle.silage_syntax.specs.Tree.{Program}
 use Rattle.silc_files.specs.Limits.{text_limit, microcode_limit}
@@ -24,7 +27,8 @@ use Rattle.place_command.specs.declared.ending.PlaceEnding.TheVariants.{Told, Re
 use Rattle.place_command.specs.Refusals.{IsPlaceError, IsPlanRejected}
 
 -- The program of the source has a plan over the datapath of the file, in which each node stands where its line of the
--- text says, and the text has no other lines that begin with `node`, and not too many bytes. The microcode spells the
+-- text says, and each copy for which a line gives a register has that one. The text has no other lines that begin with
+-- `node` or with `register`, and not too many bytes. The microcode spells the
 -- image of that plan in version 2 and nothing else, and that image runs the program's one solution in the datapath's
 -- period.
 pub record IsPlaced (source datapath text microcode : List ℕ) : Type 0 where
@@ -33,9 +37,13 @@ pub record IsPlaced (source datapath text microcode : List ℕ) : Type 0 where
   pub places : List Place
   pub within : length text ≤ text_limit
   pub gives : GivesPlaces path text places
+  pub registers : List GivenRegister
+  pub gives_registers : GivesRegisters path text registers
   pub plan : Plan
-  pub planned : IsPlannedOverBy IsProgramGraph (IsPlanAt places) source datapath program path plan
+  pub planned :
+      IsPlannedOverBy IsProgramGraph (λ g d. IsPlanGiven places g d registers) source datapath program path plan
   pub given : IsGiven places plan
+  pub given_registers : HasRegisters registers plan
   pub routed : IsRouted path plan
   pub narrow : IsNarrow path plan
   pub image : Image

@@ -2,8 +2,11 @@
 
 ghost use Rattle.std.specs.Prelude.{◌≡◌, None};
 ghost use Rattle.place_command.specs.Placed.{place_code};
-ghost use Rattle.place_command.specs.Refusals.{text_refusal, named_node, place_refusal};
-ghost use Rattle.place_command.specs.Private.Endings.{HasItsLine, IsToldAs};
+ghost use Rattle.place_command.specs.Refusals.{text_refusal, named_node, place_refusal, register_refusal, plan_refusal};
+ghost use Rattle.place_command.specs.Private.Endings.{HasItsLine, HasItsRegister, HasItsPlace, IsMemoryOf, IsToldAs};
+ghost use Rattle.place_command.specs.declared.ending.Refusal.TheVariants.{Registers as RegistersRefused};
+ghost use Rattle.given_registers.specs.declared.fault.RegisterFault.TheVariants as of_registers;
+ghost use Rattle.place_file.specs.declared.fault.RegistersFault.TheVariants as of_text;
 ghost use Rattle.place_file.specs.declared.fault.GivenFault.TheVariants as of_given;
 ghost use Rattle.placed_plan.specs.declared.fault.PlaceFault.TheVariants as of_place;
 
@@ -118,21 +121,19 @@ pub(crate) fn misplaced(fault: PlaceFault, lines: &[u32]) -> PlaceEnding
 
 /// The ending where lifetimes have no registers around those that these lines give.
 fn unkept(fault: RegisterFault, lines: &[u32], given: &GivenRegisters) -> PlaceEnding
-    ensures { IsError result }
+    requires { HasItsRegister lines.now given.now fault }
+    ensures { IsToldAs (fault ≡ of_registers.Memory) (register_refusal lines.now given.now fault) result }
 {
     match fault {
         RegisterFault::Memory => PlaceEnding::from(Status::Memory),
         RegisterFault::Full { unit, port, node } => {
             misplaced(PlaceFault::FileFull { unit, port, node }, lines)
         }
-        RegisterFault::Given { index, cause } => match (given.lines.get(index), given.registers.get(index)) {
-            (Some(line), Some(register)) => PlaceEnding::Refused(Refusal::Register {
-                line: *line,
-                given: *register,
-                cause,
-            }),
-            _ => PlaceEnding::Refused(Refusal::TooLong),
-        },
+        RegisterFault::Given { index, cause } => PlaceEnding::Refused(Refusal::Register {
+            line: given.lines[index],
+            given: given.registers[index],
+            cause,
+        }),
     }
 }
 
@@ -142,7 +143,8 @@ pub(crate) fn unplanned(
     lines: &[u32],
     given: &GivenRegisters,
 ) -> PlaceEnding
-    ensures { IsError result }
+    requires { HasItsPlace lines.now given.now fault }
+    ensures { IsToldAs (IsMemoryOf fault) (plan_refusal lines.now given.now fault) result }
 {
     match fault {
         GivenPlanFault::Place(fault) => misplaced(fault, lines),
@@ -153,7 +155,7 @@ pub(crate) fn unplanned(
 
 /// The ending where a text gives no registers.
 pub(crate) fn registerless(fault: RegistersFault) -> PlaceEnding
-    ensures { IsError result }
+    ensures { IsToldAs (fault ≡ of_text.Memory) (RegistersRefused fault) result }
 {
     match fault {
         RegistersFault::Memory => PlaceEnding::from(Status::Memory),

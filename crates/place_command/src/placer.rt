@@ -1,21 +1,23 @@
 //! From files to microcode.
 
-ghost use Rattle.std.specs.Prelude.{◌≡◌, ◌≢◌, [], ◌∷◌, length, IfOk, IfErr};
+ghost use Rattle.std.specs.Prelude.{◌≡◌, ◌≢◌, ◌≤◌, [], ◌∷◌, length, IfOk, IfErr};
 ghost use Rattle.datapath.specs.Allowed.{IsDatapath};
 ghost use Rattle.desk_core.specs.Desk.{FaultsNeverFall, IfSpecified};
 ghost use Rattle.desk_core.specs.Whole.{IsUnchangedButInput};
 ghost use Rattle.signal_graph.specs.GraphRules.{IsGraph};
 ghost use Rattle.signal_graph.specs.GraphSolves.{IsGraphLoopless};
 ghost use Rattle.microcode_asm.specs.Planned.{IsAssemblable};
-ghost use Rattle.placed_plan.specs.Places.{IsPlanAt};
+ghost use Rattle.placed_plan.specs.GivenPlans.{IsPlanGiven};
 ghost use Rattle.silc_files.specs.Endings.{IsAmong, UsesOnly};
 ghost use Rattle.silc_files.specs.Reading.{IsShort, OnlyReads};
 ghost use Rattle.plan_commands.specs.Compile.{HasTheSolution};
 ghost use Rattle.plan_commands.specs.Compiling.{IsMadeOf};
 ghost use Rattle.place_command.specs.Placed.{ArePlaced, HasThePlan, IsPlaceAnswer, IsDone, IsUnmade};
-ghost use Rattle.place_command.specs.Private.Endings.{IsEndingOf, IsGivenIn, IsUngivenIn, IsUnplacedIn, IsNoInputPlacing};
-ghost use Rattle.place_command.specs.Private.Endings.{IsNotMade};
-ghost use Rattle.place_command.specs.Private.Placing.{AreGivenIn, IsInputPlacing, IsFeasibleMicrocode};
+ghost use Rattle.place_command.specs.Refusals.{IsTextRefused};
+ghost use Rattle.place_command.specs.Private.Endings.{IsEndingOf, AreToldBy, AreToldIn, IsUngivenIn, IsUnplacedIn};
+ghost use Rattle.place_command.specs.Private.Endings.{IsNoInputPlacing, IsNotMade};
+ghost use Rattle.place_command.specs.Private.Placing.{AreGivenIn, AreRegistersIn, IsInputPlacing, IsFeasibleMicrocode};
+ghost use Rattle.silc_files.specs.Limits.{text_limit};
 ghost use Rattle.statuses.specs.declared.status.Status.TheVariants.{Memory};
 
 use crate::ending::{PlaceEnding, Refusal, registerless, ungiven, unplanned};
@@ -43,39 +45,40 @@ pub(crate) struct Placed {
     pub registers: List<GivenRegister>,
 }
 
-/// The places that the input gives.
-fn given_in(alloc: Global, text: &Input, path: &Datapath) -> Result<Given, PlaceEnding>
+/// The places and the registers that a text gives.
+#[derive(Drop)]
+pub(crate) struct Told {
+    pub given: Given,
+    pub registers: GivenRegisters,
+}
+
+/// What the bytes of the input give.
+fn told_by(alloc: Global, text: &[u8], path: &Datapath) -> Result<Told, PlaceEnding>
     requires path { IsDatapath path.now }
-    requires short { IsShort text.now }
-    ensures count { IfOk result (λ given. length given.lines ≡ length given.places) }
-    ensures given { IfOk result (IsGivenIn text.now path.now) }
-    ensures err { IfErr result (IsEndingOf (IsUngivenIn text.now path.now)) }
+    requires short { length text.now ≤ text_limit }
+    ensures told { IfOk result (AreToldBy text.now path.now) }
+    ensures err { IfErr result (IsEndingOf (IsTextRefused path.now text.now)) }
 {
-    match text {
-        Input::Whole(bytes) => match places_in(alloc, bytes.as_slice(), path) {
-            Ok(given) => Ok(given),
-            Err(fault) => Err(ungiven(fault)),
-        },
-        Input::TooLong => Err(PlaceEnding::Refused(Refusal::TooLong)),
+    let given = match places_in(alloc, text, path) {
+        Ok(given) => given,
+        Err(fault) => return Err(ungiven(fault)),
+    };
+    match registers_in(alloc, text, path) {
+        Ok(registers) => Ok(Told { given, registers }),
+        Err(fault) => Err(registerless(fault)),
     }
 }
 
-/// The registers that the input gives.
-fn registers_given_in(
-    alloc: Global,
-    text: &Input,
-    path: &Datapath,
-) -> Result<GivenRegisters, PlaceEnding>
+/// What the input gives.
+fn told_in(alloc: Global, text: &Input, path: &Datapath) -> Result<Told, PlaceEnding>
     requires path { IsDatapath path.now }
     requires short { IsShort text.now }
-    ensures gives { IfOk result (λ given. AreRegistersIn text.now path.now given.registers) }
-    ensures err { IfErr result IsError }
+    ensures count { IfOk result (λ told. length told.given.lines ≡ length told.given.places) }
+    ensures told { IfOk result (AreToldIn text.now path.now) }
+    ensures err { IfErr result (IsEndingOf (IsUngivenIn text.now path.now)) }
 {
     match text {
-        Input::Whole(bytes) => match registers_in(alloc, bytes.as_slice(), path) {
-            Ok(given) => Ok(given),
-            Err(fault) => Err(registerless(fault)),
-        },
+        Input::Whole(bytes) => told_by(alloc, bytes.as_slice(), path),
         Input::TooLong => Err(PlaceEnding::Refused(Refusal::TooLong)),
     }
 }
@@ -92,21 +95,21 @@ fn placed_over(
     requires path { IsDatapath path }
     requires short { IsShort text.now }
     ensures path { IfOk result (λ placed. placed.path ≡ path) }
-    ensures plan { IfOk result (λ placed. IsPlanAt placed.places graph path placed.plan) }
+    ensures plan { IfOk result (λ placed. IsPlanGiven placed.places graph path placed.registers placed.plan) }
     ensures gives { IfOk result (λ placed. AreGivenIn text.now placed.path placed.places) }
+    ensures registers { IfOk result (λ placed. AreRegistersIn text.now placed.path placed.registers) }
     ensures err { IfErr result (IsEndingOf (IsUnplacedIn text.now graph path)) }
 {
-    let given = given_in(alloc, text, &path)?;
-    let kept = registers_given_in(alloc, text, &path)?;
+    let Told { given, registers } = told_in(alloc, text, &path)?;
     let places = given.places.as_slice();
-    match plan_given(alloc, graph, places, kept.registers.as_slice(), &path) {
+    match plan_given(alloc, graph, places, registers.registers.as_slice(), &path) {
         Ok(plan) => Ok(Placed {
             plan,
             path,
             places: given.places,
-            registers: kept.registers,
+            registers: registers.registers,
         }),
-        Err(fault) => Err(unplanned(fault, given.lines.as_slice(), &kept)),
+        Err(fault) => Err(unplanned(fault, given.lines.as_slice(), &registers)),
     }
 }
 

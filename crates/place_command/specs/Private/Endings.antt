@@ -3,8 +3,14 @@ use Rattle.std.specs.Prelude.{◌≡◌, ◌⊎◌, ◌<◌, ◌≤◌, List, �
 use Rattle.datapath.specs.declared.types.Datapath.{Datapath}
 use Rattle.desk_core.specs.View.{Name, Content, View}
 use Rattle.place_file.specs.Given.{IsGivenBy}
-use Rattle.place_file.specs.declared.given.Given.{Given}
+use Rattle.place_file.specs.Registers.{AreRegistersBy}
+use Rattle.place_file.specs.declared.registers.GivenRegisters.{GivenRegisters}
+use Rattle.given_registers.specs.declared.fault.RegisterFault.{RegisterFault}
+use Rattle.given_registers.specs.declared.fault.RegisterFault.TheVariants as of_registers
 use Rattle.placed_plan.specs.declared.fault.PlaceFault.{PlaceFault}
+use Rattle.placed_plan.specs.declared.fault.PlaceFault.TheVariants as of_place
+use Rattle.placed_plan.specs.declared.fault.GivenPlanFault.{GivenPlanFault}
+use Rattle.placed_plan.specs.declared.fault.GivenPlanFault.TheVariants as of_plan
 use Rattle.plan_commands.specs.Planning.{IsNoInputPlanOf}
 use Rattle.plan_commands.specs.declared.planning.Inputs.{Inputs}
 use Rattle.signal_graph.specs.declared.graph.Graph.{Graph}
@@ -17,10 +23,28 @@ use Rattle.place_command.specs.Refusals.{IsInputRefused, IsPlaceError, IsPlanRej
 use Rattle.place_command.specs.declared.ending.PlaceEnding.{PlaceEnding}
 use Rattle.place_command.specs.declared.ending.PlaceEnding.TheVariants.{Told, Refused}
 use Rattle.place_command.specs.declared.ending.Refusal.{Refusal}
+use Rattle.place_command.specs.declared.placer.Told.{Told as LinesTold}
 
 -- the node that the fault names has a line among these
 abbrev pub HasItsLine : List ℕ → PlaceFault → Type 0
 HasItsLine lines fault = IfSome (named_node fault) (λ v. v < length lines)
+
+-- so has the one of registers, or the register that it names is given
+abbrev pub HasItsRegister : List ℕ → GivenRegisters → RegisterFault → Type 0
+HasItsRegister lines given (of_registers.Given n cause) = (n < length given.registers) × (n < length given.lines)
+HasItsRegister lines given (of_registers.Full unit port v) = v < length lines
+HasItsRegister lines given of_registers.Memory = Unit {0}
+
+abbrev pub HasItsPlace : List ℕ → GivenRegisters → GivenPlanFault → Type 0
+HasItsPlace lines given (of_plan.Place fault) = HasItsLine lines fault
+HasItsPlace lines given (of_plan.Registers fault) = HasItsRegister lines given fault
+HasItsPlace lines given of_plan.Memory = Unit {0}
+
+-- the fault is want of memory
+abbrev pub IsMemoryOf : GivenPlanFault → Type 0
+IsMemoryOf (of_plan.Place fault) = fault ≡ of_place.Memory
+IsMemoryOf (of_plan.Registers fault) = fault ≡ of_registers.Memory
+IsMemoryOf of_plan.Memory = Unit {0}
 
 -- the ending tells this refusal, or want of memory where that is why
 abbrev pub IsToldAs : (IsMemory : Type 0) → Refusal → PlaceEnding → Type 0
@@ -32,9 +56,13 @@ abbrev pub IsEndingOf : (Tells : Refusal → Type 0) → PlaceEnding → Type 0
 IsEndingOf Tells (Told ending) = ending.status ≡ Memory
 IsEndingOf Tells (Refused refusal) = Tells refusal
 
--- the input's text gives the places, and is not too long
-abbrev pub IsGivenIn : Input → Datapath → Given → Type 0
-IsGivenIn input d given = (text : Content) → IsInput text input → (length text ≤ text_limit) × IsGivenBy d text given
+-- the text gives these places and registers
+abbrev pub AreToldBy : Content → Datapath → LinesTold → Type 0
+AreToldBy text d told = IsGivenBy d text told.given × AreRegistersBy d text told.registers
+
+-- the input's text does, and is not too long
+abbrev pub AreToldIn : Input → Datapath → LinesTold → Type 0
+AreToldIn input d told = (text : Content) → IsInput text input → (length text ≤ text_limit) × AreToldBy text d told
 
 -- it gives none
 abbrev pub IsUngivenIn : Input → Datapath → Refusal → Type 0

@@ -9,9 +9,11 @@ use Rattle.plan_core.specs.declared.plan.Plan.{Plan}
 use Rattle.plan_soundness.specs.Feasible.{IsFeasiblePlan}
 use Rattle.plan_soundness.specs.ImageOf.{IsImageOf}
 use Rattle.plan_soundness.specs.Run.{RunsSolution}
-use Rattle.placed_plan.specs.Places.{IsPlanAt}
+use Rattle.placed_plan.specs.GivenPlans.{IsPlanGiven}
 use Rattle.placed_plan.specs.declared.place.Place.{Place}
+use Rattle.given_registers.specs.declared.given.GivenRegister.{GivenRegister}
 use Rattle.place_file.specs.Given.{GivesPlaces}
+use Rattle.place_file.specs.Registers.{GivesRegisters}
 use Rattle.silc_files.specs.Limits.{text_limit, microcode_limit}
 use Rattle.silc_files.specs.Reading.{IsInput}
 use Rattle.silc_files.specs.declared.files.Input.{Input}
@@ -25,10 +27,17 @@ abbrev pub AreGivenIn : Input → Datapath → List Place → Type 0
 AreGivenIn input d places =
     (text : Content) → IsInput text input → (length text ≤ text_limit) × GivesPlaces d text places
 
--- the plan of the inputs, with the places that the text gives
+-- it gives the registers
+abbrev pub AreRegistersIn : Input → Datapath → List GivenRegister → Type 0
+AreRegistersIn input d registers = (text : Content) → IsInput text input → GivesRegisters d text registers
+
+-- the plan of the inputs, with the places and the registers that the text gives
 pub record IsInputPlacing (inputs : Inputs) (text : Input) (placed : Placed) : Type 0 where
-  pub plan : IsInputPlanBy (IsPlanAt placed.places) inputs.source inputs.datapath placed.path placed.plan
+  pub plan :
+      IsInputPlanBy (λ g d. IsPlanGiven placed.places g d placed.registers) inputs.source inputs.datapath placed.path
+      placed.plan
   pub gives : AreGivenIn text placed.path placed.places
+  pub gives_registers : AreRegistersIn text placed.path placed.registers
 
 -- the microcode spells the image of the plan, which runs each graph of which the plan is a feasible one
 pub record IsFeasibleMicrocode (d : Datapath) (plan : Plan) (microcode : Content) : Type 0 where
