@@ -1,11 +1,11 @@
 -- A line says one register of one copy, or is wrong in one way, and not both.
-use Rattle.std.proofs.Common.{◌≡◌, ◌∙◌, inl, inr, refl, sym, ap, arith, ℕ, zero, suc, ◌+◌, ◌<◌, ◌≤◌, ◌^◌, List, [], codes}
+use Rattle.std.proofs.Common.{◌≡◌, ◌∙◌, inl, inr, refl, sym, ap, arith, ℕ, zero, suc, ◌+◌, ◌<◌, ◌≤◌, ◌^◌, List, []}
+use Rattle.std.proofs.Common.{codes}
 use Rattle.std.proofs.Common.{drop, drop-drop}
 use Rattle.std.specs.Prelude.{slice_index_or}
 use Rattle.std.proofs.lemmas.List.{get_or-drop}
 use Rattle.datapath.specs.Allowed.{IsDatapath}
 use Rattle.datapath.specs.declared.types.Datapath.{Datapath}
-use Rattle.operations.specs.declared.units.PortRef.{PortRef}
 use Rattle.plan_core.specs.Hardware.{port_of}
 use Rattle.plan_core.proofs.OneHeight.{neither_less}
 use Rattle.given_registers.specs.declared.given.GivenRegister.{GivenRegister}
@@ -298,8 +298,10 @@ module _ (d : Datapath) (said : RegisterSaid) where
       let node = one_number (2 ^ 32) (2 ^ 32) said.node g.node h.node x.node y.node in
       let copy = one_number (2 ^ 8) (2 ^ 8) said.copy g.copy h.copy x.copy y.copy in
       ap (λ (n : ℕ). record { node = n; port = g.port; copy = g.copy; register = g.register }) node
-      ∙ ap (λ (n : ℕ). record { node = h.node; port = port_of n g.port.port; copy = g.copy; register = g.register }) unit
-      ∙ ap (λ (n : ℕ). record { node = h.node; port = port_of h.port.unit n; copy = g.copy; register = g.register }) port
+      ∙ ap (λ (n : ℕ). record { node = h.node; port = port_of n g.port.port; copy = g.copy; register = g.register })
+          unit
+      ∙ ap (λ (n : ℕ). record { node = h.node; port = port_of h.port.unit n; copy = g.copy; register = g.register })
+          port
       ∙ ap (λ (n : ℕ). record { node = h.node; port = h.port; copy = n; register = g.register }) copy
       ∙ ap (λ (n : ℕ). record { node = h.node; port = h.port; copy = h.copy; register = n }) register
 
