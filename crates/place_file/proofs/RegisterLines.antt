@@ -1,8 +1,11 @@
 -- A line says one register of one copy, or is wrong in one way, and not both.
-use Rattle.std.proofs.Common.{◌≡◌, ◌∙◌, inl, inr, refl, sym, ap, arith, ℕ, zero, suc, ◌+◌, ◌<◌, ◌≤◌, ◌^◌, codes}
+use Rattle.std.proofs.Common.{◌≡◌, ◌∙◌, inl, inr, refl, sym, ap, arith, ℕ, zero, suc, ◌+◌, ◌<◌, ◌≤◌, ◌^◌, List, []}
+use Rattle.std.proofs.Common.{codes}
+use Rattle.std.proofs.Common.{drop, drop-drop}
+use Rattle.std.specs.Prelude.{slice_index_or}
+use Rattle.std.proofs.lemmas.List.{get_or-drop}
 use Rattle.datapath.specs.Allowed.{IsDatapath}
 use Rattle.datapath.specs.declared.types.Datapath.{Datapath}
-use Rattle.operations.specs.declared.units.PortRef.{PortRef}
 use Rattle.plan_core.specs.Hardware.{port_of}
 use Rattle.plan_core.proofs.OneHeight.{neither_less}
 use Rattle.given_registers.specs.declared.given.GivenRegister.{GivenRegister}
@@ -242,6 +245,7 @@ module _ (d : Datapath) (said : RegisterSaid) where
   wrong_at : (cause : RegisterLineCause)
       → IsBadRegisterLine d said cause
       → (k : ℕ) × FirstWrong k × (cause ≡ cause_at k)
+  unfolding cause_at by_turns
   wrong_at Form (inl x) = (2, x, refl)
   wrong_at Form (inr (inl x)) = (4, x, refl)
   wrong_at Form (inr (inr (inl x))) = (6, x, refl)
@@ -294,7 +298,165 @@ module _ (d : Datapath) (said : RegisterSaid) where
       let node = one_number (2 ^ 32) (2 ^ 32) said.node g.node h.node x.node y.node in
       let copy = one_number (2 ^ 8) (2 ^ 8) said.copy g.copy h.copy x.copy y.copy in
       ap (λ (n : ℕ). record { node = n; port = g.port; copy = g.copy; register = g.register }) node
-      ∙ ap (λ (n : ℕ). record { node = h.node; port = port_of n g.port.port; copy = g.copy; register = g.register }) unit
-      ∙ ap (λ (n : ℕ). record { node = h.node; port = port_of h.port.unit n; copy = g.copy; register = g.register }) port
+      ∙ ap (λ (n : ℕ). record { node = h.node; port = port_of n g.port.port; copy = g.copy; register = g.register })
+          unit
+      ∙ ap (λ (n : ℕ). record { node = h.node; port = port_of h.port.unit n; copy = g.copy; register = g.register })
+          port
       ∙ ap (λ (n : ℕ). record { node = h.node; port = h.port; copy = n; register = g.register }) copy
       ∙ ap (λ (n : ℕ). record { node = h.node; port = h.port; copy = h.copy; register = n }) register
+
+-- the words of what is left of a line, where n were read
+module _ (words left : List (List ℕ)) (n : ℕ) (is : left ≡ drop n words) where
+  pub next_left : (behind : List (List ℕ)) → behind ≡ drop 1 left → behind ≡ drop (n + 1) words
+  next_left behind rest = rest ∙ ap (λ (xs : List (List ℕ)). drop 1 xs) is ∙ drop-drop 1 n words
+
+  pub word_left : (word : List ℕ) → word ≡ slice_index_or left 0 [] → word ≡ slice_index_or words n []
+  word_left word first =
+      let none : n + 0 ≡ n = omega arith in
+      first ∙ ap (λ (xs : List (List ℕ)). slice_index_or xs 0 []) is ∙ get_or-drop n words 0 []
+      ∙ ap (λ (k : ℕ). slice_index_or words k []) none
+
+-- lines with the same words say the same
+pub same_words : (a b : RegisterSaid)
+    → a.head ≡ b.head
+    → a.register ≡ b.register
+    → a.unit_label ≡ b.unit_label
+    → a.unit ≡ b.unit
+    → a.port_label ≡ b.port_label
+    → a.port ≡ b.port
+    → a.node_label ≡ b.node_label
+    → a.node ≡ b.node
+    → a.copy_label ≡ b.copy_label
+    → a.copy ≡ b.copy
+    → a ≡ b
+same_words a b head register unit_label unit port_label port node_label node copy_label copy =
+    ap
+    (λ (w : List ℕ). record {
+      head = w;
+      register = a.register;
+      unit_label = a.unit_label;
+      unit = a.unit;
+      port_label = a.port_label;
+      port = a.port;
+      node_label = a.node_label;
+      node = a.node;
+      copy_label = a.copy_label;
+      copy = a.copy;
+    }) head
+    ∙ ap
+    (λ (w : List ℕ). record {
+      head = b.head;
+      register = w;
+      unit_label = a.unit_label;
+      unit = a.unit;
+      port_label = a.port_label;
+      port = a.port;
+      node_label = a.node_label;
+      node = a.node;
+      copy_label = a.copy_label;
+      copy = a.copy;
+    }) register
+    ∙ ap
+    (λ (w : List ℕ). record {
+      head = b.head;
+      register = b.register;
+      unit_label = w;
+      unit = a.unit;
+      port_label = a.port_label;
+      port = a.port;
+      node_label = a.node_label;
+      node = a.node;
+      copy_label = a.copy_label;
+      copy = a.copy;
+    }) unit_label
+    ∙ ap
+    (λ (w : List ℕ). record {
+      head = b.head;
+      register = b.register;
+      unit_label = b.unit_label;
+      unit = w;
+      port_label = a.port_label;
+      port = a.port;
+      node_label = a.node_label;
+      node = a.node;
+      copy_label = a.copy_label;
+      copy = a.copy;
+    }) unit
+    ∙ ap
+    (λ (w : List ℕ). record {
+      head = b.head;
+      register = b.register;
+      unit_label = b.unit_label;
+      unit = b.unit;
+      port_label = w;
+      port = a.port;
+      node_label = a.node_label;
+      node = a.node;
+      copy_label = a.copy_label;
+      copy = a.copy;
+    }) port_label
+    ∙ ap
+    (λ (w : List ℕ). record {
+      head = b.head;
+      register = b.register;
+      unit_label = b.unit_label;
+      unit = b.unit;
+      port_label = b.port_label;
+      port = w;
+      node_label = a.node_label;
+      node = a.node;
+      copy_label = a.copy_label;
+      copy = a.copy;
+    }) port
+    ∙ ap
+    (λ (w : List ℕ). record {
+      head = b.head;
+      register = b.register;
+      unit_label = b.unit_label;
+      unit = b.unit;
+      port_label = b.port_label;
+      port = b.port;
+      node_label = w;
+      node = a.node;
+      copy_label = a.copy_label;
+      copy = a.copy;
+    }) node_label
+    ∙ ap
+    (λ (w : List ℕ). record {
+      head = b.head;
+      register = b.register;
+      unit_label = b.unit_label;
+      unit = b.unit;
+      port_label = b.port_label;
+      port = b.port;
+      node_label = b.node_label;
+      node = w;
+      copy_label = a.copy_label;
+      copy = a.copy;
+    }) node
+    ∙ ap
+    (λ (w : List ℕ). record {
+      head = b.head;
+      register = b.register;
+      unit_label = b.unit_label;
+      unit = b.unit;
+      port_label = b.port_label;
+      port = b.port;
+      node_label = b.node_label;
+      node = b.node;
+      copy_label = w;
+      copy = a.copy;
+    }) copy_label
+    ∙ ap
+    (λ (w : List ℕ). record {
+      head = b.head;
+      register = b.register;
+      unit_label = b.unit_label;
+      unit = b.unit;
+      port_label = b.port_label;
+      port = b.port;
+      node_label = b.node_label;
+      node = b.node;
+      copy_label = b.copy_label;
+      copy = w;
+    }) copy

@@ -1,5 +1,5 @@
 -- The registers that the lines of a text give, read one after another.
-use Rattle.std.proofs.Common.{◌≡◌, ◌∙◌, ◌⊎◌, inl, inr, ⊎_elim, refl, sym, ap, ap₂, subst, arith, ℕ, ◌+◌, ◌<◌, ◌≤◌, List}
+use Rattle.std.proofs.Common.{◌≡◌, ◌∙◌, ◌⊎◌, inl, ⊎_elim, refl, sym, ap, ap₂, subst, arith, ℕ, ◌+◌, ◌<◌, ◌≤◌, List}
 use Rattle.std.proofs.Common.{[], ◌∷◌, ◌++◌, length, Contains, ext_get_or, Option, Some, None, Result, Ok, Err, codes}
 use Rattle.std.proofs.Common.{drop, length-drop, Bor}
 use Rattle.std.specs.Prelude.{slice_index_or}
@@ -30,10 +30,7 @@ module _ (d : Datapath) (text : List ℕ) where
     pub count : length lines ≡ length registers
     pub each : (k : ℕ)
         → k < length registers
-        → (i : ℕ)
-        × (i < n)
-        × (slice_index_or lines k 0 ≡ i + 1)
-        × GivesRegister d text i (given_at registers k)
+        → (i : ℕ) × (i < n) × (slice_index_or lines k 0 ≡ i + 1) × GivesRegister d text i (given_at registers k)
     pub all : (i : ℕ)
         → i < n
         → HasRegisterLine d text i

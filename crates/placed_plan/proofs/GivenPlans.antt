@@ -122,7 +122,8 @@ module _ (g : Graph) (d : Datapath) (places : List Place) (given : List GivenReg
 
     pub given_routed : IsRouted d p
     given_routed =
-        routed d p rules (gaps_of d machine.units) (on_right places d p.assigned t.units) t.schedule t.arcs_are is.unroll
+        routed d p rules (gaps_of d machine.units) (on_right places d p.assigned t.units) t.schedule t.arcs_are
+        is.unroll
 
     pub given_narrow : IsNarrow d p
     given_narrow v there = (t.units.can v there).width
@@ -189,7 +190,8 @@ module _ (g : Graph) (d : Datapath) (places : List Place) (given : List GivenReg
   given_or_not p is (OfPlaces f) h = untimed_not p.assigned p.schedule p.arcs is.timed f h
   given_or_not p is (OfRegisters f) h =
       let arcs = same_lifetimes h.assigned p.assigned h.schedule p.schedule h.arcs p.arcs h.timed is.timed in
-      allotted_or_not d given p.arcs (allottable_in p.assigned p.schedule p.arcs is.timed) p.registers.regs is.registers f
+      allotted_or_not d given p.arcs (allottable_in p.assigned p.schedule p.arcs is.timed) p.registers.regs is.registers
+      f
       (subst (λ (xs : List Arc). IsRegisterFault d given xs f) arcs h.fault_is)
   given_or_not p is Memory h = h
 

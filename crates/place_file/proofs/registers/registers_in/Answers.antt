@@ -67,7 +67,9 @@ loop-left-preserved-in_ok-push-2 c =
     ∙ sym (ap lines_left c.in-Some.is) ∙ c.loop-left.invariant.0 in
     let there = line_there (lines_of text) i bytes left is in
     let g = c.in-Some-2.register in
-    let read = read_some d (words_by bytes) c.in_ok-register.field-0 g c.in-Some-2.is c.in_ok-register.ensures.register in (
+    let read =
+        read_some d (words_by bytes) c.in_ok-register.field-0 g c.in-Some-2.is c.in_ok-register.ensures.register in
+    (
       rest_is (lines_of text) i bytes left is,
       omega (arith, there),
       subst₂ (AreFirst d text (i + 1)) (sym c.in_ok-push.ensures.ok) (sym c.in_ok-push-2.ensures.ok)
