@@ -5,6 +5,7 @@ use Rattle.std.proofs.Common.{mul-le-mul_right}
 use Rattle.std.specs.Prelude.{slice_get}
 use Rattle.std.specs.List.{list_all}
 use Rattle.std.proofs.lemmas.List.Folds.{list_all-map}
+use Rattle.std.proofs.lemmas.Nat.{mod_below}
 use Rattle.lists.specs.Rows.{Rows}
 use Rattle.net_turns.specs.Turns.{Point, point_of, is_finished}
 use Rattle.net_turns.proofs.Moves.{all_ran}
@@ -14,7 +15,6 @@ use Rattle.net_solution.specs.Solutions.{shape_of, IsNetSolution}
 use Rattle.proc_net.specs.Nets.{NetState, parts_of, points_of, last_of, count_of}
 use Rattle.proc_net.specs.Private.Reading.{point_at, HasRoom}
 use Rattle.proc_net.specs.Private.States.{IsState}
-use Rattle.proc_net.proofs.Keeping.{remainder_below}
 use Rattle.proc_net.proofs.Reading.{count_is}
 use Rattle.net_solution.proofs.Solving.{one_solution}
 use Rattle.proc_net.proofs.Standing.{images_length, feeds_length, point_there, ran_most, processor_in}
@@ -40,7 +40,7 @@ pub place_inside : (processor : Processor) (n : ℕ)
     → HasRoom processor.put processor.places
     → (n % processor.places + 1) * processor.put.width ≤ length processor.put.words
 place_inside processor n room =
-    let below : n % processor.places < processor.places = remainder_below n processor.places room.some in
+    let below : n % processor.places < processor.places = mod_below n processor.places room.some in
     let more : (n % processor.places + 1) * processor.put.width ≤ processor.places * processor.put.width =
     mul-le-mul_right processor.put.width (omega (arith, below)) in
     omega (arith, more, room.words)

@@ -2,6 +2,7 @@
 use Rattle.std.proofs.Common.{◌≡◌, ℕ, ◌+◌, ◌*◌, ◌/◌, ◌%◌, ◌<◌, ◌≤◌, List, [], get_or, sym, ◌∙◌}
 use Rattle.std.proofs.Common.{arith, inl, inr, ap}
 use Rattle.std.proofs.lemmas.Bool.{cases_lt}
+use Rattle.std.proofs.lemmas.Nat.{mod_below}
 use Rattle.std.proofs.Common.{mul-le-mul_left}
 use Rattle.lists.specs.Rows.{Rows}
 use Rattle.proc_net.specs.declared.processor.Processor.{Processor}
@@ -23,9 +24,6 @@ remainders_differ n r m some less near same =
           let close : m * (r / m) ≤ m * (n / m) = mul-le-mul_left m no_more in
           absurd (omega (arith, is_n, is_r, close, same))
     ]
-
-pub remainder_below : (n m : ℕ) → 0 < m → n % m < m
-remainder_below n m some = omega (arith, some)
 
 module _ (puts : List Rows) (p : ℕ) (old new : Processor) (keeps : Keeps puts p old)
     (written : IsWritten old.put new.put old.places (old.ran % old.places)) (places : new.places ≡ old.places) where
@@ -60,7 +58,7 @@ module _ (puts : List Rows) (p : ℕ) (old new : Processor) (keeps : Keeps puts 
                 let apart : n % old.places ≡ old.ran % old.places → ⊥ =
                 remainders_differ n old.ran old.places keeps.room.some before (omega (arith, late, ran, places)) in
                 rw places
-                (written.others (n % old.places) (remainder_below n old.places keeps.room.some) apart
+                (written.others (n % old.places) (mod_below n old.places keeps.room.some) apart
                 ∙ keeps.rows n before (omega (arith, late, ran, places)))
             | inr last ↦
                 let same : n ≡ old.ran = omega (arith, last, early, ran) in

@@ -3,6 +3,7 @@ use Rattle.std.proofs.Common.{◌≡◌, ℕ, ◌+◌, ◌<◌, ◌≤◌, Bool,
 use Rattle.std.proofs.Common.{get_or, map, refl, ap, sym, ◌∙◌}
 use Rattle.std.proofs.Common.{arith, zero-add}
 use Rattle.std.specs.List.{list_any, range_with_len}
+use Rattle.std.proofs.lemmas.Bool.{or_from}
 use Rattle.std.proofs.lemmas.Bool.Decides.{nat_tests}
 use Rattle.std.proofs.lemmas.List.{length-map, get_or-map}
 use Rattle.std.proofs.lemmas.List.Folds.{list_any-append, list_any_at}
@@ -25,10 +26,6 @@ feed_there list number reader h is =
 pub both : (a : Bool) (m n k : ℕ) → a ≡ true → m ≤ k → k ≡ n → (a && nat_le m n) ≡ true
 both true m n k is le same = let enough : m ≤ n = omega (arith, le, same) in grind (arith, nat_tests)
 both false m n k is le same = absurd (cc)
-
-pub not_first : (a b : Bool) → a ≡ false → (a && b) ≡ false
-not_first false b is = refl
-not_first true b is = absurd (cc)
 
 pub not_second : (a : Bool) (m n k : ℕ) → k < m → k ≡ n → (a && nat_le m n) ≡ false
 not_second false m n k less same = refl
@@ -65,11 +62,6 @@ module _ (list : List Processor) (capacity samples own : ℕ) where
       (list_any_at full (range_with_len 0 (length (map (λ (x : Processor). x.feed) list))) number 0 within
       (ap full here ∙ full_is number reader h is ∙ passes))
 
-  none_more : (a b : Bool) → a ≡ false → b ≡ false → (a || b) ≡ false
-  none_more false false is_a is_b = refl
-  none_more true b is_a is_b = is_a
-  none_more false true is_a is_b = is_b
-
   pub place_free : (number : ℕ) (reader : Processor)
       → number < length list
       → get_or list number reader ≡ reader
@@ -80,5 +72,5 @@ module _ (list : List Processor) (capacity samples own : ℕ) where
       ap (λ (ps : List ℕ). list_any full ps)
       (range_more 0 number ∙ ap (λ (n : ℕ). range_with_len 0 number ++ n ∷ []) (zero-add number))
       ∙ list_any-append full (range_with_len 0 number) (number ∷ [])
-      ∙ none_more (list_any full (range_with_len 0 number)) (full number || false) before
-      (none_more (full number) false (full_is number reader h is ∙ fails) refl)
+      ∙ or_from (list_any full (range_with_len 0 number)) (full number || false) before
+      (or_from (full number) false (full_is number reader h is ∙ fails) refl)

@@ -1,5 +1,6 @@
 use Rattle.std.proofs.Common.{sym, ◌∙◌}
-use Rattle.proc_net.proofs.Queues.{both, not_first, not_second, place_lacks, place_free}
+use Rattle.std.proofs.lemmas.Bool.{and_left}
+use Rattle.proc_net.proofs.Queues.{both, not_second, place_lacks, place_free}
 use Rattle.proc_net.proofs.turns.lacks_place.Goals as goal
 use Rattle.proc_net.proofs.turns.lacks_place.Goals.{else-queued-capacity-via-then-queued-capacity+else-reads}
 use Rattle.proc_net.proofs.turns.lacks_place.Goals.{else-queued-capacity-via-else-queued-capacity}
@@ -16,7 +17,7 @@ loop-number-preserved c =
       | else-queued-capacity-via-then-queued-capacity+else-reads w ↦
           place_free c.args.processors.now c.args.capacity c.args.samples c.args.own c.loop-number.number
           c.index-processors-number.result c.loop-number-test.true (sym c.index-processors-number.is)
-          c.loop-number.invariant (not_first _ _ (sym w.reads.ensures ∙ w.if-reads.false))
+          c.loop-number.invariant (and_left _ _ (sym w.reads.ensures ∙ w.if-reads.false))
       | else-queued-capacity-via-else-queued-capacity w ↦
           place_free c.args.processors.now c.args.capacity c.args.samples c.args.own c.loop-number.number
           c.index-processors-number.result c.loop-number-test.true (sym c.index-processors-number.is)
