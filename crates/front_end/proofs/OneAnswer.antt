@@ -30,7 +30,7 @@ use Rattle.source_faults.specs.declared.fault.FrontError.TheVariants.{Fault, Mem
 use Rattle.source_faults.specs.declared.fault.FrontFault.{FrontFault}
 use Rattle.source_faults.specs.declared.fault.FrontFault.TheVariants.{TooLong, Lex, Parse, Name, Def, Kind, Loop}
 
-not_both : {F : Type 0} (H : FaultSet F) (fault : F) → IsClear H → IsFirst H fault → ⊥
+pub not_both : {F : Type 0} (H : FaultSet F) (fault : F) → IsClear H → IsFirst H fault → ⊥
 not_both H fault clear first = clear first.rank fault first.here
 
 -- a program has one first element in a delay-free loop at most

@@ -7,11 +7,12 @@ use Rattle.std.proofs.lemmas.List.FromFn.{length-map-range_with_len, get_or-map-
 use Rattle.lists.specs.Rows.{Rows}
 use Rattle.desk_core.specs.View.{Name, Content, Files}
 use Rattle.desk_core.specs.Desk.{content_of}
-use Rattle.fault_order.specs.Ranked.{FaultSet, IsClear, IsFirst}
+use Rattle.fault_order.specs.Ranked.{IsClear, IsFirst}
 use Rattle.fault_order.specs.Rules.{Rules, faults}
 use Rattle.fault_order.proofs.FirstFaults.{one_first}
 use Rattle.fault_order.proofs.TableFaults.{single_faults}
 use Rattle.front_end.proofs.Counts.{checked}
+use Rattle.front_end.proofs.OneAnswer.{not_both}
 use Rattle.loop_expand.proofs.FlatWords.{input_types_allowed}
 use Rattle.net_command.specs.Net.{IsNetRefusal, IsNetRefused, AreBadSamples, HasBadSamples}
 use Rattle.net_command.specs.Net.{HasNetStream, net_samples_limit}
@@ -44,9 +45,6 @@ use Rattle.statuses.specs.declared.status.Status.{Status}
 use Rattle.statuses.specs.declared.status.Status.TheVariants.{Samples, Net}
 
 -- Tables of rules.
-
-not_both : {F : Type 0} (H : FaultSet F) (f : F) → IsClear H → IsFirst H f → ⊥
-not_both H f clear first = clear first.rank f first.here
 
 once : {F : Type 0} (rules : Rules F) (f g : F) → IsFirst (faults rules) f → IsFirst (faults rules) g → f ≡ g
 once rules f g = one_first (faults rules) f g (single_faults rules)
