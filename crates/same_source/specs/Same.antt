@@ -16,6 +16,7 @@ use Rattle.source_faults.specs.declared.fault.FrontFault.{FrontFault}
 use Rattle.source_faults.specs.declared.rejection.Rejection.{Rejection}
 use Rattle.front_end.specs.Rejections.{HasLine, HasElement}
 use Rattle.plan_commands.specs.Headline.{RunsTheSolution}
+use Rattle.silc_files.specs.Sources.{IsAcceptedSource}
 use Rattle.same_source.specs.declared.refusal.Refusal.{Refusal}
 use Rattle.same_source.specs.declared.refusal.Refusal.TheVariants.{Source, TooLong, Microcode, OtherWords, NotShown}
 use Rattle.same_source.specs.declared.refusal.Refusal.TheVariants.{Memory}
@@ -49,10 +50,6 @@ pub record HasFaultIn (source : List ℕ) (line : Option ℕ) (fault : FrontFaul
   pub line_of : HasLine source rejection
   pub element_of : HasElement source rejection
 
--- the source has a program
-abbrev pub IsSource : List ℕ → Type 0
-IsSource source = (program : Program) × HasProgram source program
-
 -- the bytes spell an image
 abbrev pub IsMicrocode : List ℕ → Type 0
 IsMicrocode microcode = (image : Image) × Spells microcode image
@@ -68,9 +65,9 @@ pub record HasOtherWords (source microcode : List ℕ) : Type 0 where
 -- what a refusal says of the bytes
 abbrev pub IsRefusal : (source microcode : List ℕ) → Refusal → Type 0
 IsRefusal source microcode (Source line fault) = HasFaultIn source line fault
-IsRefusal source microcode TooLong = IsSource source × (most_bytes < length microcode)
+IsRefusal source microcode TooLong = IsAcceptedSource source × (most_bytes < length microcode)
 IsRefusal source microcode (Microcode fault) =
-    IsSource source × (length microcode ≤ most_bytes) × IsFormFault microcode fault
+    IsAcceptedSource source × (length microcode ≤ most_bytes) × IsFormFault microcode fault
 IsRefusal source microcode OtherWords = HasOtherWords source microcode
-IsRefusal source microcode (NotShown mismatch) = IsSource source × IsMicrocode microcode
+IsRefusal source microcode (NotShown mismatch) = IsAcceptedSource source × IsMicrocode microcode
 IsRefusal source microcode Memory = Unit {0}

@@ -5,7 +5,8 @@ ghost use Rattle.micro_image.specs.Valid.{IsValid};
 ghost use Rattle.silage_syntax.specs.Tree.{view};
 ghost use Rattle.loop_expand.specs.GraphFor.{IsGraphFor};
 ghost use Rattle.source_faults.specs.Faults.{HasProgram};
-ghost use Rattle.same_source.specs.Same.{IsOnlyImage, RunsSource, IsSource, IsRefusal};
+ghost use Rattle.silc_files.specs.Sources.{IsAcceptedSource};
+ghost use Rattle.same_source.specs.Same.{IsOnlyImage, RunsSource, IsRefusal};
 ghost use Rattle.same_source.specs.Private.Image.{HasWordsOf, RunsGraph, IsGraphRefusal};
 
 use crate::refusal::Refusal;
@@ -44,7 +45,7 @@ fn image_of(alloc: Global, microcode: &[u8]) -> Result<Image, Refusal>
     ensures only { IfOk result (IsOnlyImage microcode.now) }
     ensures valid { IfOk result IsValid }
     ensures err { IfErr result (λ refusal.
-        (source : Bytes ℕ) → IsSource source → IsRefusal source microcode.now refusal) }
+        (source : Bytes ℕ) → IsAcceptedSource source → IsRefusal source microcode.now refusal) }
 {
     if microcode.len() > MICROCODE_LIMIT {
         return Err(Refusal::TooLong);
