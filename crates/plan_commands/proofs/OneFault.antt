@@ -21,7 +21,7 @@ one_source_fault s f g is has have = ⊎_elim (λ e. same e) (λ e. never e) (fa
     never : Fault f ≡ front_memory → f ≡ g
     never e = absurd (cc)
 
-abbrev no_path : PathFault → Result Datapath PathFault
+abbrev pub no_path : PathFault → Result Datapath PathFault
 no_path fault = Err fault
 
 pub one_path_fault : (d : Content) (f g : PathFault) → IsPathFault d f → IsPathFault d g → f ≡ g

@@ -25,6 +25,7 @@ use Rattle.delay_memory.specs.declared.fault.LineFault.TheVariants as line
 use Rattle.signal_graph.specs.declared.graph.Graph.{Graph}
 use Rattle.silage_syntax.specs.Tree.{Program}
 use Rattle.plan_commands.specs.Plans.{HasPlan, IsUnplanned, IsUnplannedBy, fault_of}
+use Rattle.plan_commands.proofs.OneFault.{no_path}
 use Rattle.plan_commands.proofs.Plans.{file_fault}
 use Rattle.plan_commands.specs.PlanOf.{AnswersPlan, AnswersRefusal}
 use Rattle.plan_commands.specs.Refusals.{IsOfPath, IsRefusal, IsRefusedBy, IsRefused, IsNoPlan}
@@ -174,9 +175,6 @@ module _ (s d : Content) (program : Program) (read : HasProgram s program) (g : 
   its_refusal = refusal_by IsUnplanned
 
 module _ (s d : Content) where
-  abbrev no_path : PathFault → Result Datapath PathFault
-  no_path fault = Err fault
-
   -- the source was refused
   module _ (error : FrontError) (status : Status) (told : status ≡ of_front error)
       (each_program : (program : Program) → HasProgram s program → error ≡ front_memory)
