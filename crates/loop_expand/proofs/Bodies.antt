@@ -3,7 +3,7 @@ use Rattle.std.proofs.Common.{◌≡◌, refl, sym, subst, ◌∙◌, ap, arith,
 use Rattle.std.proofs.Common.{slice_index_or, Some, ℤ}
 use Rattle.std.specs.Prelude.{pos, ◌-ℤ◌}
 use Rattle.std.proofs.lemmas.Int.{ints}
-use Rattle.std.proofs.lemmas.Option.{slice_get_within, slice_get-get_or, get_or_from_slice_get}
+use Rattle.std.proofs.lemmas.Option.{slice_get_within, slice_get-get_or}
 use Rattle.lists.proofs.Places.{contains_at}
 use Rattle.lists.specs.Rows.{Rows}
 use Rattle.fix_word.specs.declared.types.SigType.{SigType}
@@ -30,9 +30,6 @@ use Rattle.loop_expand.proofs.Items.{has_item, instance_top, all_pass}
 use Rattle.loop_expand.proofs.Shapes.{declared_type, source_fits, table_entry}
 use Rattle.loop_expand.proofs.FlatSound.{IsSoundBody}
 use Rattle.loop_expand.proofs.FlatValues.{sample_ago, expr_given}
-
-pub index_is : {A : Type 0} (xs : List A) (k : ℕ) (x d : A) → slice_get xs k ≡ Some x → slice_index_or xs k d ≡ x
-index_is xs k x d e = get_or_from_slice_get xs k x d e
 
 -- there is a row at each sample, with a word for each input
 record HasWord (stream : Rows) (n j : ℕ) : Type 0 where

@@ -4,7 +4,7 @@ use Rattle.std.proofs.Common.{false, cond, List, [], ◌∷◌, length, slice_ge
 use Rattle.std.specs.Prelude.{◌&&◌, nat_eq}
 use Rattle.std.specs.Ordering.{int_eq}
 use Rattle.std.specs.Bool.{Decides}
-use Rattle.std.proofs.lemmas.Bool.Decides.{Decides-int_eq, eqb_tells}
+use Rattle.std.proofs.lemmas.Bool.Decides.{Decides-and, Decides-int_eq, eqb_tells}
 use Rattle.std.proofs.lemmas.Bool.{cases_lt}
 use Rattle.std.proofs.lemmas.Option.{slice_get_within}
 use Rattle.lists.proofs.Places.{some_once, contains_at, place_of}
@@ -68,11 +68,6 @@ same_path _ _ = false
 abbrev is_same : Element → Element → Bool
 is_same a b = same_path a.instance b.instance && (nat_eq a.declaration b.declaration && nat_eq a.offset b.offset)
 
-and_tells : (P Q : Type 0) (a b : Bool) → Decides a P → Decides b Q → Decides (a && b) (P × Q)
-and_tells P Q true true h k = (λ e. (h.0 refl, k.0 refl), λ pq. refl)
-and_tells P Q true false h k = (λ e. absurd (cc e), λ pq. k.1 pq.1)
-and_tells P Q false b h k = (λ e. absurd (cc e), λ pq. h.1 pq.0)
-
 tells_also : (P Q : Type 0) (b : Bool) → (P → Q) → (Q → P) → Decides b P → Decides b Q
 tells_also P Q b to from h = (λ e. to (h.0 e), λ q. h.1 (from q))
 
@@ -89,7 +84,7 @@ turns_tell (x ∷ xs) [] = (λ e. absurd (cc e), λ e. absurd (cc e))
 turns_tell (x ∷ xs) (y ∷ ys) =
     tells_also ((x ≡ y) × (xs ≡ ys)) (x ∷ xs ≡ y ∷ ys) (int_eq x y && same_turns xs ys)
     (λ h. let a = h.0 in let b = h.1 in cc) (λ e. (cc e, cc e))
-    (and_tells (x ≡ y) (xs ≡ ys) (int_eq x y) (same_turns xs ys) (Decides-int_eq x y) (turns_tell xs ys))
+    (Decides-and (int_eq x y) (same_turns xs ys) (Decides-int_eq x y) (turns_tell xs ys))
 
 abbrev step : ℕ → List ℤ → Step
 step at turns = record { at = at; turns = turns }
@@ -106,10 +101,8 @@ paths_tell (inside i s) (inside j t) =
     (same_path (inside i s) (inside j t))
     (λ h. ap₂ inside h.0 (step_of s t h.1.0 h.1.1))
     (λ e. let same : s ≡ t = cc e in (cc e, (ap (λ (z : Step). z.at) same, ap (λ (z : Step). z.turns) same)))
-    (and_tells (i ≡ j) ((s.at ≡ t.at) × (s.turns ≡ t.turns)) (same_path i j)
-    (nat_eq s.at t.at && same_turns s.turns t.turns) (paths_tell i j)
-    (and_tells (s.at ≡ t.at) (s.turns ≡ t.turns) (nat_eq s.at t.at) (same_turns s.turns t.turns) (eq_tells s.at t.at)
-    (turns_tell s.turns t.turns)))
+    (Decides-and (same_path i j) (nat_eq s.at t.at && same_turns s.turns t.turns) (paths_tell i j)
+    (Decides-and (nat_eq s.at t.at) (same_turns s.turns t.turns) (eq_tells s.at t.at) (turns_tell s.turns t.turns)))
 
 same_tells : (a b : Element) → Decides (is_same a b) (a ≡ b)
 same_tells a b =
@@ -119,11 +112,10 @@ same_tells a b =
       ap (λ (z : Element). z.instance) e,
       (ap (λ (z : Element). z.declaration) e, ap (λ (z : Element). z.offset) e),
     ))
-    (and_tells (a.instance ≡ b.instance) ((a.declaration ≡ b.declaration) × (a.offset ≡ b.offset))
-    (same_path a.instance b.instance) (nat_eq a.declaration b.declaration && nat_eq a.offset b.offset)
+    (Decides-and (same_path a.instance b.instance) (nat_eq a.declaration b.declaration && nat_eq a.offset b.offset)
     (paths_tell a.instance b.instance)
-    (and_tells (a.declaration ≡ b.declaration) (a.offset ≡ b.offset) (nat_eq a.declaration b.declaration)
-    (nat_eq a.offset b.offset) (eq_tells a.declaration b.declaration) (eq_tells a.offset b.offset)))
+    (Decides-and (nat_eq a.declaration b.declaration) (nat_eq a.offset b.offset)
+    (eq_tells a.declaration b.declaration) (eq_tells a.offset b.offset)))
 
 module _ (p : Program) (es : Elements) (numbering : IsNumbering p es) where
   -- what an entry of the list stands for

@@ -8,6 +8,7 @@ use Rattle.std.proofs.lemmas.Int.{ints}
 use Rattle.std.proofs.lemmas.List.{map-append}
 use Rattle.std.proofs.lemmas.List.Elements.{All-contains, All-map}
 use Rattle.std.proofs.lemmas.List.FromFn.{get_or-range_with_len, length-range_with_len}
+use Rattle.std.proofs.lemmas.Option.{get_or_from_slice_get}
 use Rattle.lists.specs.Rows.{Rows}
 use Rattle.recurrences.proofs.Along.{along}
 use Rattle.fix_word.specs.declared.types.SigType.{SigType}
@@ -42,7 +43,6 @@ use Rattle.signal_graph.proofs.OneSolution.{flat_determined, flat_heights}
 use Rattle.loop_expand.specs.Checked.{IsChecked}
 use Rattle.loop_expand.specs.FlatOf.{IsFlatElement, IsFlatOf}
 use Rattle.loop_expand.specs.InTypes.{flat_output_types, IsOutputRow, HasTypedSolutions}
-use Rattle.loop_expand.proofs.Bodies.{index_is}
 use Rattle.loop_expand.proofs.Expanded.{main_there, numbering}
 use Rattle.loop_expand.proofs.FlatInits.{inits_allowed}
 use Rattle.loop_expand.proofs.FlatLoops.{body_on, at_number}
@@ -53,7 +53,7 @@ use Rattle.loop_expand.proofs.Numbers.{number_of, is_number_of, below}
 use Rattle.loop_expand.proofs.ProgramKeeps.{in_type_back}
 use Rattle.loop_expand.proofs.FlatFits.{parameter_at, result_at}
 
-zero_in_type : (ty : SigType) → graphs.IsInType ty (pos 0)
+pub zero_in_type : (ty : SigType) → graphs.IsInType ty (pos 0)
 zero_in_type (sig.Fix t) = zero_word t.shape.w
 zero_in_type sig.Bool = (omega (arith, ints), omega (arith, ints))
 
@@ -113,8 +113,8 @@ module _ (p : Program) (checked : IsChecked p) (es : Elements) (made_of : IsExpa
       → Gives p stream words n source v
       → IsInType is.decl.ty v
   source_in_type e _ n v is (input {j = j} at) inside typed (row, there, word) =
-      let valid : IsRow p row = subst (IsRow p) (index_is stream n row [] there) (rows n [] inside) in
-      subst (IsInType is.decl.ty) (index_is row j v (pos 0) word)
+      let valid : IsRow p row = subst (IsRow p) (get_or_from_slice_get stream n row [] there) (rows n [] inside) in
+      subst (IsInType is.decl.ty) (get_or_from_slice_get row j v (pos 0) word)
       (zip_at IsInType (input_types p) row j is.decl.ty (pos 0) valid (input_type p checked j e is at))
   source_in_type e _ n v is (equated {s = s} {x = x} place d k decl found signal at) inside typed h =
       own_type e s.instance d k s.function decl v is at found.instance
