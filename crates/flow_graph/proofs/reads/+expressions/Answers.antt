@@ -1,10 +1,11 @@
 -- An operation reads what its parts read, one after another.
 use Rattle.std.proofs.Common.{◌++◌, ap, sym, ◌∙◌}
+use Rattle.lists.proofs.Results.{on_ok}
 use Rattle.signal_graph.specs.Flat.{view_expr}
 use Rattle.signal_graph.specs.Expressions.{view_exprs}
 use Rattle.flow_graph.specs.Private.ReadsNow.{reads_now, parts_read_now}
 use Rattle.signal_graph.proofs.Rows.{view_Node}
-use Rattle.flow_graph.proofs.Adding.{adds_none, adds_one, adds_all, ends}
+use Rattle.flow_graph.proofs.Adding.{adds_none, adds_one, adds_all}
 use Rattle.flow_graph.proofs.ReadLists.{row_reads}
 use Rattle.flow_graph.proofs.reads.+expressions.Goals as goal
 
@@ -27,5 +28,5 @@ add_reads-returns-in-Node t c =
     ap (λ x. reads_now (view_expr x)) c.in-Node.is
     ∙ ap reads_now (view_Node c.in-Node.op c.in-Node.fmt c.in-Node.parts) in
     let inner = ap (λ xs. parts_read_now (view_exprs xs)) c.deref.ensures.value in
-    ends _ _ c.add_part_reads.result (λ h. h ∙ ap (λ xs. c.args.reads.now ++ xs) (inner ∙ sym whole))
+    on_ok c.add_part_reads.result _ _ (λ h. h ∙ ap (λ xs. c.args.reads.now ++ xs) (inner ∙ sym whole))
     c.add_part_reads.ensures
