@@ -18,6 +18,7 @@ use Rattle.micro_image.specs.declared.image.Take.{Take}
 use Rattle.micro_image.specs.Conflict.{IsClear, IsClearBelow, IsMemory, IsOutside, file_of}
 use Rattle.micro_image.specs.Fields.{Microprogram, unit_of}
 use Rattle.micro_image.specs.Log.{Result, Log, operand}
+use Rattle.micro_image.proofs.Lists.{find-passes}
 
 -- none of the rest has the number of the first
 abbrev apart : {A : Type 0} → (A → ℕ) → List A → Bool
@@ -103,18 +104,6 @@ found_passes p q (y ∷ ys) x all e =
     let parts = and_parts (p y) (list_all p ys) all in
     found_here p (q y) y x (find q ys) e parts.0 (found_passes p q ys x parts.1)
 
-found_one : {A : Type 0} (q : A → Bool) (b : Bool) (y x : A) (rest : Option A)
-    → q y ≡ b
-    → (if b then Some y else rest) ≡ Some x
-    → (rest ≡ Some x → q x ≡ true)
-    → q x ≡ true
-found_one q true y x rest is e later = let same : y ≡ x = cc in subst (λ z. q z ≡ true) same is
-found_one q false y x rest is e later = later e
-
-found_is : {A : Type 0} (q : A → Bool) (xs : List A) (x : A) → find q xs ≡ Some x → q x ≡ true
-found_is q [] x e = absurd (cc)
-found_is q (y ∷ ys) x e = found_one q (q y) y x (find q ys) refl e (found_is q ys x)
-
 -- one of the cells
 abbrev inside : ℕ → ℤ → Bool
 inside cells (pos address) = nat_lt address cells
@@ -197,7 +186,7 @@ module _ (micro : Microprogram) (z : Rows) where
       true≢false (sym (subst (λ n. is_some (Result micro z n t) ≡ true) enable.number enable.passes) ∙ none)
   clear t gaps h Address u (issue, is, memory, outside) =
       let passes = found_passes (addressed t) (λ s. s.unit == u) (micro.word_at t).issues issue h.inside_cells is in
-      let on = found_is (λ s. s.unit == u) (micro.word_at t).issues issue is in
+      let on = find-passes (λ s. s.unit == u) (micro.word_at t).issues issue is in
       let cells = memory_passes issue.op _ passes memory in
       not_outside _ _ cells
       (subst (λ n. IsOutside (length (unit_of micro n).cells) (operand micro (Log micro z t) t issue 0))

@@ -24,18 +24,16 @@ use Rattle.silage_meaning.specs.Value.{Words, IsValue, IsFitted, signal}
 use Rattle.silage_meaning.proofs.Sources.{gives_once}
 use Rattle.silage_meaning.proofs.Unique.{initial_once}
 use Rattle.silage_meaning.proofs.Values.{value_once}
-use Rattle.worked_values.specs.Trees.{fix, fix_type, declaration, bare, decimal_number}
+use Rattle.worked_values.specs.Definitions.{byte}
+use Rattle.worked_values.specs.Trees.{fix_type, declaration, bare, decimal_number}
 use Rattle.worked_values.specs.Solutions.{sum, summing, summed, one_two_three, sums}
 use Rattle.worked_values.proofs.solutions.Goals as goal
 
-abbrev type : SigType
-type = fix 8 0 Trunc
-
 abbrev of_x : Decl
-of_x = declaration (codes "x") [] type
+of_x = declaration (codes "x") [] byte
 
 abbrev of_y : Decl
-of_y = declaration (codes "y") [] type
+of_y = declaration (codes "y") [] byte
 
 abbrev x : Element
 x = element main 0 0
@@ -179,7 +177,7 @@ sum_value : (words : Words) (n : ℕ) (a b v : ℤ)
     → a ≡ words x (pos n -ℤ pos 0)
     → b ≡ words y (pos n -ℤ pos 1)
     → IsFitted (fix_type 8 0 Trunc) (a +ℤ b) v
-    → IsValue summed here words n sum type v
+    → IsValue summed here words n sum byte v
 sum_value words n a b v a_is b_is h = (
   a,
   b,
@@ -188,7 +186,7 @@ sum_value words n a b v a_is b_is h = (
   h,
 )
 
-our_sum : (n : ℕ) → n < 3 → IsValue summed here sums n sum type (sums y (pos n))
+our_sum : (n : ℕ) → n < 3 → IsValue summed here sums n sum byte (sums y (pos n))
 unfolding wrap_of
 our_sum zero below = sum_value sums 0 (pos 1) (pos 5) (pos 6) refl refl (fitted (pos 6) (pos 6) refl)
 our_sum (suc zero) below = sum_value sums 1 (pos 2) (pos 6) (pos 8) refl refl (fitted (pos 8) (pos 8) refl)
@@ -206,13 +204,13 @@ carried : (n : ℕ) (s : Site) (right : Expr) (decl : Decl) (e : Element)
     → sum ≡ right
     → of_y ≡ decl
     → y ≡ e
-    → IsValue summed here sums n sum type (sums y (pos n))
+    → IsValue summed here sums n sum byte (sums y (pos n))
     → IsValue summed s sums n right decl.ty (sums e (pos n))
 carried n s right decl e at same ty is h =
     subst (λ (t : Site). IsValue summed t sums n right decl.ty (sums e (pos n))) at
     (subst (λ (r : Expr). IsValue summed here sums n r decl.ty (sums e (pos n))) same
     (subst (λ (c : Decl). IsValue summed here sums n sum c.ty (sums e (pos n))) ty
-    (subst (λ (i : Element). IsValue summed here sums n sum type (sums i (pos n))) is h)))
+    (subst (λ (i : Element). IsValue summed here sums n sum byte (sums i (pos n))) is h)))
 
 present : (e : Element) (n : ℕ) (source : Source)
     → n < 3
@@ -240,7 +238,7 @@ record IsOurPreset (e : Element) (j : ℕ) (l : Lit) (ty : SigType) : Type 0 whe
   element_is : y ≡ e
   sample_is : 1 ≡ j
   literal_is : decimal_number false 5 0 ≡ l
-  type_is : type ≡ ty
+  type_is : byte ≡ ty
 
 our_preset : (e : Element) (j : ℕ) (l : Lit) (ty : SigType) → IsPreset summed e j l ty → IsOurPreset e j l ty
 our_preset e j l ty is =
@@ -261,10 +259,10 @@ our_preset e j l ty is =
 a_word : (n : ℕ) → n ≤ 100 → IsWord 8 (pos n)
 a_word n few = record { low = omega (arith, ints, few); high = omega (arith, ints, few) }
 
-five_is : (l : Lit) (ty : SigType) → decimal_number false 5 0 ≡ l → type ≡ ty → IsRawWord l ty (pos 5)
+five_is : (l : Lit) (ty : SigType) → decimal_number false 5 0 ≡ l → byte ≡ ty → IsRawWord l ty (pos 5)
 five_is l ty literal_is type_is =
     subst (λ t. IsRawWord l t (pos 5)) type_is
-    (subst (λ m. IsRawWord m type (pos 5)) literal_is
+    (subst (λ m. IsRawWord m byte (pos 5)) literal_is
     (record {
       nearest = record { below = omega (arith, ints); above = omega (arith, ints) };
       word = a_word 5 (omega arith);
@@ -282,7 +280,7 @@ not_earlier l j ty is =
     let sample = ours.sample_is in
     omega (arith, sample)
 
-the_first : IsPreset summed y 1 (decimal_number false 5 0) type
+the_first : IsPreset summed y 1 (decimal_number false 5 0) byte
 the_first = record {
   site = here;
   place = bare (codes "y");
@@ -303,7 +301,7 @@ past_of_x j = record { given = λ l ty is. absurd (not_x l (j + 1) ty is); absen
 past_of_y : (j : ℕ) → IsInitial summed y (j + 1) (sums y (negsuc j))
 past_of_y zero = record {
   given = λ l ty is. let ours = our_preset y 1 l ty is in five_is l ty ours.literal_is ours.type_is;
-  absent = λ lacking. absurd (lacking (decimal_number false 5 0) type the_first);
+  absent = λ lacking. absurd (lacking (decimal_number false 5 0) byte the_first);
 }
 past_of_y (suc j) = record {
   given =
@@ -332,7 +330,7 @@ x_is = record { function = summing; decl = of_x; instance = main_is refl; declar
 y_is : IsElement summed y
 y_is = record { function = summing; decl = of_y; instance = main_is refl; declared = refl; offset = omega arith }
 
-defined : IsDefined summed y (value here sum type)
+defined : IsDefined summed y (value here sum byte)
 defined =
     equated (bare (codes "y")) 1 0 of_y (record { instance = main_is refl; occurs = inl (refl, refl) })
     (record { named = refl; placed = refl }) refl
@@ -353,7 +351,7 @@ module _ (others : Words) (h : Solves summed one_two_three others) where
       → IsFitted (fix_type 8 0 Trunc) (a +ℤ b) v
       → others y (pos n) ≡ v
   next n a b v below a_is b_is fits =
-      value_once summed here others n sum type _ v (h.present y n (value here sum type) y_is below defined)
+      value_once summed here others n sum byte _ v (h.present y n (value here sum byte) y_is below defined)
       (sum_value others n a b v a_is b_is fits)
 
   first : others y (pos 0) ≡ pos 6
