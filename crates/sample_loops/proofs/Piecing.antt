@@ -1,9 +1,9 @@
 -- The rows that a piece ends, one after another.
-use Rattle.std.proofs.Common.{◌≡◌, ℕ, ◌+◌, ◌-◌, ◌≤◌, List, [], ◌∷◌, ◌++◌, length, take, drop, All, None, IsSome, refl}
+use Rattle.std.proofs.Common.{◌≡◌, ℕ, ◌+◌, ◌-◌, ◌≤◌, [], ◌∷◌, ◌++◌, length, take, drop, None, IsSome, refl}
 use Rattle.std.proofs.Common.{ap, sym, ◌∙◌, subst, append_assoc, inl, inr, arith, length-drop}
 use Rattle.std.proofs.Math.Seq.{take-add}
 use Rattle.std.proofs.lemmas.List.{append-nil, length-append, length-take-le, take-append-drop, take_all}
-use Rattle.std.proofs.lemmas.List.Elements.{All-head, All-tail}
+use Rattle.std.proofs.lemmas.List.Elements.{All-contains, Contains-push}
 use Rattle.lists.specs.Rows.{Rows}
 use Rattle.desk_core.specs.View.{Content}
 use Rattle.sample_io.specs.declared.RowFault.{RowFault}
@@ -15,10 +15,6 @@ use Rattle.sample_io.specs.Pieces.{HasTaken, CanTake, TakesPiece, MeetsFault, En
 use Rattle.sample_io.specs.Samples.{Lines, StopsAfter}
 use Rattle.sample_io.proofs.Streams.{RowsOf-stream}
 use Rattle.sample_loops.specs.Private.Running.{TakesRows, MeetsAfter, EndsLines, EndsRows}
-
-last_of_all : {X : Type 0} (P : X → Type 0) (xs : List X) (x : X) → All P (xs ++ x ∷ []) → P x
-last_of_all P [] x all = All-head P x [] all
-last_of_all P (first ∷ xs) x all = last_of_all P xs x (All-tail P first (xs ++ x ∷ []) all)
 
 -- nothing was taken
 pub takes_none : (rows : FedRows) (piece : Content) → TakesRows rows (take 0 piece) [] rows
@@ -90,7 +86,9 @@ row_shown old mid new piece at count rows (inl kept) running takes now =
 row_shown old mid new piece at count rows (inr (front, before, h, few)) running takes now =
     let lines = (now.2 (front ++ take at piece) (before ++ rows) (takes.taken front before h)).0 in
     let stream = RowsOf-stream _ mid.channels ((before ++ rows) ++ new.row ∷ []) (inl lines) in
-    subst (λ c. IsRow c new.row) takes.channels (last_of_all (IsRow mid.channels) (before ++ rows) new.row stream)
+    subst (λ c. IsRow c new.row) takes.channels
+    (All-contains (IsRow mid.channels) ((before ++ rows) ++ new.row ∷ []) new.row stream
+    (Contains-push (before ++ rows) new.row))
 
 -- all that is left of the piece
 pub rest_of : (piece : Content) (at : ℕ) → at ≤ length piece → take (length piece - at) (drop at piece) ≡ drop at piece
@@ -147,8 +145,9 @@ pub last_shown : (old new : FedRows) (count : ℕ)
 last_shown old new count (inl kept) running ends =
     let none : IsSome {T = RowFault} None = subst IsSome running kept in absurd (cc)
 last_shown old new count (inr (front, before, h, few)) running ends =
-    last_of_all (IsRow old.channels) before new.row
+    All-contains (IsRow old.channels) (before ++ new.row ∷ []) new.row
     (RowsOf-stream front old.channels (before ++ new.row ∷ []) (inr (ends.1 front before h)))
+    (Contains-push before new.row)
 
 pub last_ends : (old new : FedRows) (count : ℕ) → EndsInput old new (Row count) → EndsRows old (new.row ∷ [])
 last_ends old new count ends front before h = inr (ends.1 front before h)
