@@ -3,6 +3,7 @@ use Rattle.std.proofs.Common.{◌≡◌, ℕ, ◌+◌, ◌*◌, ◌<◌, ◌≤�
 use Rattle.std.proofs.Common.{length}
 use Rattle.std.proofs.Common.{Contains}
 use Rattle.std.proofs.Math.Nat.{mul-le-mul}
+use Rattle.lists.proofs.Places.{none_there}
 use Rattle.operations.specs.declared.units.PortRef.{PortRef}
 use Rattle.datapath.specs.declared.types.Datapath.{Datapath}
 use Rattle.plan_core.specs.Assigned.{unit_in}
@@ -33,9 +34,6 @@ use Rattle.placed_stages.specs.StageFaults.{IsFirstUnplacedOver}
 use Rattle.placed_stages.specs.Private.Placing.{Fits, IsFree, IsObstacle, MayAt, Places, ArePlaced, IsStopped}
 use Rattle.placed_stages.specs.Private.Placing.{IsUnplaced}
 use Rattle.placed_stages.specs.declared.placing.Placing.{Placing}
-
-none_in : {A : Type 0} (x : A) → Contains [] x → ⊥
-none_in x h = absurd (omega (arith, h.1))
 
 -- that a cycle is the one of the place does not depend on other nodes
 pub at_alike : (places : List Place) (stages : ℕ) (d : Datapath) (a : Assigned)
@@ -123,8 +121,8 @@ module _ (places : List Place) (staged : Staged) (is : IsSoundStaged staged) whe
                 free.free slot
                 (over.taken_back (IsGapAround d.period) (IsSameAround d.period) end Asks (MayAt places staged) d a
                 is.problem short alike at_is order k p.slots p.table b within s (λ x e. refl) u slot taken);
-            files = λ port none. absurd (none_in port none);
-            buses = λ port none. absurd (none_in port none);
+            files = λ port none. none_there port none;
+            buses = λ port none. none_there port none;
           });
     }
 

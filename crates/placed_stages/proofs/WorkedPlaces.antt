@@ -11,16 +11,14 @@ use Rattle.plan_core.proofs.WorkedStages.{increment_delays, three_cycles}
 use Rattle.plan_soundness.specs.Parts.{unit_at, cycle_at}
 use Rattle.placed_plan.specs.Places.{place_of, IsGiven}
 use Rattle.placed_plan.specs.declared.place.Place.{Place}
+use Rattle.placed_plan.proofs.WorkedPlaces.{on}
 use Rattle.overlap_plan.proofs.WorkedPlans.{over_stages, increment_staged}
 use Rattle.overlap_sim.specs.Placed.{IsInItsStages}
 use Rattle.placed_stages.specs.StagePlaces.{IsStagePlanAt}
 use Rattle.placed_stages.proofs.OwnPlaces.{planned_at}
 
-abbrev at : (unit cycle : ℕ) → Place
-at unit cycle = record { unit = unit; cycle = cycle }
-
 abbrev increment_places : List Place
-increment_places = at 0 0 ∷ at 1 1 ∷ at 2 2 ∷ at 3 3 ∷ []
+increment_places = on 0 0 ∷ on 1 1 ∷ on 2 2 ∷ on 3 3 ∷ []
 
 given : IsGiven increment_places increment_plan
 given = record { count = refl; unit = units; cycle = cycles }
