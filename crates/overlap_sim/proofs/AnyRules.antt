@@ -19,6 +19,7 @@ use Rattle.plan_core.specs.declared.schedule.Schedule.{Schedule}
 use Rattle.plan_core.specs.declared.schedule.Transfer.{Transfer}
 use Rattle.plan_core.specs.declared.registers.Arc.{Arc}
 use Rattle.plan_core.specs.declared.plan.Plan.{Plan}
+use Rattle.plan_core.proofs.OneArcs.{ports_differ}
 use Rattle.plan_core.proofs.Readers.{operands_few, reader_there}
 use Rattle.micro_image.specs.Operations.{gives}
 use Rattle.plan_soundness.specs.Parts.{nodes_of, node_at, edge_at, unit_at, cycle_at, transfers_at, arc_at}
@@ -76,10 +77,6 @@ map_once f R xs x y differ pairs (j, below, is) (k, below', is') e =
         differ _ _ (pairs j k (f x) less (omega (arith, below', length-map xs f)))
         (get_or-map f xs j x (f x) below ∙ ap f is ∙ e
         ∙ sym (get_or-map f xs k y (f x) below' ∙ ap f is'))
-
-ports_differ : (a b : PortRef) → IsPortBefore a b → a ≡ b → ⊥
-ports_differ a b before e =
-    omega (arith, before, ap (λ (port : PortRef). port.unit) e, ap (λ (port : PortRef). port.port) e)
 
 arcs_differ : (a b : Arc) → IsArcBefore a b → a.port ≡ b.port → a.w ≡ b.w → a.node ≡ b.node → ⊥
 arcs_differ a b before port w node =

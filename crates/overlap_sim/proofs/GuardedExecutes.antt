@@ -7,7 +7,7 @@ use Rattle.std.proofs.Common.{map, nat_le, ℤ}
 use Rattle.std.specs.List.{Contains, AllPairs, filter, find}
 use Rattle.std.specs.Int.{int_rem_euclid}
 use Rattle.std.specs.Prelude.{pos, ◌-ℤ◌, ◌+ℤ◌}
-use Rattle.std.proofs.lemmas.Bool.{cases_lt, le-leb, leb-true}
+use Rattle.std.proofs.lemmas.Bool.{cases_lt, eq-eqb, le-leb, leb-true}
 use Rattle.std.proofs.lemmas.Nat.{div-mul-add}
 use Rattle.std.proofs.lemmas.Int.{ints}
 use Rattle.std.proofs.Math.Nat.{mod-lt, mod-zero, mod-mod, mod-add-mod, mul-add-mod_self_right, mod-eq_of_lt, add-mul}
@@ -104,9 +104,6 @@ module _ {A : Type 0} (sample : ℕ) where
   is_due (y ∷ xs) part in' = due_by y xs part (nat_le y.stage sample) refl (is_due xs part) in'
 
 -- Numbers.
-
-same_number : (n : ℕ) → (n == n) ≡ true
-same_number n = grind arith
 
 -- cycle c of sample n obeys the word of cycle c of sample n mod unroll
 word_number : (n c q u : ℕ) → 0 < u → c < q → (n * q + c) % (u * q) ≡ n % u * q + c
@@ -346,7 +343,7 @@ module _ (stages : ℕ) (d : Datapath) (p : Plan) (plan : IsFeasibleOver (overla
       let begun : own.0.stage ≤ m = omega (arith, own.2.stage) in
       let first = found (λ (issue : Issue). issue.unit == unit_at p v) own.0.part (due m (staged_at m c).issues)
       (in_due m (staged_at m c).issues own.0 (In-from_Contains _ own.0 own.1) begun)
-      (ap (λ u. u == unit_at p v) own.2.unit ∙ same_number (unit_at p v)) in
+      (ap (λ u. u == unit_at p v) own.2.unit ∙ eq-eqb (unit_at p v) (unit_at p v) refl) in
       let from = is_due m (staged_at m c).issues first.it first.among in
       let only = word.issue_only from.staged from.among in
       let node : only.0 ≡ v = one_node only.0 v only.1 in-v
@@ -434,7 +431,7 @@ module _ (stages : ℕ) (d : Datapath) (p : Plan) (plan : IsFeasibleOver (overla
       let own = (staged_of m c below).enable v transfer arc.node refl of.among in
       let first = found (λ (e : Enable). e.bus == transfer.bus) (enable_of p v transfer)
       (due m (staged_at m c).enables)
-      (in_due m (staged_at m c).enables _ (In-from_Contains _ _ own) (omega arith)) (same_number transfer.bus) in
+      (in_due m (staged_at m c).enables _ (In-from_Contains _ _ own) (omega arith)) (eq-eqb transfer.bus transfer.bus refl) in
       let only = enable_in m c first.it below first.among in
       let other : IsEnableOf p only.0 first.it = only.3 in
       let node : only.0 ≡ v = plan.bus_free only.0 v (stage (ends_at d p v)) (stage (ends_at d p only.0))

@@ -16,6 +16,7 @@ use Rattle.operations.specs.declared.units.PortRef.{PortRef}
 use Rattle.datapath.specs.Allowed as path
 use Rattle.datapath.specs.declared.types.Datapath.{Datapath}
 use Rattle.datapath.specs.declared.types.Unit as of_unit
+use Rattle.datapath.proofs.DescribedKeys.{some_at}
 use Rattle.signal_graph.specs.GraphRules.{IsGraph}
 use Rattle.signal_graph.specs.Rules.{IsType, word_before, word_or_zero}
 use Rattle.signal_graph.specs.declared.graph.Node.{Node}
@@ -42,7 +43,6 @@ use Rattle.overlap_sim.specs.declared.guarded.Guarded.{Guarded}
 use Rattle.overlap_sim.specs.Guarded.{no_guarded, of_guarded, unguarded, unguarded_word}
 use Rattle.overlap_sim.specs.GuardedOf.{overlap_of, IsStagedWordOf, IsGuardedOf}
 use Rattle.overlap_sim.proofs.GuardedValidWords.{valid_word, file_count, file_length, inputs_are, outs_are}
-use Rattle.overlap_sim.proofs.StageFacts.{some_is_at}
 
 -- Words.
 
@@ -172,7 +172,7 @@ module _ (stages : ℕ) (g : Graph) (d : Datapath) (p : Plan) (sound : IsGraph g
         no_cells = λ other.
             nil_from_length (described u).cells (its.cells ∙ unit.no_cells (λ ram. other (its.kind ∙ ram)));
         ram = λ acu.
-            let at = some_is_at (λ (other : of_unit.Unit). other.kind ≡ kind.Ram) d.units (unit_of d u).ram no_unit
+            let at = some_at (λ (other : of_unit.Unit). other.kind ≡ kind.Ram) d.units (unit_of d u).ram no_unit
             (unit.ram (sym its.kind ∙ acu)) in
             ram_there (described u).ram (unit_of d u).ram its.ram at.0 at.1;
         no_ram = λ other. its.ram ∙ unit.no_ram (λ acu. other (its.kind ∙ acu));

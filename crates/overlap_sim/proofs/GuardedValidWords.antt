@@ -3,7 +3,7 @@ use Rattle.std.proofs.Common.{◌≡◌, ℕ, zero, suc, ◌+◌, ◌-◌, ◌*�
 use Rattle.std.proofs.Common.{◌∙◌, subst, arith, List, [], ◌∷◌, length, slice_index_or, map, All, Contains, ℤ, pos}
 use Rattle.std.specs.Prelude.{slice_get, IsSomeAnd, ◌+ℤ◌}
 use Rattle.std.specs.Int.{int_rem_euclid}
-use Rattle.std.specs.List.{AllPairs, AllAdjacentBelow}
+use Rattle.std.specs.List.{AllPairs}
 use Rattle.std.specs.List.Sorted.{IsStrictlyIncreasing}
 use Rattle.std.proofs.lemmas.Bool.{cases_lt}
 use Rattle.std.proofs.lemmas.List.{get_or-map, length-map}
@@ -49,6 +49,7 @@ use Rattle.overlap_sim.specs.declared.guarded.Staged.{Staged}
 use Rattle.overlap_sim.specs.Guarded.{unguarded, unguarded_word, whole}
 use Rattle.overlap_sim.specs.GuardedOf.{overlap_of, stage_of, arg_by, IsStagedIssueOf, IsStagedWordOf, IsGuardedOf}
 use Rattle.overlap_sim.proofs.GuardedExecutes.{arg_other, arg_address}
+use Rattle.overlap_sim.proofs.ObeyedWords.{neighbours}
 use Rattle.overlap_sim.proofs.StageFacts.{tied}
 
 -- the staged part that a part is of
@@ -79,9 +80,6 @@ few f n [] rise below = omega arith
 few f n (x ∷ xs) rise below =
     let last : f (slice_index_or (x ∷ xs) (length xs) x) < n = below (length xs) x (omega arith) in
     omega (arith, last, rises_past f (x ∷ xs) x rise (length xs) (omega arith))
-
-adjacent : {A : Type 0} (R : A → A → Type 0) (xs : List A) → AllPairs R xs → AllAdjacentBelow R xs (length xs)
-adjacent R xs pairs k default below = pairs k (k + 1) default (omega arith) below
 
 abbrev number : Issue → ℕ
 number issue = issue.unit
@@ -389,10 +387,10 @@ module _ (stages : ℕ) (g : Graph) (d : Datapath) (p : Plan) (sound : IsGraph g
           bus =
               omega (arith, ap (λ (e : Enable). e.bus) only.4, feasible.buses only.0 only.1 only.2 only.3, is.buses);
         };
-    enables_rise = adjacent valid.EnableBefore (whole word.enables) of.enables_rise;
+    enables_rise = neighbours valid.EnableBefore (whole word.enables) of.enables_rise;
     take_count = omega (arith, few_takes);
     takes = λ k default below. valid_take k default below;
-    takes_rise = adjacent valid.TakeBefore (whole word.takes) of.takes_rise;
+    takes_rise = neighbours valid.TakeBefore (whole word.takes) of.takes_rise;
   }
     where
       -- the drive at an index, with its node and its transfer

@@ -24,6 +24,7 @@ use Rattle.overlap_sim.specs.declared.guarded.GuardedWord.{GuardedWord}
 use Rattle.overlap_sim.specs.declared.guarded.Staged.{Staged}
 use Rattle.overlap_sim.specs.Guarded.{no_guarded, due, obeyed, of_guarded, whole, unguarded_word, unguarded}
 use Rattle.overlap_sim.specs.Private.Stages.{IsUpTo, AllUpTo}
+use Rattle.cycle_sim.proofs.FirstConflicts.{before_through}
 use Rattle.overlap_sim.proofs.Due.{all_due, All-due, AllPairs-due, length-due}
 
 -- Lists.
@@ -50,7 +51,7 @@ all_pairs R xs trans near i (suc j) d less below =
     step =
         subst (λ k. R (slice_index_or xs j d) (slice_index_or xs k d)) next (near j d (omega (arith, below)))
 
-neighbours : {A : Type 0} (R : A → A → Type 0) (xs : List A) → AllPairs R xs → AllAdjacentBelow R xs (length xs)
+pub neighbours : {A : Type 0} (R : A → A → Type 0) (xs : List A) → AllPairs R xs → AllAdjacentBelow R xs (length xs)
 neighbours R xs pairs k d below = pairs k (k + 1) d (omega arith) below
 
 AllPairs-map : {A B : Type 0} (f : A → B) (R : B → B → Type 0) (xs : List A)
@@ -78,9 +79,6 @@ lex_trans l m n P Q R rest (inr a) (inr b) = inr (a.0 ∙ b.0, rest a.1 b.1)
 
 less_trans : (l m n : ℕ) → l < m → m < n → l < n
 less_trans l m n a b = omega (arith, a, b)
-
-enable_trans : (a b c : Enable) → EnableBefore a b → EnableBefore b c → EnableBefore a c
-enable_trans a b c = lex_trans a.unit b.unit c.unit _ _ _ (less_trans a.bus b.bus c.bus)
 
 take_trans : (a b c : Take) → TakeBefore a b → TakeBefore b c → TakeBefore a c
 take_trans a b c =
@@ -110,7 +108,7 @@ obeyed_valid image sample word valid = record {
   enables = All-due sample (IsEnable image) word.enables valid.enables;
   enables_rise = neighbours EnableBefore (due sample word.enables)
       (AllPairs-due sample EnableBefore word.enables
-      (all_pairs EnableBefore (whole word.enables) enable_trans valid.enables_rise));
+      (all_pairs EnableBefore (whole word.enables) before_through valid.enables_rise));
   take_count = omega (arith, length-due sample word.takes, valid.take_count);
   takes = All-due sample (IsTake image) word.takes valid.takes;
   takes_rise = neighbours TakeBefore (due sample word.takes)

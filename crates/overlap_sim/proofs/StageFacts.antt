@@ -1,13 +1,13 @@
 -- Facts of a plan of several stages whose guarded image is made.
-use Rattle.std.proofs.Common.{◌≡◌, ℕ, zero, suc, ◌+◌, ◌*◌, ◌/◌, ◌%◌, ◌<◌, ◌≤◌, ap, ◌∙◌, arith, length, List}
-use Rattle.std.proofs.Common.{[], ◌∷◌}
-use Rattle.std.proofs.Common.{slice_index_or, pos}
-use Rattle.std.specs.Prelude.{◌+ℤ◌, slice_get, IsSomeAnd}
+use Rattle.std.proofs.Common.{◌≡◌, ℕ, ◌+◌, ◌*◌, ◌/◌, ◌%◌, ◌<◌, ◌≤◌, ap, ◌∙◌, arith, length}
+use Rattle.std.proofs.Common.{pos}
+use Rattle.std.specs.Prelude.{◌+ℤ◌}
 use Rattle.std.specs.Int.{int_rem_euclid}
 use Rattle.std.proofs.Math.Nat.{mod-lt, mod-add-mod}
 use Rattle.datapath.specs.declared.types.Datapath.{Datapath}
 use Rattle.datapath.specs.declared.types.Unit as of_unit
 use Rattle.datapath.specs.Allowed.{IsUnit}
+use Rattle.datapath.proofs.DescribedKeys.{some_at}
 use Rattle.fix_word.specs.declared.operation.Op.TheVariants as op
 use Rattle.operations.specs.Units.{ports}
 use Rattle.operations.specs.declared.units.Kind.TheVariants as kind
@@ -24,14 +24,6 @@ use Rattle.overlap_plan.specs.IsStagePlan.{plan_of}
 use Rattle.overlap_plan.specs.declared.plan.StagePlan.{StagePlan}
 use Rattle.overlap_sim.specs.GuardedOf.{overlap_of}
 use Rattle.overlap_sim.specs.Private.Staged.{IsStageReady}
-
-pub some_is_at : {A : Type 0} (P : A → Type 0) (xs : List A) (k : ℕ) (default : A)
-    → IsSomeAnd (slice_get xs k) P
-    → (k < length xs) × P (slice_index_or xs k default)
-some_is_at P [] k default h = absurd h
-some_is_at P (x ∷ xs) zero default h = (omega arith, h)
-some_is_at P (x ∷ xs) (suc k) default h =
-    let rest = some_is_at P xs k default h in (omega (arith, rest.0), rest.1)
 
 -- an offset that is slid twice around its ram
 pub slid_again : (o stage cells : ℕ)
@@ -52,7 +44,7 @@ pub tied : (d : Datapath) (p : Plan)
 tied d p machine assigned v in-v is =
     let of = (assigned.right v in-v).kind in
     let unit : IsUnit d.units (unit_of d (unit_at p v)) = machine.units (unit_at p v) no_unit of.there in
-    let ram = some_is_at (λ (other : of_unit.Unit). other.kind ≡ kind.Ram) d.units (tie_of d (unit_at p v)) no_unit
+    let ram = some_at (λ (other : of_unit.Unit). other.kind ≡ kind.Ram) d.units (tie_of d (unit_at p v)) no_unit
     (unit.ram (of.kind ∙ ap kind_of is)) in
     let its : IsUnit d.units (unit_of d (tie_of d (unit_at p v))) =
     machine.units (tie_of d (unit_at p v)) no_unit ram.0 in
