@@ -3,7 +3,7 @@ mod Passing
 mod Piecing
 mod Stops
 mod SampleRuns
-mod RowWords
+pub mod RowWords
 mod Growing
 mod Streaming
 mod PieceRuns

@@ -3,7 +3,6 @@ mod Planned
 mod NodeOrigins
 mod ShortLifetimes
 mod Outputs
-mod FedSamples
 mod TypedRows
 mod InputRows
 mod Reading

@@ -1,11 +1,9 @@
 -- What a trace reads is there.
-use Rattle.std.proofs.Common.{◌≡◌, ◌<◌, ◌≤◌, ◌⊎◌, inl, inr, ◌∙◌, refl, sym, ap, subst, arith, ℕ, ◌+◌, ◌*◌, ◌/◌, ◌^◌}
-use Rattle.std.proofs.Common.{List, [], ◌∷◌, ◌++◌, length, map, slice_get, slice_index_or, Option, Some, None}
+use Rattle.std.proofs.Common.{◌≡◌, ◌<◌, ◌≤◌, ◌∙◌, refl, sym, ap, subst, arith, ℕ, ◌*◌, ◌/◌, ◌^◌}
+use Rattle.std.proofs.Common.{[], length, slice_get, slice_index_or, Option, Some, None}
 use Rattle.std.proofs.Common.{IsSomeAnd, lit≤}
-use Rattle.std.specs.List.{range_with_len}
 use Rattle.std.proofs.Math.Nat.{mod-lt, div-le_self}
 use Rattle.std.proofs.lemmas.List.{get_or_default}
-use Rattle.std.proofs.lemmas.List.FromFn.{map-range_with_len_more}
 use Rattle.std.proofs.lemmas.Option.{get_or_from_slice_get, slice_get-get_or, slice_get_read, slice_get_within}
 use Rattle.operations.proofs.Ports.{enough_ports}
 use Rattle.fix_word.specs.Operations.{IsReady}
@@ -17,20 +15,10 @@ use Rattle.micro_image.specs.declared.image.Issue.{Issue}
 use Rattle.micro_image.specs.declared.image.UnitDesc.{UnitDesc}
 use Rattle.micro_image.specs.Fields.{nth, word_at, no_unit, no_word}
 use Rattle.micro_image.specs.Operations.{reads, kind_of}
-use Rattle.micro_image.specs.Spells.{Spells}
 use Rattle.micro_image.specs.Valid.{IsValid, IsWordOf, IsIssue, IsIssueOn, IsUnit, IsFormatFor, HasRegister, ports}
-use Rattle.micro_file.proofs.Unique.{Spells-unique}
 use Rattle.cycle_sim.specs.declared.microcode.Microcode.{Microcode}
 use Rattle.cycle_sim.specs.Microcode.{micro_of, IsSound}
-use Rattle.cycle_sim.proofs.ValidImage.{word_valid as word_valid_in}
-
-pub same_image : (bytes : List ℕ) (a b : Image) → Spells bytes a → Spells bytes b → a ≡ b
-same_image = Spells-unique
-
-product_positive : (u p : ℕ) → (u ≡ 1) ⊎ (u ≡ 2) ⊎ (u ≡ 4) → 1 ≤ p → 0 < u * p
-product_positive u p (inl e) h = rw e (omega (arith, h))
-product_positive u p (inr (inl e)) h = rw e (omega (arith, h))
-product_positive u p (inr (inr e)) h = rw e (omega (arith, h))
+use Rattle.cycle_sim.proofs.ValidImage.{product_positive, word_valid as word_valid_in}
 
 cycle_count : (image : Image) → IsValid image → 0 < image.unroll * image.period
 cycle_count image valid = product_positive image.unroll image.period valid.unroll valid.period.0
@@ -56,16 +44,6 @@ pub sample_below : (cycle period sample : ℕ) → cycle < 2 ^ 60 → sample ≡
 sample_below cycle period sample young is =
     let few : cycle / period ≤ cycle = div-le_self cycle period in
     omega (arith, young, is, few)
-
-map-self : (ks : List ℕ) → map (λ (k : ℕ). k) ks ≡ ks
-map-self [] = refl
-map-self (k ∷ ks) = ap (λ (rest : List ℕ). k ∷ rest) (map-self ks)
-
--- one number more
-pub range_more : (n : ℕ) → range_with_len 0 (n + 1) ≡ range_with_len 0 n ++ n ∷ []
-range_more n =
-    sym (map-self (range_with_len 0 (n + 1))) ∙ map-range_with_len_more (λ (k : ℕ). k) 0 n n (omega arith)
-    ∙ ap (λ (ks : List ℕ). ks ++ n ∷ []) (map-self (range_with_len 0 n))
 
 -- the unit can do the issue
 abbrev CanDo : Image → Issue → UnitDesc → Type 0

@@ -1,7 +1,7 @@
 -- Short lifetimes can get registers.
 use Rattle.std.proofs.Common.{◌≡◌, inl, inr, ⊎_elim, ℕ, ◌+◌, ◌/◌, ◌<◌, ◌≤◌, sym, subst, arith, List, [], ◌∷◌, ◌++◌}
 use Rattle.std.proofs.Common.{length, get_or}
-use Rattle.std.specs.List.{All, AllPairs}
+use Rattle.std.specs.List.{All}
 use Rattle.std.proofs.lemmas.Bool.{cases_lt}
 use Rattle.std.proofs.lemmas.List.Elements.{All-get_or, All-nil, All-push, All-weaker}
 use Rattle.std.proofs.lemmas.List.Quantifiers.{all_pairs_push}
@@ -9,6 +9,7 @@ use Rattle.operations.specs.declared.units.PortRef.{PortRef}
 use Rattle.datapath.specs.declared.types.Datapath.{Datapath}
 use Rattle.plan_core.specs.Arcs.{IsArcBefore}
 use Rattle.plan_core.specs.declared.registers.Arc.{Arc}
+use Rattle.plan_core.proofs.Tests.{no_pairs}
 use Rattle.reg_alloc.specs.Allottable.{AreDifferent, IsAllottable, AreAllottable}
 
 -- the lifetime is of an earlier node, and begins where two begin in each cycle
@@ -21,9 +22,6 @@ pub record IsShort (port : PortRef) (node : ℕ) (arc : Arc) : Type 0 where
 pub record AreShort (d : Datapath) (port : PortRef) (node : ℕ) (arcs : List Arc) : Type 0 where
   pub allottable : AreAllottable d arcs
   pub each : All (IsShort port node) arcs
-
-no_pairs : {A : Type 0} (R : A → A → Type 0) → AllPairs R []
-no_pairs R i j d below within = absurd (omega arith)
 
 pub none_short : (d : Datapath) (port : PortRef) → AreShort d port 0 []
 none_short d port = record {

@@ -8,7 +8,7 @@ ghost use Rattle.sample_io.specs.Samples.{RowsOf};
 ghost use Rattle.signal_graph.specs.Keeps.{IsStreamOf};
 ghost use Rattle.signal_graph.specs.Rules.{IsType};
 ghost use Rattle.silc_show.specs.Trace.{AreInputRows};
-ghost use Rattle.silc_show.specs.TypeChannels.{channel_width, type_channel};
+ghost use Rattle.sample_loops.specs.Evaluators.{channel_width, type_channel};
 
 use crate::page::{Page, Refused};
 use fix_word::SigType;

@@ -4,7 +4,7 @@ use Rattle.sample_io.specs.Pieces.{TakesPiece, EndsInput}
 use Rattle.sample_io.specs.Samples.{RowsOf}
 use Rattle.sample_io.specs.declared.channel.Channel.{Channel}
 use Rattle.sample_io.specs.declared.pieces.Step.TheVariants.{Row}
-use Rattle.silc_show.proofs.FedSamples.{IsFedTo, rest_of, fed_more, fed_all, can_finish, with_last, without_last}
+use Rattle.whole_samples.proofs.FedTexts.{IsFedTo, rest_of, fed_more, fed_all, can_finish, with_last, without_last}
 use Rattle.silc_show.proofs.rows.rows_of.Goals as goal
 use Rattle.silc_show.proofs.rows.rows_of.Goals.{in-Row-2+in_ok-push_row-2, in_default-2}
 

@@ -1,6 +1,6 @@
 -- The rows so far are in the list.
 use Rattle.std.proofs.Common.{◌-◌, length}
-use Rattle.silc_show.proofs.FedSamples.{IsFedTo}
+use Rattle.whole_samples.proofs.FedTexts.{IsFedTo}
 use Rattle.silc_show.proofs.rows.rows_of.Given as goal
 
 abbrev pub invariant-rows : goal.invariant-rows

@@ -1,7 +1,7 @@
 use Rattle.std.proofs.Common.{◌≡◌, map, take}
 use Rattle.std.specs.List.{All}
 use Rattle.sample_io.specs.Channels.{IsChannel}
-use Rattle.silc_show.specs.TypeChannels.{type_channel}
+use Rattle.sample_loops.specs.Evaluators.{type_channel}
 use Rattle.silc_show.proofs.rows.type_channels.Given as goal
 
 abbrev pub invariant-loop-ty : goal.invariant-loop-ty
