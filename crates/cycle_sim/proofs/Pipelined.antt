@@ -3,10 +3,11 @@
 -- the
 -- words do, from which cycle on they come round, and the rows.
 use Rattle.std.proofs.Common.{◌≡◌, ◌<◌, ◌≤◌, ◌-◌, ◌/◌, ◌%◌, ◌==◌, ◌∙◌, nat_le, refl, sym, ap, subst}
-use Rattle.std.proofs.Common.{arith, inl, ℕ, zero, suc, true, false, if◌then◌else◌, List, [], ◌∷◌, ◌++◌, map}
+use Rattle.std.proofs.Common.{arith, inl, ℕ, zero, suc, true, if◌then◌else◌, List, [], ◌∷◌, ◌++◌, map}
 use Rattle.std.proofs.Common.{count_by, find, Some, None, IsNone, pos, negsuc}
 use Rattle.std.specs.List.{range_with_len}
 use Rattle.std.specs.List.Sorted.{IsStrictlyIncreasing}
+use Rattle.std.proofs.lemmas.Bool.{true≢false}
 use Rattle.lists.specs.Rows.{Rows}
 use Rattle.fix_word.specs.Values.{wrap_of}
 use Rattle.micro_image.specs.declared.conflict.ConflictKind.TheVariants.{Busy, TwoDrivers, FileTwice, NoDriver}
@@ -296,9 +297,6 @@ result_at z t u issue is result =
     ∙ ap (given micro z (Log micro z t) t) is
     ∙ ap (λ b. if b then Some (value micro z (Log micro z t) t issue) else None) result
 
-apart : true ≡ false → ⊥
-apart h = absurd (cc)
-
 clear_at : (z : Rows) (t : ℕ) → IsQuiet (micro.word_at t) → IsClear micro z t
 clear_at z t quiet Busy u (here, (s, before, within, there)) = absurd (omega (arith, before, within, gap_is u))
 clear_at z t quiet TwoDrivers b two = absurd (omega (arith, two, quiet.drives b))
@@ -306,7 +304,7 @@ clear_at z t quiet FileTwice file two = absurd (omega (arith, two, quiet.fills f
 clear_at z t quiet NoDriver b (taken, undriven) = absurd (omega (arith, quiet.driven b taken, undriven))
 clear_at z t quiet NoResult u (drives, nothing) =
     let found = quiet.gives_result u drives in
-    apart (subst IsNone (result_at z t u found.0 found.1 found.2) nothing)
+    true≢false (subst IsNone (result_at z t u found.0 found.1 found.2) nothing)
 clear_at z t quiet Address u (issue, is, memory, outside) =
     Each-at quiet.plain issue (found_in (λ s. s.unit == u) (micro.word_at t).issues issue is) memory
 
