@@ -1,5 +1,5 @@
 -- An image that runs the graph of a program runs the source that has that program.
-use Rattle.std.proofs.Common.{◌≡◌, ◌∙◌, ap, sym, length, map, List, ℕ, Result, Ok, Err, OnOk}
+use Rattle.std.proofs.Common.{◌≡◌, ◌∙◌, ap, sym, length, map, List, ℕ}
 use Rattle.loop_expand.specs.GraphFor.{IsGraphFor}
 use Rattle.micro_image.specs.declared.image.Image.{Image}
 use Rattle.plan_commands.proofs.Compiled.{runs_the_solution}
@@ -13,10 +13,6 @@ use Rattle.same_source.specs.Private.Image.{HasWordsOf, RunsGraph, IsGraphRefusa
 use Rattle.same_source.specs.declared.refusal.Refusal.{Refusal}
 use Rattle.same_source.specs.declared.refusal.Refusal.TheVariants.{Source, TooLong, Microcode, OtherWords}
 use Rattle.same_source.specs.declared.refusal.Refusal.TheVariants.{NotShown, Memory}
-
-pub on_ok : {A E P Q : Type 0} (r : Result A E) → (P → Q) → OnOk r P → OnOk r Q
-on_ok (Ok x) f h = f h
-on_ok (Err e) f h = tt
 
 module _ (source microcode : List ℕ) (p : Program) (g : Graph) (image : Image)
     (program : HasProgram source p) (graph : IsGraphFor p g) (spelled : IsOnlyImage microcode image) where
