@@ -5,12 +5,12 @@ use Rattle.std.specs.Prelude.{slice_get}
 use Rattle.std.specs.List.{All, AllZip}
 use Rattle.std.specs.Option.{option_and_then}
 use Rattle.std.proofs.lemmas.List.{length-map}
-use Rattle.std.proofs.lemmas.List.Elements.{All-head, All-tail, All-weaker}
+use Rattle.std.proofs.lemmas.List.Elements.{All-contains, All-head, All-tail, All-weaker}
 use Rattle.std.proofs.lemmas.List.FromFn.{length-map-range_with_len, get_or-map-range_with_len}
 use Rattle.std.proofs.lemmas.Option.{slice_get-get_or, slice_get_within}
 use Rattle.lists.specs.Rows.{Rows}
 use Rattle.lists.proofs.Zips.{zip_length}
-use Rattle.lists.proofs.Places.{some_at}
+use Rattle.lists.proofs.Places.{contains_at, some_at}
 use Rattle.fault_order.specs.Ranked.{IsClear}
 use Rattle.fault_order.specs.Rules.{faults}
 use Rattle.fix_word.specs.declared.types.SigType.{SigType}
@@ -23,7 +23,7 @@ use Rattle.net_command.specs.Nets.{row_channels, net_parts, IsSolvedNet}
 use Rattle.net_command.specs.Ports.{program_ports}
 use Rattle.net_command.specs.Processors.{ProcPlan, programs_of, images_of, ports_of}
 use Rattle.net_command.specs.Private.Prepared.{IsPrepared}
-use Rattle.net_command.proofs.Places.{all_at, get_or-map_at, map_from}
+use Rattle.net_command.proofs.Places.{get_or-map_at, map_from}
 use Rattle.net_command.proofs.TypeRanges.{same_width, alike_type, in_range}
 use Rattle.net_core.specs.Allowed.{IsNetFile, IsProc, IsWire, AreProcsFrom}
 use Rattle.net_core.specs.declared.types.NetFile.{NetFile}
@@ -116,7 +116,7 @@ module _ (file : NetFile) (allowed : IsNetFile file) (plans : List ProcPlan)
     image_is = get_or-map_at (λ (x : ProcPlan). x.image) plans p its no_image there
 
     its_prepared : IsPrepared its
-    its_prepared = all_at IsPrepared plans p its prepared there
+    its_prepared = All-contains IsPrepared plans its prepared (contains_at plans p its there)
 
     inputs_are : inputs_at ports p ≡ input_types its.program
     inputs_are =

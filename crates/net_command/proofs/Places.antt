@@ -1,14 +1,9 @@
 -- What stands at a place of a list.
 use Rattle.std.proofs.Common.{◌≡◌, ℕ, zero, suc, List, [], ◌∷◌, map, get_or, Some, refl, subst}
 use Rattle.std.specs.Prelude.{slice_get}
-use Rattle.std.specs.List.{All}
-use Rattle.std.proofs.lemmas.Option.{slice_get_within, get_or_from_slice_get}
+use Rattle.std.proofs.lemmas.Option.{get_or_from_slice_get}
 
 module _ {A : Type 0} where
-  pub all_at : (P : A → Type 0) (xs : List A) (i : ℕ) (x : A) → All P xs → slice_get xs i ≡ Some x → P x
-  all_at P xs i x all is =
-      subst P (get_or_from_slice_get xs i x x is) (all i x (slice_get_within xs i x is))
-
   module _ {B : Type 0} (f : A → B) where
     pub map_at : (xs : List A) (i : ℕ) (x : A) → slice_get xs i ≡ Some x → slice_get (map f xs) i ≡ Some (f x)
     map_at [] i x is = absurd (cc)
