@@ -41,6 +41,7 @@ use Rattle.plan_soundness.specs.Overlap.{shift_of}
 use Rattle.plan_soundness.specs.Feasible.{IsFeasibleOver, IsFeasiblePlanOver}
 use Rattle.plan_soundness.proofs.Elements.{default_any, nth_past}
 use Rattle.plan_soundness.proofs.FromLowered.{made_at, made_as, own_below, graph_node}
+use Rattle.plan_soundness.proofs.ValidWords.{most_takes}
 use Rattle.microcode_asm.proofs.IssueSteps.{copy_in_turn}
 use Rattle.microcode_asm.proofs.SampleSteps.{from_mapped}
 use Rattle.overlap_sim.specs.declared.guarded.Guarded.{Guarded}
@@ -141,10 +142,6 @@ argument_by o made inputs outs arg given e f is =
 
 enable_number : (a b : Enable) → valid.EnableBefore a b → a.bus < 32 → 32 * a.unit + a.bus < 32 * b.unit + b.bus
 enable_number a b before small = omega (arith, before, small)
-
--- of 32 units with at most 3 ports
-abbrev most_takes : ℕ
-most_takes = 96
 
 take_number : (a b : Take)
     → valid.TakeBefore a b
