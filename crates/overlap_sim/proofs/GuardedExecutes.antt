@@ -431,7 +431,8 @@ module _ (stages : ℕ) (d : Datapath) (p : Plan) (plan : IsFeasibleOver (overla
       let own = (staged_of m c below).enable v transfer arc.node refl of.among in
       let first = found (λ (e : Enable). e.bus == transfer.bus) (enable_of p v transfer)
       (due m (staged_at m c).enables)
-      (in_due m (staged_at m c).enables _ (In-from_Contains _ _ own) (omega arith)) (eq-eqb transfer.bus transfer.bus refl) in
+      (in_due m (staged_at m c).enables _ (In-from_Contains _ _ own) (omega arith))
+      (eq-eqb transfer.bus transfer.bus refl) in
       let only = enable_in m c first.it below first.among in
       let other : IsEnableOf p only.0 first.it = only.3 in
       let node : only.0 ≡ v = plan.bus_free only.0 v (stage (ends_at d p v)) (stage (ends_at d p only.0))
