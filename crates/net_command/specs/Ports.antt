@@ -1,10 +1,9 @@
 -- The types of a program's words, and what `ports_of` answers for a source.
-use Rattle.std.specs.Prelude.{◌≡◌, ◌⊎◌, ℕ, List, Result, Ok, Err}
+use Rattle.std.specs.Prelude.{◌≡◌, ℕ, List, Result, Ok, Err}
 use Rattle.net_fit.specs.declared.ports.Ports.{Ports}
 use Rattle.silage_meaning.specs.Solves.{input_types, output_types}
 use Rattle.silage_syntax.specs.Tree.{Program}
 use Rattle.source_faults.specs.Faults.{HasProgram, IsFrontFault, IsOfSource}
-use Rattle.source_faults.specs.declared.fault.FrontFault.{FrontFault}
 use Rattle.statuses.specs.declared.status.Status.{Status}
 use Rattle.statuses.specs.declared.status.Status.TheVariants.{Memory, FrontEnd}
 
@@ -28,8 +27,3 @@ IsNoPorts source _ = ⊥
 abbrev pub AnswersPorts : Program → Result Ports Status → Type 0
 AnswersPorts program (Ok ports) = ports ≡ program_ports program
 AnswersPorts program (Err status) = status ≡ Memory
-
--- the call answers this fault, or there is no memory
-abbrev pub AnswersNoPorts : FrontFault → Result Ports Status → Type 0
-AnswersNoPorts fault (Ok ports) = ⊥
-AnswersNoPorts fault (Err status) = (status ≡ FrontEnd fault) ⊎ (status ≡ Memory)

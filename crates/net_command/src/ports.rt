@@ -1,12 +1,14 @@
 //! The types of a program's words.
 ghost use Rattle.std.specs.Prelude.{◌≡◌, IfOk, IfErr};
+ghost use Rattle.fault_order.specs.Ranked.{AnswersFault};
 ghost use Rattle.loop_expand.specs.InTypes.{flat_output_types};
-ghost use Rattle.net_command.specs.Ports.{ArePortsOf, IsNoPorts, AnswersPorts, AnswersNoPorts};
+ghost use Rattle.net_command.specs.Ports.{ArePortsOf, IsNoPorts, AnswersPorts};
 ghost use Rattle.signal_graph.specs.Flat as flat_program;
 ghost use Rattle.signal_graph.specs.FlatRules.{IsFlat};
 ghost use Rattle.silage_syntax.specs.Tree.{Program as Tree};
 ghost use Rattle.source_faults.specs.Faults.{HasProgram, IsFrontFault};
 ghost use Rattle.source_faults.specs.declared.fault.FrontFault.{FrontFault as FaultType};
+ghost use Rattle.statuses.specs.declared.status.Status.TheVariants.{FrontEnd, Memory};
 
 use front_end::accept_flat;
 use lists::List;
@@ -40,7 +42,8 @@ pub fn ports_of(alloc: Global, src: &[u8]) -> Result<Ports, Status>
 
     // What the source has is what the call answers, unless memory runs out.
     ensures each_program { (program : Tree) → HasProgram src.now program → AnswersPorts program result }
-    ensures each_fault { (fault : FaultType) → IsFrontFault src.now fault → AnswersNoPorts fault result }
+    ensures each_fault { (fault : FaultType) → IsFrontFault src.now fault
+        → AnswersFault Memory (FrontEnd fault) result }
 {
     let accepted = accept_flat(alloc, src)?;
     Ok(ports_in(alloc, &accepted.flat)?)

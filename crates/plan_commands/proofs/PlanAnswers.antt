@@ -9,6 +9,7 @@ use Rattle.datapath.specs.declared.types.Datapath.{Datapath}
 use Rattle.datapath.proofs.DescribedPath.{is_read, one_path}
 use Rattle.datapath.proofs.FirstPath.{first_read}
 use Rattle.desk_core.specs.View.{Content}
+use Rattle.fault_order.specs.Ranked.{AnswersFault}
 use Rattle.source_faults.specs.Faults.{HasProgram, IsFrontFault}
 use Rattle.front_end.specs.GraphOf.{IsProgramGraph}
 use Rattle.source_faults.specs.declared.fault.FrontError.{FrontError}
@@ -27,7 +28,7 @@ use Rattle.silage_syntax.specs.Tree.{Program}
 use Rattle.plan_commands.specs.Plans.{HasPlan, IsUnplanned, IsUnplannedBy, fault_of}
 use Rattle.plan_commands.proofs.OneFault.{no_path}
 use Rattle.plan_commands.proofs.Plans.{file_fault}
-use Rattle.plan_commands.specs.PlanOf.{AnswersPlan, AnswersRefusal}
+use Rattle.plan_commands.specs.PlanOf.{AnswersPlan}
 use Rattle.plan_commands.specs.Refusals.{IsOfPath, IsRefusal, IsRefusedBy, IsRefused, IsNoPlan}
 use Rattle.silc_files.specs.Sources.{IsAcceptedSource}
 use Rattle.silc_files.proofs.Results.{error_is}
@@ -242,10 +243,11 @@ pub refusal_is : (r : Result Planned Status) (told : Status)
     → IsErrAnd r (λ (status : Status). status ≡ told)
     → (why : Status)
     → (told ≡ why) ⊎ (told ≡ Memory)
-    → AnswersRefusal why r
+    → AnswersFault Memory why r
 refusal_is r told is why h =
-    ⊎_elim (λ e. subst (λ (x : Result Planned Status). AnswersRefusal why x) (sym e) (inl refl))
-    (λ e. subst (λ (x : Result Planned Status). AnswersRefusal why x) (sym e) (inr refl)) (either_is r told is why h)
+    ⊎_elim (λ e. subst (λ (x : Result Planned Status). AnswersFault Memory why x) (sym e) (inl refl))
+    (λ e. subst (λ (x : Result Planned Status). AnswersFault Memory why x) (sym e) (inr refl))
+    (either_is r told is why h)
 
 pub tells_why : (r : Result Plan Status) (told : Status)
     → IsErrAnd r (λ (status : Status). status ≡ told)

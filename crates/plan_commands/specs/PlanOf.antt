@@ -1,5 +1,5 @@
 -- What `plan_of` answers for a source and a datapath.
-use Rattle.std.specs.Prelude.{◌≡◌, ◌⊎◌, Result, Ok, Err}
+use Rattle.std.specs.Prelude.{◌≡◌, Result, Ok, Err}
 use Rattle.datapath.specs.declared.types.Datapath.{Datapath}
 use Rattle.plan_core.specs.declared.plan.Plan.{Plan}
 use Rattle.plan_commands.specs.declared.planning.Planned.{Planned}
@@ -10,8 +10,3 @@ use Rattle.statuses.specs.declared.status.Status.TheVariants.{Memory}
 abbrev pub AnswersPlan : Datapath → Plan → Result Planned Status → Type 0
 AnswersPlan d plan (Ok planned) = (planned.path ≡ d) × (planned.plan ≡ plan)
 AnswersPlan d plan (Err status) = status ≡ Memory
-
--- the call answers this refusal, or there is no memory
-abbrev pub AnswersRefusal : Status → Result Planned Status → Type 0
-AnswersRefusal why (Ok planned) = ⊥
-AnswersRefusal why (Err status) = (status ≡ why) ⊎ (status ≡ Memory)

@@ -1,6 +1,7 @@
 //! The plan of a source over a datapath, which `compile`, `schedule` and `run` make.
 ghost use Rattle.std.specs.Prelude.{◌≡◌, [], ◌∷◌, IfOk, IfErr};
 ghost use Rattle.datapath.specs.Allowed.{IsDatapath};
+ghost use Rattle.fault_order.specs.Ranked.{AnswersFault};
 ghost use Rattle.plan_core.specs.IsPlan.{IsPlan};
 ghost use Rattle.signal_graph.specs.GraphRules.{IsGraph};
 ghost use Rattle.signal_graph.specs.GraphSolves.{IsGraphLoopless};
@@ -8,7 +9,8 @@ ghost use Rattle.silage_syntax.specs.Tree.{view};
 ghost use Rattle.datapath.specs.declared.types.Datapath as of_path;
 ghost use Rattle.plan_core.specs.declared.plan.Plan as of_plan;
 ghost use Rattle.statuses.specs.declared.status.Status as of_status;
-ghost use Rattle.plan_commands.specs.PlanOf.{AnswersPlan, AnswersRefusal};
+ghost use Rattle.statuses.specs.declared.status.Status.TheVariants.{Memory};
+ghost use Rattle.plan_commands.specs.PlanOf.{AnswersPlan};
 ghost use Rattle.plan_commands.specs.Plans.{HasPlan, HasOnlyPlan, IsUnplanned};
 ghost use Rattle.plan_commands.specs.Refusals.{IsNoPlan, IsRefusal, IsRefused, IsPlanError};
 ghost use Rattle.loop_expand.specs.GraphFor.{IsGraphFor};
@@ -154,7 +156,7 @@ pub fn plan_of(alloc: Global, src: &[u8], path: &[u8]) -> Result<Planned, Status
     ensures each_plan { (d : of_path.Datapath) (p : of_plan.Plan) → HasPlan src.now path.now d p
         → AnswersPlan d p result }
     ensures each_refusal { (why : of_status.Status) → IsRefusal why → IsRefused why src.now path.now
-        → AnswersRefusal why result }
+        → AnswersFault Memory why result }
 {
     let accepted = accept(alloc, src)?;
     let path = datapath::read(alloc, path)?;
