@@ -1,7 +1,7 @@
 -- The guarded image of a feasible plan does at each cycle of the run what the plan has there, for the sample that is so
 -- many stages behind the machine's.
 use Rattle.std.proofs.Common.{◌≡◌, ℕ, zero, suc, ◌+◌, ◌-◌, ◌*◌, ◌/◌, ◌%◌, ◌<◌, ◌≤◌, ◌==◌, refl, sym, ap, ap₂, ◌∙◌}
-use Rattle.std.proofs.Common.{arith, ⊎_elim, length, List, [], ◌∷◌, slice_index_or, Some, Bool, true, false, cond}
+use Rattle.std.proofs.Common.{arith, ⊎_elim, length, List, [], ◌∷◌, Some, Bool, true, false, cond}
 use Rattle.std.proofs.Common.{subst}
 use Rattle.std.proofs.Common.{map, nat_le, ℤ}
 use Rattle.std.specs.List.{Contains, AllPairs, filter, find}
@@ -543,22 +543,21 @@ module _ (stages : ℕ) (d : Datapath) (p : Plan) (plan : IsFeasibleOver (overla
   no_unit_at : (u : ℕ) → length d.units ≤ u → unit_of micro u ≡ no_desc
   no_unit_at u le = nth_past guarded.units u _ (omega (arith, le, is.unit_count))
 
-  no_path_unit : (u : ℕ) → length d.units ≤ u → slice_index_or d.units u no_unit ≡ no_unit
-  no_path_unit u le = nth_past d.units u no_unit le
-
   -- the guarded image of a plan does at each cycle what the plan has there
   pub executes_guarded : ExecutesOver (overlap_of stages) d p (of_guarded guarded)
   executes_guarded = record {
     period = is.period;
     latency = λ u. unit_fact (λ (unit : UnitDesc). unit.latency) (latency_on d) u
         (λ u below. (is.units u below).latency)
-        (λ u le. ap (λ unit. unit.latency) (no_unit_at u le) ∙ sym (ap (λ unit. unit.latency) (no_path_unit u le)));
+        (λ u le. ap (λ unit. unit.latency) (no_unit_at u le)
+        ∙ sym (ap (λ unit. unit.latency) (nth_past d.units u no_unit le)));
     gap = λ u. unit_fact (λ unit. unit.gap) (gap_on d) u (λ u below. (is.units u below).gap)
-        (λ u le. ap (λ unit. unit.gap) (no_unit_at u le) ∙ sym (ap (λ unit. unit.gap) (no_path_unit u le)));
+        (λ u le. ap (λ unit. unit.gap) (no_unit_at u le) ∙ sym (ap (λ unit. unit.gap) (nth_past d.units u no_unit le)));
     cells = λ u. unit_fact (λ unit. length unit.cells) (cells_on d) u (λ u below. (is.units u below).cells)
-        (λ u le. ap (λ unit. length unit.cells) (no_unit_at u le) ∙ sym (ap (λ unit. unit.cells) (no_path_unit u le)));
+        (λ u le. ap (λ unit. length unit.cells) (no_unit_at u le)
+        ∙ sym (ap (λ unit. unit.cells) (nth_past d.units u no_unit le)));
     ram = λ u. unit_fact (λ unit. unit.ram) (tie_of d) u (λ u below. (is.units u below).ram)
-        (λ u le. ap (λ unit. unit.ram) (no_unit_at u le) ∙ sym (ap (λ unit. unit.ram) (no_path_unit u le)));
+        (λ u le. ap (λ unit. unit.ram) (no_unit_at u le) ∙ sym (ap (λ unit. unit.ram) (nth_past d.units u no_unit le)));
     known = λ v in-v. omega (arith, plan.units v in-v, is.unit_count);
     issue = issue_then;
     issue_only = issue_only;

@@ -49,9 +49,6 @@ divides copies unroll h k le = grind (arith, h, k, le)
 divides_past : (unroll : ℕ) → IsCount unroll → past % unroll ≡ 0
 divides_past unroll h = grind (arith, h)
 
-some_count : (n : ℕ) → IsCount n → 0 < n
-some_count n h = omega (arith, h)
-
 same_own : (u v : ℕ) → Some (own u) ≡ Some (own v) → u ≡ v
 same_own u v e = cc
 
@@ -213,7 +210,7 @@ module _ {Allows : Schedule → (height : ℕ → ℕ) → (v t : ℕ) → Type 
       let in-c : c < length (nodes_of p) =
       reader_there (nodes_of p) c (arc_at p k).port.port (arc_at p k).node its.read.1.reads in
       record {
-        some = some_count (arc_at p k).copies its.count;
+        some = omega (arith, its.count);
         turns = divides (arc_at p k).copies p.unroll its.count count_of_unroll (plan.unroll.most k _ in-k);
         written = omega (arith, its.written, mod-lt (ends_at d p (arc_at p k).node) period);
         lives = omega (arith, its.read.2, its.written, behind c (arc_at p k).port.port k in-c through);
@@ -286,7 +283,7 @@ module _ {Allows : Schedule → (height : ℕ → ℕ) → (v t : ℕ) → Type 
     period = period;
     stages = some;
     first = omega arith;
-    unroll = some_count p.unroll count_of_unroll;
+    unroll = omega (arith, count_of_unroll);
     turns = divides_past p.unroll count_of_unroll;
     gaps = gaps;
     operand_count = lowered.operand_count;
