@@ -1,7 +1,7 @@
 -- The bytes are computed, field by field.
-use Rattle.std.proofs.Common.{◌≡◌, ltb, refl, sym, ap, ◌∙◌, arith, ℕ, List, length}
+use Rattle.std.proofs.Common.{◌≡◌, ◌<◌, ◌^◌, ltb, true, refl, sym, ap, ◌∙◌, arith, ℕ, List, length}
 use Rattle.std.specs.Prelude.{slice_index_or}
-use Rattle.std.proofs.lemmas.Bool.{ltb-true}
+use Rattle.std.proofs.lemmas.Bool.Decides.{nat_tests}
 use Rattle.std.proofs.lemmas.List.Sums.{AllPass-from_list_all}
 use Rattle.micro_image.specs.Bits.{bits, preload_bits, place_bits, format_bits, issue_bits, enable_bits, take_bits}
 use Rattle.micro_image.specs.Bits.{takes_bits, ports_bits, word_bits, image_bits}
@@ -21,9 +21,12 @@ unfolding image_bytes two_bytes four_bytes eight_bytes spelled_file spelled_memo
     spelled_hardware format_bytes issue_bytes enable_bytes take_bytes word_bytes
 in_bytes = record { valid = echo_is_valid; spelled = refl }
 
+small : (b : ℕ) → ltb b 256 ≡ true → b < 2 ^ 8
+small b e = grind (arith, nat_tests)
+
 are_bytes : AreBytes packed
 are_bytes k d lt =
-    ltb-true (slice_index_or packed k d) 256 (AllPass-from_list_all (λ b. ltb b 256) packed refl k d lt)
+    small (slice_index_or packed k d) (AllPass-from_list_all (λ b. ltb b 256) packed refl k d lt)
 
 pub returns-clause-in_bytes : goal.returns-clause-in_bytes
 returns-clause-in_bytes _ = in_bytes
