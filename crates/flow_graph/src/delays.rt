@@ -18,8 +18,10 @@ fn mark(delayed: &mut [bool], elem: u32)
     }
 }
 
-/// Marks the elements that an expression reads with a delay.
+/// Marks the elements that an expression reads with a delay. Inlined where the parts of an operation are gone through,
+/// so that raw words and reads take no call.
 #[cycle(delays)]
+#[inline(always)]
 fn mark_reads(delayed: &mut [bool], value: &FlatExpr)
     ensures { Marks delayed.old (λ e. delays e (view_expr value.now)) delayed.new }
 {
@@ -36,6 +38,7 @@ fn mark_reads(delayed: &mut [bool], value: &FlatExpr)
 
 /// Marks the elements that the parts of an operation read with a delay.
 #[cycle(delays)]
+#[inline(never)]
 fn mark_part_reads(delayed: &mut [bool], parts: &[FlatExpr])
     ensures { Marks delayed.old (λ e. parts_delay e (view_exprs parts.now)) delayed.new }
 {

@@ -9,8 +9,10 @@ use lists::List;
 use signal_graph::{FlatBody, FlatExpr, FlatProgram};
 use std::alloc::{AllocError, AllocFailed, Global};
 
-/// Adds the elements that an expression reads without a delay.
+/// Adds the elements that an expression reads without a delay. Inlined where the parts of an operation are gone
+/// through, so that raw words and reads take no call.
 #[cycle(expressions)]
+#[inline(always)]
 fn add_reads(reads: &mut List<u32>, value: &FlatExpr) -> Result<(), AllocError>
     ensures { OnOk result (reads.new ≡ reads.old ++ reads_now (view_expr value.now)) }
 {
@@ -28,6 +30,7 @@ fn add_reads(reads: &mut List<u32>, value: &FlatExpr) -> Result<(), AllocError>
 
 /// Adds the elements that the parts of an operation read without a delay.
 #[cycle(expressions)]
+#[inline(never)]
 fn add_part_reads(reads: &mut List<u32>, parts: &[FlatExpr]) -> Result<(), AllocError>
     ensures { OnOk result (reads.new ≡ reads.old ++ parts_read_now (view_exprs parts.now)) }
 {

@@ -74,8 +74,10 @@ fn add_site(sites: &mut List<Site>, elem: u32, start: usize, made: Made) -> Resu
     Ok(())
 }
 
-/// Adds the places of an expression. Returns the operand that it is.
+/// Adds the places of an expression. Returns the operand that it is. Inlined where the parts of an operation are gone
+/// through, so that raw words and reads take no call.
 #[cycle(places)]
+#[inline(always)]
 fn add_places(
     alloc: Global,
     sites: &mut List<Site>,
@@ -114,6 +116,7 @@ fn add_places(
 
 /// Adds the places of the parts of an operation. Returns the operands that they are.
 #[cycle(places)]
+#[inline(never)]
 fn add_parts(
     alloc: Global,
     sites: &mut List<Site>,
