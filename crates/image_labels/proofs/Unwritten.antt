@@ -1,7 +1,7 @@
 -- Registers that are not written for some cycles keep their labels; what is noted of them, take by take.
-use Rattle.std.proofs.Common.{◌≡◌, ◌∙◌, ℕ, zero, suc, ◌+◌, ◌-◌, ◌*◌, ◌<◌, ◌≤◌, ◌⊎◌, refl, sym, ap, subst, arith, inl}
+use Rattle.std.proofs.Common.{◌≡◌, ◌∙◌, ℕ, zero, suc, ◌+◌, ◌-◌, ◌<◌, ◌≤◌, ◌⊎◌, refl, sym, ap, subst, arith, inl}
 use Rattle.std.proofs.Common.{inr, below_more}
-use Rattle.std.proofs.Common.{Bool, true, false, cond, List, [], ◌∷◌, Option, Some, None, length, take, find, ◌==◌}
+use Rattle.std.proofs.Common.{Bool, true, false, cond, List, [], ◌∷◌, Some, None, length, take, find, ◌==◌}
 use Rattle.std.specs.List.{All}
 use Rattle.std.specs.Prelude.{slice_set}
 use Rattle.std.proofs.lemmas.Bool.{cases_eq, cases_lt}
@@ -17,7 +17,7 @@ use Rattle.plan_soundness.proofs.Writes.{same_sound}
 use Rattle.image_labels.specs.declared.label.Certificate.{Certificate}
 use Rattle.image_labels.specs.Labels.{is_into, word_in, issued_in, taken_label, register_label}
 use Rattle.image_labels.specs.Private.Written.{AreElsewhere, IsUnwritten, place_of, AreUnwritten, AreNoted, written_at}
-use Rattle.image_labels.specs.Private.Written.{IsReadSince, AreReadSince, AreAllReadSince}
+use Rattle.image_labels.specs.Private.Written.{AreReadSince, AreAllReadSince}
 
 none_found : {A : Type 0} (test : A → Bool) (xs : List A) → All (λ x. test x ≡ false) xs → find test xs ≡ None
 none_found test [] all = refl

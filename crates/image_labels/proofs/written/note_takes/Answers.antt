@@ -1,4 +1,4 @@
-use Rattle.std.proofs.Common.{◌≡◌, ◌∙◌, ◌+◌, arith, ap, sym, subst, take, length}
+use Rattle.std.proofs.Common.{◌∙◌, ◌+◌, arith, ap, sym, subst, take, length}
 use Rattle.std.proofs.lemmas.List.{length-set, take_all}
 use Rattle.micro_image.specs.declared.image.Take.{Take}
 use Rattle.micro_image.specs.declared.image.Word.{Word}
