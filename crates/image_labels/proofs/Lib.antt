@@ -13,4 +13,5 @@ pub mod Latches
 pub mod Runs
 pub mod Scans
 pub mod KeptCells
+pub mod Unwritten
 pub mod Whole

@@ -1,16 +1,16 @@
 //! Whether the issues of a cycle fit their labels.
-ghost use Rattle.std.specs.Prelude.{◌≡◌, ◌<◌, ◌≤◌, ◌+◌, ◌*◌, ◌⊎◌, ◌↔◌, length, IsTrue};
+ghost use Rattle.std.specs.Prelude.{◌≡◌, ◌<◌, ◌≤◌, ◌+◌, ◌*◌, ◌⊎◌, ◌↔◌, length, IsTrue, MatchOption};
 ghost use Rattle.signal_graph.specs.GraphRules.{IsGraph, first_output as first_output_in};
 ghost use Rattle.signal_graph.specs.GraphSolves.{node_of};
-ghost use Rattle.fix_word.specs.declared.operation.Op.TheVariants.{Mul, Output};
+ghost use Rattle.fix_word.specs.declared.operation.Op.TheVariants.{Output};
 ghost use Rattle.operations.specs.Ranges.{to_nat};
 ghost use Rattle.micro_image.specs.Conflict.{IsMemory};
 ghost use Rattle.micro_image.specs.Valid.{IsValid};
 ghost use Rattle.image_labels.specs.declared.label.Label.TheVariants.{Signal};
 ghost use Rattle.image_labels.specs.Labels.{turn_of, delay_on as delay_of, issue_label as label_of_issue};
-ghost use Rattle.image_labels.specs.Rules.{passed as passed_by, IsFold};
-ghost use Rattle.image_labels.specs.Private.Checked.{IsIssuedBefore};
-ghost use Rattle.image_labels.specs.Private.Settled.{AreAllQuiet};
+ghost use Rattle.image_labels.specs.Rules.{passed as passed_by};
+ghost use Rattle.image_labels.specs.Private.Checked.{IsIssuedBefore, DoesAt, DoesFold, DoesBy, DoesOther};
+ghost use Rattle.image_labels.specs.Private.Written.{AreRight};
 ghost use Rattle.image_labels.specs.Labelled.{sample_at as sample_of, ReadsInOrder, ReadsExchanged, IsFree, IsOfNode, IsFolded, IsDone, IsLoad, IsKept, IsMoved, IsConst, IsAddress, IsLabelOf, IsInRam, IsPut, IsFit};
 
 use crate::copies::{same_format, same_operation};
@@ -18,7 +18,7 @@ use crate::folds::{is_fold, passed};
 use crate::hardware::{
     cell_in, cells_on, delay_on, gap_on, issued_in, modulus_of, number_of, word_in,
 };
-use crate::label::{Certificate, Label};
+use crate::label::{Certificate, Hints, Label};
 use crate::labels::{is_signal, issue_label, operand_label, same_label};
 use crate::narrow::{is_narrow, is_width};
 use crate::operands::reads_operands;
@@ -43,16 +43,32 @@ fn does_same(issue: &Issue, node: &Node) -> bool
     same_operation(issue.op, node.op) && same_format(issue.fmt, node.fmt) && issue.arg == node.arg
 }
 
-/// Whether there is a node of this number, and the operation, the format and the argument of an issue are those of it.
-fn does_at(graph: &Graph, issue: &Issue, node: u32) -> bool
-    ensures { IsTrue result
-        ↔ ((node < length graph.now.nodes)
-        × (issue.now.op ≡ (node_of graph.now node).op)
-        × (issue.now.fmt ≡ (node_of graph.now node).fmt)
-        × (issue.now.arg ≡ (node_of graph.now node).arg)) }
+/// Whether an issue has the operation, the format and the argument of the node with this number.
+pub fn does_at(graph: &Graph, issue: &Issue, node: u32) -> bool
+    ensures { IsTrue result ↔ DoesAt graph.now issue.now node }
 {
     let v = node as usize;
     v < graph.nodes.len() && does_same(issue, &graph.nodes[v])
+}
+
+/// Whether an issue is a product that gives at once what a node makes of a product.
+fn does_fold(graph: &Graph, issue: &Issue, node: u32) -> bool
+    ensures { IsTrue result ↔ DoesFold graph.now issue.now node }
+{
+    same_operation(issue.op, Op::Mul) && is_fold(graph, node, issue.fmt)
+}
+
+/// The node whose operands an issue reads that comes to the word of a node: that node, or the product that it passes on.
+pub fn done_node(graph: &Graph, issue: &Issue, node: u32) -> Option<u32>
+    ensures { MatchOption result (DoesOther graph.now issue.now node) (DoesBy graph.now issue.now node) }
+{
+    if does_at(graph, issue, node) {
+        return Some(node);
+    }
+    if does_fold(graph, issue, node) {
+        return Some(passed(graph, node));
+    }
+    None
 }
 
 /// Whether an issue reads the operands of a node in a sample.
@@ -64,15 +80,17 @@ fn reads_node(
     cycle: u16,
     issue: &Issue,
     node: u32,
+    hints: Hints,
 ) -> bool
     requires node { node < length graph.now.nodes }
     requires cycle { cycle ≤ length image.now.words }
+    requires right { AreRight image.now certificate.now hints }
     ensures { IsTrue result
         ↔ (ReadsInOrder graph.now image.now certificate.now sample cycle issue.now (node_of graph.now node)
         ⊎ ReadsExchanged graph.now image.now certificate.now sample cycle issue.now (node_of graph.now node)) }
 {
     let node = &graph.nodes[node as usize];
-    reads_operands(graph, image, certificate, sample, cycle, issue, node)
+    reads_operands(graph, image, certificate, sample, cycle, issue, node, hints)
 }
 
 /// Whether an issue does what a node does in a sample.
@@ -84,9 +102,11 @@ fn is_of_node(
     issue: &Issue,
     node: u32,
     sample: u32,
+    hints: Hints,
 ) -> bool
     requires valid { IsValid image.now }
     requires cycle { cycle ≤ length image.now.words }
+    requires right { AreRight image.now certificate.now hints }
     ensures { IsTrue result
         ↔ IsOfNode graph.now image.now certificate.now cycle issue.now node sample }
 {
@@ -94,15 +114,8 @@ fn is_of_node(
     if sample != now {
         return false;
     }
-    does_at(graph, issue, node) && reads_node(graph, image, certificate, now, cycle, issue, node)
-}
-
-/// Whether an issue is a product that gives at once what a node makes of a product.
-fn does_fold(graph: &Graph, issue: &Issue, node: u32) -> bool
-    ensures { IsTrue result
-        ↔ ((issue.now.op ≡ Mul) × IsFold graph.now node issue.now.fmt) }
-{
-    same_operation(issue.op, Op::Mul) && is_fold(graph, node, issue.fmt)
+    does_at(graph, issue, node)
+        && reads_node(graph, image, certificate, now, cycle, issue, node, hints)
 }
 
 /// Whether an issue reads in a sample the operands of the node whose word a node reads.
@@ -114,10 +127,12 @@ fn reads_passed(
     cycle: u16,
     issue: &Issue,
     node: u32,
+    hints: Hints,
 ) -> bool
     requires node { node < length graph.now.nodes }
     requires from { passed_by graph.now node < length graph.now.nodes }
     requires cycle { cycle ≤ length image.now.words }
+    requires right { AreRight image.now certificate.now hints }
     ensures { IsTrue result
         ↔ (ReadsInOrder graph.now image.now certificate.now sample cycle issue.now
         (node_of graph.now (passed_by graph.now node))
@@ -125,7 +140,7 @@ fn reads_passed(
         (node_of graph.now (passed_by graph.now node))) }
 {
     let from = passed(graph, node);
-    reads_node(graph, image, certificate, sample, cycle, issue, from)
+    reads_node(graph, image, certificate, sample, cycle, issue, from, hints)
 }
 
 /// Whether an issue is a product that gives at once what a node makes of a product in a sample.
@@ -137,9 +152,11 @@ fn is_folded(
     issue: &Issue,
     node: u32,
     sample: u32,
+    hints: Hints,
 ) -> bool
     requires valid { IsValid image.now }
     requires cycle { cycle ≤ length image.now.words }
+    requires right { AreRight image.now certificate.now hints }
     ensures { IsTrue result
         ↔ IsFolded graph.now image.now certificate.now cycle issue.now node sample }
 {
@@ -148,7 +165,7 @@ fn is_folded(
         return false;
     }
     does_fold(graph, issue, node)
-        && reads_passed(graph, image, certificate, now, cycle, issue, node)
+        && reads_passed(graph, image, certificate, now, cycle, issue, node, hints)
 }
 
 /// Whether an issue does what a node does in a sample, or gives its word at once.
@@ -160,14 +177,16 @@ fn is_done(
     issue: &Issue,
     node: u32,
     sample: u32,
+    hints: Hints,
 ) -> bool
     requires valid { IsValid image.now }
     requires cycle { cycle ≤ length image.now.words }
+    requires right { AreRight image.now certificate.now hints }
     ensures { IsTrue result
         ↔ IsDone graph.now image.now certificate.now cycle issue.now node sample }
 {
-    is_of_node(graph, image, certificate, cycle, issue, node, sample)
-        || is_folded(graph, image, certificate, cycle, issue, node, sample)
+    is_of_node(graph, image, certificate, cycle, issue, node, sample, hints)
+        || is_folded(graph, image, certificate, cycle, issue, node, sample, hints)
 }
 
 /// Whether an issue loads a cell with this label.
@@ -177,16 +196,16 @@ fn is_load(
     cycle: u16,
     issue: &Issue,
     label: Label,
-    quiet: bool,
+    hints: Hints,
 ) -> bool
     requires cycle { cycle ≤ length image.now.words }
-    requires quiet { IsTrue quiet → AreAllQuiet image.now certificate.now 32 }
+    requires right { AreRight image.now certificate.now hints }
     ensures { IsTrue result ↔ IsLoad image.now certificate.now cycle issue.now label }
 {
     match issue.op {
-        Op::Load => match operand_label(image, certificate, cycle, issue, 0) {
+        Op::Load => match operand_label(image, certificate, cycle, issue, 0, hints) {
             Label::Address(_, x) => same_label(
-                label_in(image, certificate, u32::from(issue.unit), x, cycle, quiet),
+                label_in(image, certificate, u32::from(issue.unit), x, cycle, hints),
                 label,
             ),
             _ => false,
@@ -203,9 +222,11 @@ fn is_kept(
     cycle: u16,
     issue: &Issue,
     label: Label,
+    hints: Hints,
 ) -> bool
     requires valid { IsValid image.now }
     requires cycle { cycle ≤ length image.now.words }
+    requires right { AreRight image.now certificate.now hints }
     ensures { IsTrue result ↔ IsKept graph.now image.now certificate.now cycle issue.now label }
 {
     match issue.op {
@@ -213,7 +234,10 @@ fn is_kept(
             let width = issue.fmt.width;
             issue.fmt.shift == 0
                 && is_width(width)
-                && same_label(operand_label(image, certificate, cycle, issue, 0), label)
+                && same_label(
+                    operand_label(image, certificate, cycle, issue, 0, hints),
+                    label,
+                )
                 && is_narrow(graph, sample_at(image, cycle), width, label)
         }
         _ => false,
@@ -228,15 +252,15 @@ fn is_moved(
     cycle: u16,
     issue: &Issue,
     label: Label,
-    quiet: bool,
+    hints: Hints,
 ) -> bool
     requires valid { IsValid image.now }
     requires cycle { cycle ≤ length image.now.words }
-    requires quiet { IsTrue quiet → AreAllQuiet image.now certificate.now 32 }
+    requires right { AreRight image.now certificate.now hints }
     ensures { IsTrue result ↔ IsMoved graph.now image.now certificate.now cycle issue.now label }
 {
-    is_load(image, certificate, cycle, issue, label, quiet)
-        || is_kept(graph, image, certificate, cycle, issue, label)
+    is_load(image, certificate, cycle, issue, label, hints)
+        || is_kept(graph, image, certificate, cycle, issue, label, hints)
 }
 
 /// Whether an issue gives this word.
@@ -272,46 +296,60 @@ fn is_label_of(
     cycle: u16,
     issue: &Issue,
     label: Label,
-    quiet: bool,
+    hints: Hints,
 ) -> bool
     requires valid { IsValid image.now }
     requires cycle { cycle ≤ length image.now.words }
-    requires quiet { IsTrue quiet → AreAllQuiet image.now certificate.now 32 }
+    requires right { AreRight image.now certificate.now hints }
     ensures { IsTrue result ↔ IsLabelOf graph.now image.now certificate.now cycle issue.now label }
 {
     match label {
         Label::Unknown => true,
         Label::Signal(node, sample) => {
-            is_done(graph, image, certificate, cycle, issue, node, sample)
-                || is_moved(graph, image, certificate, cycle, issue, label, quiet)
+            is_done(graph, image, certificate, cycle, issue, node, sample, hints)
+                || is_moved(graph, image, certificate, cycle, issue, label, hints)
         }
         Label::Address(cells, x) => is_address(image, cycle, issue, cells, x),
         Label::Constant(word) => {
-            is_const(issue, word) || is_moved(graph, image, certificate, cycle, issue, label, quiet)
+            is_const(issue, word) || is_moved(graph, image, certificate, cycle, issue, label, hints)
         }
     }
 }
 
 /// Whether an issue addresses a cell of its ram.
-fn is_in_ram(image: &Image, certificate: &Certificate, cycle: u16, issue: &Issue) -> bool
-    requires { cycle ≤ length image.now.words }
+fn is_in_ram(
+    image: &Image,
+    certificate: &Certificate,
+    cycle: u16,
+    issue: &Issue,
+    hints: Hints,
+) -> bool
+    requires cycle { cycle ≤ length image.now.words }
+    requires right { AreRight image.now certificate.now hints }
     ensures { IsTrue result ↔ IsInRam image.now certificate.now cycle issue.now }
 {
     let own = cells_on(image, u32::from(issue.unit));
-    match operand_label(image, certificate, cycle, issue, 0) {
+    match operand_label(image, certificate, cycle, issue, 0, hints) {
         Label::Address(cells, x) => cells as usize == own && (x as usize) < own,
         _ => false,
     }
 }
 
 /// Whether an access to memory is to a cell of its ram.
-fn is_access(image: &Image, certificate: &Certificate, cycle: u16, issue: &Issue) -> bool
-    requires { cycle ≤ length image.now.words }
+fn is_access(
+    image: &Image,
+    certificate: &Certificate,
+    cycle: u16,
+    issue: &Issue,
+    hints: Hints,
+) -> bool
+    requires cycle { cycle ≤ length image.now.words }
+    requires right { AreRight image.now certificate.now hints }
     ensures { IsTrue result
         ↔ (IsMemory issue.now.op → IsInRam image.now certificate.now cycle issue.now) }
 {
     match issue.op {
-        Op::Load | Op::Store => is_in_ram(image, certificate, cycle, issue),
+        Op::Load | Op::Store => is_in_ram(image, certificate, cycle, issue, hints),
         _ => true,
     }
 }
@@ -400,17 +438,17 @@ fn has_label(
     certificate: &Certificate,
     cycle: u16,
     issue: &Issue,
-    quiet: bool,
+    hints: Hints,
 ) -> bool
     requires valid { IsValid image.now }
     requires cycle { cycle ≤ length image.now.words }
-    requires quiet { IsTrue quiet → AreAllQuiet image.now certificate.now 32 }
+    requires right { AreRight image.now certificate.now hints }
     ensures { IsTrue result
         ↔ IsLabelOf graph.now image.now certificate.now cycle issue.now
         (label_of_issue certificate.now cycle issue.now.unit) }
 {
     let label = issue_label(certificate, cycle, u32::from(issue.unit));
-    is_label_of(graph, image, certificate, cycle, issue, label, quiet)
+    is_label_of(graph, image, certificate, cycle, issue, label, hints)
 }
 
 /// Whether an issue ends in its turn.
@@ -439,15 +477,17 @@ fn is_placed(
     certificate: &Certificate,
     cycle: u16,
     issue: &Issue,
+    hints: Hints,
 ) -> bool
     requires graph { IsGraph graph.now }
     requires valid { IsValid image.now }
     requires cycle { cycle ≤ length image.now.words }
+    requires right { AreRight image.now certificate.now hints }
     ensures { IsTrue result
         ↔ ((IsMemory issue.now.op → IsInRam image.now certificate.now cycle issue.now)
         × (issue.now.op ≡ Output → IsPut graph.now image.now certificate.now cycle issue.now)) }
 {
-    is_access(image, certificate, cycle, issue)
+    is_access(image, certificate, cycle, issue, hints)
         && is_put_if_output(graph, image, certificate, cycle, issue)
 }
 
@@ -458,16 +498,16 @@ pub fn is_fit(
     certificate: &Certificate,
     cycle: u16,
     issue: &Issue,
-    quiet: bool,
+    hints: Hints,
 ) -> bool
     requires graph { IsGraph graph.now }
     requires valid { IsValid image.now }
     requires cycle { cycle < length image.now.words }
-    requires quiet { IsTrue quiet → AreAllQuiet image.now certificate.now 32 }
+    requires right { AreRight image.now certificate.now hints }
     ensures yes { IsTrue result → IsFit graph.now image.now certificate.now cycle issue.now }
     ensures no { IsFit graph.now image.now certificate.now cycle issue.now → IsTrue result }
 {
     is_timely(image, cycle, u32::from(issue.unit))
-        && is_placed(graph, image, certificate, cycle, issue)
-        && has_label(graph, image, certificate, cycle, issue, quiet)
+        && is_placed(graph, image, certificate, cycle, issue, hints)
+        && has_label(graph, image, certificate, cycle, issue, hints)
 }

@@ -18,6 +18,7 @@ mod rows;
 mod settled;
 mod starts;
 mod validation;
+mod written;
 
 pub use label::{Certificate, Label};
 pub use mismatch::Mismatch;

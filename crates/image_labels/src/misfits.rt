@@ -1,17 +1,17 @@
 //! Why an issue does not fit, for the reader of a mismatch. Nothing rests on it.
 ghost use Rattle.std.specs.Prelude.{◌≤◌, length};
 ghost use Rattle.micro_image.specs.Valid.{IsValid};
+ghost use Rattle.image_labels.specs.Private.Written.{AreRight};
 
 use crate::copies::edge_at;
-use crate::fits::sample_at;
-use crate::folds::{is_fold, passed};
-use crate::label::{Certificate, Label};
+use crate::fits::{done_node, sample_at};
+use crate::label::{Certificate, Hints, Label};
 use crate::labels::{issue_label, operand_label};
 use crate::mismatch::Mismatch;
 use crate::operands::tells;
 use fix_word::Op;
 use micro_image::{Image, Issue};
-use signal_graph::{Edge, Graph, Node};
+use signal_graph::{Edge, Graph};
 
 /// The most operands of an operation.
 const PORTS: u8 = 3;
@@ -23,10 +23,6 @@ struct Reader {
     unit: u8,
     port: u8,
     node: u32,
-}
-
-fn does(issue: &Issue, node: &Node) -> bool {
-    issue.op == node.op && issue.fmt == node.fmt && issue.arg == node.arg
 }
 
 /// The mismatch of an operand that has this label in a sample, where it is to be that of an edge.
@@ -67,9 +63,11 @@ fn operand_misfit(
     cycle: u16,
     issue: &Issue,
     node: u32,
+    hints: Hints,
 ) -> Option<Mismatch>
     requires valid { IsValid image.now }
     requires cycle { cycle ≤ length image.now.words }
+    requires right { AreRight image.now certificate.now hints }
 {
     if node as usize >= graph.nodes.len() {
         return None;
@@ -79,7 +77,7 @@ fn operand_misfit(
     for port in 0..PORTS {
         if usize::from(port) < edges.len() {
             let edge = edge_at(edges, u32::from(port));
-            let label = operand_label(image, certificate, cycle, issue, u32::from(port));
+            let label = operand_label(image, certificate, cycle, issue, u32::from(port), hints);
             let wants = sample.saturating_sub(u32::from(edge.delay));
             if !tells(graph, certificate, label, edge.node, wants) {
                 let reader = Reader {
@@ -95,23 +93,6 @@ fn operand_misfit(
     None
 }
 
-/// Whether the operation, format and argument of an issue are those of a node.
-pub fn does_node(graph: &Graph, issue: &Issue, node: u32) -> bool {
-    let node = node as usize;
-    node < graph.nodes.len() && does(issue, &graph.nodes[node])
-}
-
-/// The node whose operands an issue reads that comes to the word of a node: that node, or the product that it passes on.
-pub fn done_node(graph: &Graph, issue: &Issue, node: u32) -> Option<u32> {
-    if does_node(graph, issue, node) {
-        return Some(node);
-    }
-    if matches!(issue.op, Op::Mul) && is_fold(graph, node, issue.fmt) {
-        return Some(passed(graph, node));
-    }
-    None
-}
-
 /// Why an issue does not fit.
 pub fn misfit(
     graph: &Graph,
@@ -119,9 +100,11 @@ pub fn misfit(
     certificate: &Certificate,
     cycle: u16,
     issue: &Issue,
+    hints: Hints,
 ) -> Mismatch
     requires valid { IsValid image.now }
     requires cycle { cycle ≤ length image.now.words }
+    requires right { AreRight image.now certificate.now hints }
 {
     let unit = issue.unit;
     let unexplained = Mismatch::Issue(cycle, unit);
@@ -135,6 +118,7 @@ pub fn misfit(
                     cycle,
                     issue,
                     done,
+                    hints,
                 ).unwrap_or(unexplained),
                 None => Mismatch::OtherOperation { cycle, unit, node },
             }

@@ -2,9 +2,10 @@
 ghost use Rattle.std.specs.Prelude.{◌≡◌, ◌⊎◌, ◌≤◌, ◌↔◌, length, IsTrue};
 ghost use Rattle.image_labels.specs.Rules.{IsCommutative, IsConstant, Tells};
 ghost use Rattle.image_labels.specs.Labelled.{ReadsOperand, ReadsInOrder, ReadsExchanged};
+ghost use Rattle.image_labels.specs.Private.Written.{AreRight};
 
 use crate::copies::{edge_at, representative};
-use crate::label::{Certificate, Label};
+use crate::label::{Certificate, Hints, Label};
 use crate::labels::operand_label;
 use fix_word::Op;
 use micro_image::{Image, Issue, reads};
@@ -59,13 +60,15 @@ fn reads_operand(
     node: &Node,
     port: u32,
     operand: u32,
+    hints: Hints,
 ) -> bool
-    requires { cycle ≤ length image.now.words }
+    requires cycle { cycle ≤ length image.now.words }
+    requires right { AreRight image.now certificate.now hints }
     ensures { IsTrue result
         ↔ ReadsOperand graph.now image.now certificate.now sample cycle issue.now node.now port operand }
 {
     let edge = edge_at(&node.edges, operand);
-    let label = operand_label(image, certificate, cycle, issue, port);
+    let label = operand_label(image, certificate, cycle, issue, port, hints);
     tells(
         graph,
         certificate,
@@ -84,8 +87,10 @@ fn reads_in_order(
     cycle: u16,
     issue: &Issue,
     node: &Node,
+    hints: Hints,
 ) -> bool
-    requires { cycle ≤ length image.now.words }
+    requires cycle { cycle ≤ length image.now.words }
+    requires right { AreRight image.now certificate.now hints }
     ensures { IsTrue result
         ↔ ReadsInOrder graph.now image.now certificate.now sample cycle issue.now node.now }
 {
@@ -101,6 +106,7 @@ fn reads_in_order(
                 node,
                 port,
                 port,
+                hints,
             )
         {
             return false;
@@ -118,14 +124,38 @@ fn reads_exchanged(
     cycle: u16,
     issue: &Issue,
     node: &Node,
+    hints: Hints,
 ) -> bool
-    requires { cycle ≤ length image.now.words }
+    requires cycle { cycle ≤ length image.now.words }
+    requires right { AreRight image.now certificate.now hints }
     ensures { IsTrue result
         ↔ ReadsExchanged graph.now image.now certificate.now sample cycle issue.now node.now }
 {
     commutes(issue.op)
-        && reads_operand(graph, image, certificate, sample, cycle, issue, node, 0, 1)
-        && reads_operand(graph, image, certificate, sample, cycle, issue, node, 1, 0)
+        && reads_operand(
+            graph,
+            image,
+            certificate,
+            sample,
+            cycle,
+            issue,
+            node,
+            0,
+            1,
+            hints,
+        )
+        && reads_operand(
+            graph,
+            image,
+            certificate,
+            sample,
+            cycle,
+            issue,
+            node,
+            1,
+            0,
+            hints,
+        )
 }
 
 /// Whether an issue reads a node's operands, in their order or exchanged.
@@ -137,12 +167,14 @@ pub fn reads_operands(
     cycle: u16,
     issue: &Issue,
     node: &Node,
+    hints: Hints,
 ) -> bool
-    requires { cycle ≤ length image.now.words }
+    requires cycle { cycle ≤ length image.now.words }
+    requires right { AreRight image.now certificate.now hints }
     ensures { IsTrue result
         ↔ (ReadsInOrder graph.now image.now certificate.now sample cycle issue.now node.now
         ⊎ ReadsExchanged graph.now image.now certificate.now sample cycle issue.now node.now) }
 {
-    reads_in_order(graph, image, certificate, sample, cycle, issue, node)
-        || reads_exchanged(graph, image, certificate, sample, cycle, issue, node)
+    reads_in_order(graph, image, certificate, sample, cycle, issue, node, hints)
+        || reads_exchanged(graph, image, certificate, sample, cycle, issue, node, hints)
 }

@@ -4,15 +4,15 @@ ghost use Rattle.std.specs.Prelude.{◌<◌, ◌≤◌, length, IfSome};
 ghost use Rattle.micro_image.specs.Valid.{IsValid};
 
 use crate::copies::{edge_at, is_copy, representative};
-use crate::fits::{first_output, sample_at};
+use crate::fits::{does_at, done_node, first_output, sample_at};
 use crate::hardware::{
     cell_in, cells_on, delay_on, driver_of, ended_in, issued_in, modulus_of, number_of,
     register_at, take_into, word_in,
 };
-use crate::label::{Certificate, Label};
-use crate::labels::{first_cell, fresh_in, issue_label, operand_label, settled_in, stores_into};
-use crate::misfits::{does_node, done_node};
+use crate::label::{Certificate, Label, cycle_at};
+use crate::labels::{first_cell, first_register, fresh_in, issue_label, settled_in};
 use crate::operands::commutes;
+use crate::written::{hint_index, note_takes, register_index};
 use fix_word::Op;
 use lists::List;
 use micro_image::{Image, Issue};
@@ -21,10 +21,10 @@ use std::alloc::{AllocError, Global};
 
 /// The most units of an image, and for how many a certificate has room in each cycle.
 const UNITS: u32 = 32;
-/// How many registers of a unit a certificate has room for, and of a port of it.
+/// How many registers of a unit a certificate has room for.
 const UNIT_REGISTERS: usize = 1024;
-
-const PORT_REGISTERS: usize = 256;
+/// For how many operands in a cycle it has room.
+const CYCLE_READS: usize = 96;
 /// The most cells of a ram.
 const CELLS: usize = 65536;
 /// The most operands of an operation.
@@ -73,11 +73,13 @@ enum Writer {
     Nothing,
 }
 
-/// The labels that are found so far, and the issues that have one, in the order in which it was found.
+/// The labels that are found so far, the issues that have one, in the order in which it was found, and for each register
+/// the cycle after the one in which it is written last in a turn, or 0.
 #[derive(Drop)]
 struct Search {
     certificate: Certificate,
     known: List<Known>,
+    last: List<u16>,
 }
 
 /// So many zeros.
@@ -108,29 +110,70 @@ fn put_signal(labels: &mut List<Label>, index: usize, signal: Signal) {
     put(labels, index, Label::Signal(signal.node, signal.sample));
 }
 
-/// What writes a register last before a cycle.
-fn writer_of(image: &Image, register: Register, cycle: u16) -> Writer
-    requires { cycle ≤ length image.now.words }
-{
-    let Register { unit, port, reg } = register;
-    for back in 0..cycle {
-        let before = cycle - back - 1;
-        let word = word_in(image, before);
-        if let Some(take) = take_into(word, unit, port, reg) {
-            return match driver_of(word, take.bus) {
-                Some(driver) => {
-                    let unit = u32::from(driver.unit);
-                    let delay = u16::from(delay_on(image, unit));
-                    Writer::Issue {
-                        cycle: before.saturating_sub(delay),
-                        unit,
-                    }
-                }
-                None => Writer::NoDriver,
-            };
-        }
+/// What writes a register in the cycle before one, if there is one before.
+fn writer_before(image: &Image, register: Register, after: u16) -> Writer {
+    if after == 0 || usize::from(after) > image.words.len() {
+        return Writer::Nothing;
     }
-    Writer::Nothing
+    let Register { unit, port, reg } = register;
+    let word = word_in(image, after - 1);
+    match take_into(word, unit, port, reg) {
+        Some(take) => match driver_of(word, take.bus) {
+            Some(driver) => {
+                let unit = u32::from(driver.unit);
+                let delay = u16::from(delay_on(image, unit));
+                Writer::Issue {
+                    cycle: (after - 1).saturating_sub(delay),
+                    unit,
+                }
+            }
+            None => Writer::NoDriver,
+        },
+        None => Writer::Nothing,
+    }
+}
+
+/// What writes a register last before the cycle in which its unit reads it.
+fn writer_of(image: &Image, certificate: &Certificate, register: Register, cycle: u16) -> Writer {
+    let index = hint_index(cycle, register.unit, register.port);
+    writer_before(image, register, cycle_at(&certificate.written, index))
+}
+
+/// What writes a register last in a turn.
+fn last_writer_of(image: &Image, last: &List<u16>, register: Register) -> Writer {
+    let Register { unit, port, reg } = register;
+    writer_before(
+        image,
+        register,
+        cycle_at(last, register_index(unit, port, reg)),
+    )
+}
+
+/// The label of what an issue of a cycle reads at a port.
+fn label_read(
+    image: &Image,
+    certificate: &Certificate,
+    cycle: u16,
+    issue: &Issue,
+    port: u32,
+) -> Label {
+    let register = read_register(issue, u32::from(issue.unit), port);
+    match writer_of(image, certificate, register, cycle) {
+        Writer::Issue { cycle, unit } => issue_label(certificate, cycle, unit),
+        Writer::NoDriver => Label::Unknown,
+        Writer::Nothing => first_register(certificate, register.unit, port, register.reg),
+    }
+}
+
+/// The cell that an issue of a cycle stores into, if it stores.
+fn cell_of(image: &Image, certificate: &Certificate, cycle: u16, issue: &Issue) -> Option<u32> {
+    if !matches!(issue.op, Op::Store) {
+        return None;
+    }
+    match label_read(image, certificate, cycle, issue, 0) {
+        Label::Address(_, cell) => Some(cell),
+        _ => None,
+    }
 }
 
 /// The cycle in which the last store into a cell was issued that ended before a cycle.
@@ -154,7 +197,7 @@ fn storer_of(
         let before = cycle - back - 1;
         if let Some(issue) = ended_in(image, before, unit) {
             let issued = before.saturating_sub(delay);
-            if stores_into(image, certificate, issued, issue, cell) {
+            if cell_of(image, certificate, issued, issue) == Some(cell) {
                 return Some(issued);
             }
         }
@@ -198,7 +241,7 @@ fn a_turn_later(image: &Image, signal: Signal) -> Signal {
 fn moves(graph: &Graph, image: &Image, issue: &Issue, cycle: u16, signal: Signal) -> bool
     requires { IsValid image.now }
 {
-    let own = does_node(graph, issue, signal.node) && signal.sample == sample_at(image, cycle);
+    let own = does_at(graph, issue, signal.node) && signal.sample == sample_at(image, cycle);
     matches!(issue.op, Op::Pass) && issue.fmt.shift == 0 && !own
 }
 
@@ -253,11 +296,11 @@ fn want_issue(
     Ok(())
 }
 
-/// Where the label stands of what a register holds when a turn starts.
-fn register_index(register: Register) -> usize {
-    register.unit as usize * UNIT_REGISTERS
-        + register.port as usize * PORT_REGISTERS
-        + register.reg as usize
+/// Notes what a register holds when a turn starts.
+fn put_register(search: &mut Search, register: Register, label: Label) {
+    let Register { unit, port, reg } = register;
+    let index = register_index(unit, port, reg);
+    put(&mut search.certificate.registers, index, label);
 }
 
 /// Notes the word of a constant in a register that no cycle writes.
@@ -265,11 +308,7 @@ fn put_constant(search: &mut Search, graph: &Graph, register: Register, signal: 
     let node = signal.node as usize;
     if node < graph.nodes.len() && matches!(graph.nodes[node].op, Op::Const) {
         let label = Label::Constant(graph.nodes[node].arg);
-        put(
-            &mut search.certificate.registers,
-            register_index(register),
-            label,
-        );
+        put_register(search, register, label);
     }
 }
 
@@ -283,11 +322,7 @@ fn put_first(search: &mut Search, image: &Image, register: Register, cycle: u16,
         Label::Constant(word) => Label::Constant(word),
         _ => Label::Unknown,
     };
-    put(
-        &mut search.certificate.registers,
-        register_index(register),
-        label,
-    );
+    put_register(search, register, label);
 }
 
 /// Notes the word that a register holds when the turn starts, and what the issue comes to by which it does, in the turn
@@ -301,7 +336,7 @@ fn want_first(
 ) -> Result<(), AllocError>
     requires { IsValid image.now }
 {
-    match writer_of(image, register, image.words.len() as u16) {
+    match last_writer_of(image, &search.last, register) {
         Writer::Issue { cycle, unit } => {
             want_issue(
                 search,
@@ -331,10 +366,9 @@ fn want_register(
     cycle: u16,
     signal: Signal,
 ) -> Result<(), AllocError>
-    requires valid { IsValid image.now }
-    requires cycle { cycle ≤ length image.now.words }
+    requires { IsValid image.now }
 {
-    match writer_of(image, register, cycle) {
+    match writer_of(image, &search.certificate, register, cycle) {
         Writer::Issue { cycle, unit } => want_issue(search, graph, image, cycle, unit, signal),
         Writer::NoDriver => Ok(()),
         Writer::Nothing => want_first(search, graph, image, register, signal),
@@ -429,7 +463,7 @@ fn want_loaded(
         unit,
         signal,
     } = known;
-    match operand_label(image, &search.certificate, cycle, issue, 0) {
+    match label_read(image, &search.certificate, cycle, issue, 0) {
         Label::Address(_, cell) => want_cell(search, graph, image, unit, cell, cycle, signal),
         _ => Ok(()),
     }
@@ -445,23 +479,26 @@ fn read_register(issue: &Issue, unit: u32, port: u32) -> Register {
 }
 
 /// The word of an operand in a sample, by the node that stands for its own.
-fn operand_signal(nodes: &List<u32>, edges: &Edges, operand: u32, sample: u32) -> Signal {
+fn operand_signal(certificate: &Certificate, edges: &Edges, operand: u32, sample: u32) -> Signal {
     let edge = edge_at(edges, operand);
     Signal {
-        node: representative(nodes, edge.node),
+        node: representative(&certificate.representatives, edge.node),
         sample: sample.saturating_sub(u32::from(edge.delay)),
     }
 }
 
-/// What writes a register last before a cycle, or in the turn before, and so many samples ago it counts.
-fn last_writer(image: &Image, register: Register, cycle: u16) -> Option<(u16, u32, u32)>
-    requires valid { IsValid image.now }
-    requires cycle { cycle ≤ length image.now.words }
-{
-    match writer_of(image, register, cycle) {
+/// What writes a register last before the cycle in which its unit reads it, or in the turn before, and so many samples ago
+/// it counts.
+fn last_writer(
+    search: &Search,
+    image: &Image,
+    register: Register,
+    cycle: u16,
+) -> Option<(u16, u32, u32)> {
+    match writer_of(image, &search.certificate, register, cycle) {
         Writer::Issue { cycle, unit } => Some((cycle, unit, 0)),
         Writer::NoDriver => None,
-        Writer::Nothing => match writer_of(image, register, image.words.len() as u16) {
+        Writer::Nothing => match last_writer_of(image, &search.last, register) {
             Writer::Issue { cycle, unit } => Some((cycle, unit, u32::from(image.unroll))),
             _ => None,
         },
@@ -477,12 +514,16 @@ fn may_give(graph: &Graph, image: &Image, issue: &Issue, cycle: u16, signal: Sig
     own || matches!(issue.op, Op::Load) || moves(graph, image, issue, cycle, signal)
 }
 
-/// The issue that wrote a register last before a cycle, and what it comes to if the register holds this word then.
-fn written(image: &Image, register: Register, cycle: u16, signal: Signal) -> Option<Known>
-    requires valid { IsValid image.now }
-    requires cycle { cycle ≤ length image.now.words }
-{
-    let (cycle, unit, later) = last_writer(image, register, cycle)?;
+/// The issue that wrote a register last before its unit reads it in a cycle, and what it comes to if the register holds
+/// this word then.
+fn written(
+    search: &Search,
+    image: &Image,
+    register: Register,
+    cycle: u16,
+    signal: Signal,
+) -> Option<Known> {
+    let (cycle, unit, later) = last_writer(search, image, register, cycle)?;
     let Signal { node, sample } = signal;
     let sample = sample.saturating_add(later);
     Some(Known {
@@ -505,8 +546,8 @@ fn may_come(graph: &Graph, image: &Image, known: Known) -> bool
 
 /// Whether an issue may read an operand of a node at a port.
 fn may_read(
+    search: &Search,
     graph: &Graph,
-    nodes: &List<u32>,
     image: &Image,
     issue: &Issue,
     known: Known,
@@ -514,12 +555,16 @@ fn may_read(
     port: u32,
     operand: u32,
 ) -> bool
-    requires valid { IsValid image.now }
-    requires cycle { known.cycle ≤ length image.now.words }
+    requires { IsValid image.now }
 {
     let register = read_register(issue, known.unit, port);
-    let signal = operand_signal(nodes, edges, operand, sample_at(image, known.cycle));
-    match written(image, register, known.cycle, signal) {
+    let signal = operand_signal(
+        &search.certificate,
+        edges,
+        operand,
+        sample_at(image, known.cycle),
+    );
+    match written(search, image, register, known.cycle, signal) {
         Some(known) => may_come(graph, image, known),
         None => true,
     }
@@ -527,45 +572,43 @@ fn may_read(
 
 /// Whether an issue may read a node's operands, in either order where it gives the same.
 fn may_read_both(
+    search: &Search,
     graph: &Graph,
-    nodes: &List<u32>,
     image: &Image,
     issue: &Issue,
     known: Known,
     edges: &Edges,
 ) -> bool
-    requires valid { IsValid image.now }
-    requires cycle { known.cycle ≤ length image.now.words }
+    requires { IsValid image.now }
 {
-    (may_read(graph, nodes, image, issue, known, edges, 0, 0)
-        && (edges.len() < 2 || may_read(graph, nodes, image, issue, known, edges, 1, 1)))
+    (may_read(search, graph, image, issue, known, edges, 0, 0)
+        && (edges.len() < 2 || may_read(search, graph, image, issue, known, edges, 1, 1)))
         || (commutes(issue.op)
-            && may_read(graph, nodes, image, issue, known, edges, 0, 1)
-            && may_read(graph, nodes, image, issue, known, edges, 1, 0))
+            && may_read(search, graph, image, issue, known, edges, 0, 1)
+            && may_read(search, graph, image, issue, known, edges, 1, 0))
 }
 
 /// Whether an issue may read the operands of a node, if it has any.
 fn may_read_node(
+    search: &Search,
     graph: &Graph,
-    nodes: &List<u32>,
     image: &Image,
     issue: &Issue,
     known: Known,
     node: u32,
 ) -> bool
-    requires valid { IsValid image.now }
-    requires cycle { known.cycle ≤ length image.now.words }
+    requires { IsValid image.now }
 {
     let node = node as usize;
     if node >= graph.nodes.len() {
         return false;
     }
     let edges = &graph.nodes[node].edges;
-    edges.is_empty() || may_read_both(graph, nodes, image, issue, known, edges)
+    edges.is_empty() || may_read_both(search, graph, image, issue, known, edges)
 }
 
 /// Whether an issue may come to its word, as far as the issues show that wrote what it reads.
-fn may_come_by_reads(graph: &Graph, nodes: &List<u32>, image: &Image, known: Known) -> bool
+fn may_come_by_reads(search: &Search, graph: &Graph, image: &Image, known: Known) -> bool
     requires { IsValid image.now }
 {
     if usize::from(known.cycle) >= image.words.len() {
@@ -573,7 +616,7 @@ fn may_come_by_reads(graph: &Graph, nodes: &List<u32>, image: &Image, known: Kno
     }
     match issued_in(word_in(image, known.cycle), known.unit) {
         Some(issue) => match done_node(graph, issue, known.signal.node) {
-            Some(node) => may_read_node(graph, nodes, image, issue, known, node),
+            Some(node) => may_read_node(search, graph, image, issue, known, node),
             None => true,
         },
         None => false,
@@ -582,8 +625,8 @@ fn may_come_by_reads(graph: &Graph, nodes: &List<u32>, image: &Image, known: Kno
 
 /// Whether an issue may read an operand of a node at a port, as far as the issues show that wrote what its writer reads.
 fn may_read_by_reads(
+    search: &Search,
     graph: &Graph,
-    nodes: &List<u32>,
     image: &Image,
     issue: &Issue,
     known: Known,
@@ -591,13 +634,17 @@ fn may_read_by_reads(
     port: u32,
     operand: u32,
 ) -> bool
-    requires valid { IsValid image.now }
-    requires cycle { known.cycle ≤ length image.now.words }
+    requires { IsValid image.now }
 {
     let register = read_register(issue, known.unit, port);
-    let signal = operand_signal(nodes, edges, operand, sample_at(image, known.cycle));
-    match written(image, register, known.cycle, signal) {
-        Some(known) => may_come_by_reads(graph, nodes, image, known),
+    let signal = operand_signal(
+        &search.certificate,
+        edges,
+        operand,
+        sample_at(image, known.cycle),
+    );
+    match written(search, image, register, known.cycle, signal) {
+        Some(known) => may_come_by_reads(search, graph, image, known),
         None => true,
     }
 }
@@ -605,26 +652,25 @@ fn may_read_by_reads(
 /// Whether an issue reads the two operands of a node exchanged, as far as the issues show that wrote them, and where
 /// these may be either, those that wrote what they read.
 fn is_exchanged(
+    search: &Search,
     graph: &Graph,
-    nodes: &List<u32>,
     image: &Image,
     issue: &Issue,
     known: Known,
     edges: &Edges,
 ) -> bool
-    requires valid { IsValid image.now }
-    requires cycle { known.cycle ≤ length image.now.words }
+    requires { IsValid image.now }
 {
     if !commutes(issue.op)
-        || !may_read(graph, nodes, image, issue, known, edges, 0, 1)
-        || !may_read(graph, nodes, image, issue, known, edges, 1, 0)
+        || !may_read(search, graph, image, issue, known, edges, 0, 1)
+        || !may_read(search, graph, image, issue, known, edges, 1, 0)
     {
         return false;
     }
-    !(may_read(graph, nodes, image, issue, known, edges, 0, 0)
-        && may_read(graph, nodes, image, issue, known, edges, 1, 1)
-        && may_read_by_reads(graph, nodes, image, issue, known, edges, 0, 0)
-        && may_read_by_reads(graph, nodes, image, issue, known, edges, 1, 1))
+    !(may_read(search, graph, image, issue, known, edges, 0, 0)
+        && may_read(search, graph, image, issue, known, edges, 1, 1)
+        && may_read_by_reads(search, graph, image, issue, known, edges, 0, 0)
+        && may_read_by_reads(search, graph, image, issue, known, edges, 1, 1))
 }
 
 /// The operand that an issue reads at a port.
@@ -644,8 +690,7 @@ fn want_operands(
     issue: &Issue,
     known: Known,
 ) -> Result<(), AllocError>
-    requires valid { IsValid image.now }
-    requires cycle { known.cycle ≤ length image.now.words }
+    requires { IsValid image.now }
 {
     let node = match done_node(graph, issue, known.signal.node) {
         Some(node) => node as usize,
@@ -655,14 +700,13 @@ fn want_operands(
         return Ok(());
     }
     let edges = &graph.nodes[node].edges;
-    let nodes = &search.certificate.representatives;
-    let exchanged = is_exchanged(graph, nodes, image, issue, known, edges);
+    let exchanged = is_exchanged(search, graph, image, issue, known, edges);
     for port in 0..PORTS {
         if (port as usize) < edges.len() {
             let register = read_register(issue, known.unit, port);
             let operand = operand_at(exchanged, port);
-            let nodes = &search.certificate.representatives;
-            let signal = operand_signal(nodes, edges, operand, sample_at(image, known.cycle));
+            let sample = sample_at(image, known.cycle);
+            let signal = operand_signal(&search.certificate, edges, operand, sample);
             want_register(search, graph, image, register, known.cycle, signal)?;
         }
     }
@@ -677,8 +721,7 @@ fn want_moved(
     issue: &Issue,
     known: Known,
 ) -> Result<(), AllocError>
-    requires valid { IsValid image.now }
-    requires cycle { known.cycle ≤ length image.now.words }
+    requires { IsValid image.now }
 {
     let register = read_register(issue, known.unit, 0);
     want_register(search, graph, image, register, known.cycle, known.signal)
@@ -789,14 +832,8 @@ fn cell_stored(image: &Image, certificate: &Certificate, cycle: u16, unit: u32) 
     requires { cycle < length image.now.words }
 {
     let issue = ended_in(image, cycle, unit)?;
-    if !matches!(issue.op, Op::Store) {
-        return None;
-    }
     let issued = cycle.saturating_sub(u16::from(delay_on(image, unit)));
-    match operand_label(image, certificate, issued, issue, 0) {
-        Label::Address(_, cell) => Some(cell),
-        _ => None,
-    }
+    cell_of(image, certificate, issued, issue)
 }
 
 /// Notes that a store ends in a cycle, behind all that were noted.
@@ -820,6 +857,37 @@ fn put_stores(image: &Image, certificate: &mut Certificate, turn: u16)
                 note_store(certificate, index, cycle);
             }
         }
+    }
+}
+
+/// Notes since when the registers are not written that an issue of a cycle reads.
+fn put_reads_of(written: &mut List<u16>, last: &List<u16>, cycle: u16, issue: &Issue) {
+    let unit = u32::from(issue.unit);
+    for port in 0..PORTS {
+        let reg = u32::from(register_at(&issue.regs, port));
+        let index = hint_index(cycle, unit, port);
+        if index < written.len() {
+            written[index] = cycle_at(last, register_index(unit, port, reg));
+        }
+    }
+}
+
+/// Notes since when the registers are not written that the issues of a cycle read.
+fn put_reads_in(image: &Image, written: &mut List<u16>, last: &List<u16>, cycle: u16)
+    requires { cycle < length image.now.words }
+{
+    for issue in word_in(image, cycle).issues.iter() {
+        put_reads_of(written, last, cycle, issue);
+    }
+}
+
+/// Notes since when registers are not written: those that are read, and all at the end of a turn.
+fn put_writes(image: &Image, written: &mut List<u16>, last: &mut List<u16>, turn: u16)
+    requires { turn ≤ length image.now.words }
+{
+    for cycle in 0..turn {
+        put_reads_in(image, written, last, cycle);
+        note_takes(image, last, cycle);
     }
 }
 
@@ -963,9 +1031,17 @@ pub fn recover(alloc: Global, graph: &Graph, image: &Image) -> Result<Certificat
             cells: unknowns(alloc, units * CELLS)?,
             fresh: zeros(alloc, units * CELLS)?,
             settled: zeros(alloc, units * CELLS)?,
+            written: zeros(alloc, usize::from(turn) * CYCLE_READS)?,
         },
         known: List::new(alloc),
+        last: zeros(alloc, units * UNIT_REGISTERS)?,
     };
+    put_writes(
+        image,
+        &mut search.certificate.written,
+        &mut search.last,
+        turn,
+    );
     put_addresses(image, &mut search.certificate.issues, turn);
     put_stores(image, &mut search.certificate, turn);
     if !reads_constants_late(graph) {

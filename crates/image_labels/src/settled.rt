@@ -3,9 +3,10 @@ ghost use Rattle.std.specs.Prelude.{◌≡◌, ◌<◌, ◌≤◌, ℕ, length, 
 ghost use Rattle.image_labels.specs.declared.label.Label.{Label as LabelOf};
 ghost use Rattle.image_labels.specs.Labels.{cell_label as label_of_cell, stored_label};
 ghost use Rattle.image_labels.specs.Private.Settled.{fresh_at, settled_at, IsQuiet, LeavesQuiet, AreQuiet, AreAllQuiet};
+ghost use Rattle.image_labels.specs.Private.Written.{AreRight};
 
 use crate::hardware::{delay_on, ended_in};
-use crate::label::{Certificate, Label};
+use crate::label::{Certificate, Hints, Label};
 use crate::labels::{cell_label, first_cell, fresh_in, operand_label, settled_in};
 use fix_word::Op;
 use micro_image::{Image, Issue};
@@ -18,13 +19,15 @@ fn spares(
     ends: u16,
     cycle: u16,
     issue: &Issue,
+    hints: Hints,
 ) -> bool
-    requires { cycle ≤ length image.now.words }
+    requires cycle { cycle ≤ length image.now.words }
+    requires right { AreRight image.now certificate.now hints }
     ensures { IsTrue result → (x : ℕ) → IsQuiet certificate.now unit x ends → (before : LabelOf)
         → stored_label image.now certificate.now cycle x (Some issue.now) before ≡ before }
 {
     match issue.op {
-        Op::Store => match operand_label(image, certificate, cycle, issue, 0) {
+        Op::Store => match operand_label(image, certificate, cycle, issue, 0, hints) {
             Label::Address(_, cell) => {
                 fresh_in(certificate, unit, cell) <= ends
                     && ends < settled_in(certificate, unit, cell)
@@ -36,25 +39,33 @@ fn spares(
 }
 
 /// Whether what ends on a unit in a cycle stores into no cell that is quiet then.
-fn leaves_quiet(image: &Image, certificate: &Certificate, unit: u32, cycle: u16) -> bool
-    requires { cycle < length image.now.words }
+fn leaves_quiet(
+    image: &Image,
+    certificate: &Certificate,
+    unit: u32,
+    cycle: u16,
+    hints: Hints,
+) -> bool
+    requires cycle { cycle < length image.now.words }
+    requires right { AreRight image.now certificate.now hints }
     ensures { IsTrue result → LeavesQuiet image.now certificate.now unit cycle }
 {
     match ended_in(image, cycle, unit) {
         Some(issue) => {
             let issued = cycle.saturating_sub(u16::from(delay_on(image, unit)));
-            spares(image, certificate, unit, cycle, issued, issue)
+            spares(image, certificate, unit, cycle, issued, issue, hints)
         }
         None => true,
     }
 }
 
-fn are_quiet(image: &Image, certificate: &Certificate, unit: u32, turn: u16) -> bool
-    requires { turn ≡ length image.now.words }
+fn are_quiet(image: &Image, certificate: &Certificate, unit: u32, turn: u16, hints: Hints) -> bool
+    requires turn { turn ≡ length image.now.words }
+    requires right { AreRight image.now certificate.now hints }
     ensures { IsTrue result → AreQuiet image.now certificate.now unit (length image.now.words) }
 {
     for cycle in 0..turn {
-        if !leaves_quiet(image, certificate, unit, cycle) {
+        if !leaves_quiet(image, certificate, unit, cycle, hints) {
             return false;
         }
     }
@@ -63,12 +74,13 @@ fn are_quiet(image: &Image, certificate: &Certificate, unit: u32, turn: u16) -> 
 
 /// Whether all stores are where the certificate has them. Else each cell is looked for in all cycles, and the answers are
 /// the same.
-pub fn are_all_quiet(image: &Image, certificate: &Certificate, turn: u16) -> bool
-    requires { turn ≡ length image.now.words }
+pub fn are_all_quiet(image: &Image, certificate: &Certificate, turn: u16, hints: Hints) -> bool
+    requires turn { turn ≡ length image.now.words }
+    requires right { AreRight image.now certificate.now hints }
     ensures { IsTrue result → AreAllQuiet image.now certificate.now 32 }
 {
     for unit in 0..32u32 {
-        if !are_quiet(image, certificate, unit, turn) {
+        if !are_quiet(image, certificate, unit, turn, hints) {
             return false;
         }
     }
@@ -76,16 +88,24 @@ pub fn are_all_quiet(image: &Image, certificate: &Certificate, turn: u16) -> boo
 }
 
 /// The label of a cell in a cycle, which is that of the turn's start up to its first store.
-fn fresh_label(image: &Image, certificate: &Certificate, unit: u32, cell: u32, cycle: u16) -> Label
+fn fresh_label(
+    image: &Image,
+    certificate: &Certificate,
+    unit: u32,
+    cell: u32,
+    cycle: u16,
+    hints: Hints,
+) -> Label
     requires cycle { cycle ≤ length image.now.words }
+    requires right { AreRight image.now certificate.now hints }
     requires quiet { AreQuiet image.now certificate.now unit (length image.now.words) }
     ensures { result ≡ label_of_cell image.now certificate.now unit cell cycle }
 {
     let fresh = fresh_in(certificate, unit, cell);
     if fresh < cycle {
-        cell_label(image, certificate, unit, cell, cycle)
+        cell_label(image, certificate, unit, cell, cycle, hints)
     } else {
-        cell_label(image, certificate, unit, cell, 0)
+        cell_label(image, certificate, unit, cell, 0, hints)
     }
 }
 
@@ -96,16 +116,18 @@ fn settled_label(
     unit: u32,
     cell: u32,
     cycle: u16,
+    hints: Hints,
 ) -> Label
     requires cycle { cycle ≤ length image.now.words }
+    requires right { AreRight image.now certificate.now hints }
     requires quiet { AreQuiet image.now certificate.now unit (length image.now.words) }
     ensures { result ≡ label_of_cell image.now certificate.now unit cell cycle }
 {
     let settled = settled_in(certificate, unit, cell);
     if settled < cycle {
-        cell_label(image, certificate, unit, cell, settled)
+        cell_label(image, certificate, unit, cell, settled, hints)
     } else {
-        fresh_label(image, certificate, unit, cell, cycle)
+        fresh_label(image, certificate, unit, cell, cycle, hints)
     }
 }
 
@@ -116,16 +138,16 @@ pub fn label_in(
     unit: u32,
     cell: u32,
     cycle: u16,
-    quiet: bool,
+    hints: Hints,
 ) -> Label
     requires cycle { cycle ≤ length image.now.words }
-    requires quiet { IsTrue quiet → AreAllQuiet image.now certificate.now 32 }
+    requires right { AreRight image.now certificate.now hints }
     ensures { result ≡ label_of_cell image.now certificate.now unit cell cycle }
 {
-    if quiet {
+    if hints.stores {
         if unit < 32 {
-            return settled_label(image, certificate, unit, cell, cycle);
+            return settled_label(image, certificate, unit, cell, cycle, hints);
         }
     }
-    cell_label(image, certificate, unit, cell, cycle)
+    cell_label(image, certificate, unit, cell, cycle, hints)
 }

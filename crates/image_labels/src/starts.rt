@@ -8,13 +8,13 @@ ghost use Rattle.micro_image.specs.Valid.{IsValid};
 ghost use Rattle.image_labels.specs.Labels.{register_label as label_of_register, cell_label as label_of_cell};
 ghost use Rattle.image_labels.specs.Labelled.{IsWordBefore, IsRegisterStart, IsCellStart};
 ghost use Rattle.image_labels.specs.Private.Checked.{IsFileStart, AreFilesStart, AreRegistersStart, IsRamStart, AreCellsStart};
-ghost use Rattle.image_labels.specs.Private.Settled.{AreAllQuiet};
+ghost use Rattle.image_labels.specs.Private.Written.{AreUnwritten, AreRight};
 
 use crate::hardware::{
     cell_in, cells_on, files_on, initial_cell, initial_register, registers_on, word_before,
 };
-use crate::label::{Certificate, Label};
-use crate::labels::{first_cell, first_register, is_signal, register_label, same_label};
+use crate::label::{Certificate, Hints, Label};
+use crate::labels::{first_cell, first_register, is_signal, last_label, same_label};
 use crate::mismatch::Mismatch;
 use crate::settled::label_in;
 use micro_image::Image;
@@ -43,12 +43,14 @@ fn is_register_start(
     graph: &Graph,
     image: &Image,
     certificate: &Certificate,
+    last: &[u16],
     unit: u32,
     port: u32,
     reg: u32,
     turn: u16,
 ) -> bool
-    requires { turn ≡ length image.now.words }
+    requires turn { turn ≡ length image.now.words }
+    requires last { AreUnwritten image.now last.now turn }
     ensures { IsTrue result
         ↔ IsRegisterStart graph.now image.now certificate.now turn unit port reg }
 {
@@ -61,7 +63,7 @@ fn is_register_start(
                 sample,
                 initial_register(image, unit, port, reg),
             ) && is_signal(
-                register_label(image, certificate, unit, port, reg, turn),
+                last_label(image, certificate, last, unit, port, reg, turn),
                 node,
                 later(sample, image.unroll),
             )
@@ -70,7 +72,7 @@ fn is_register_start(
         Label::Constant(word) => {
             initial_register(image, unit, port, reg) == word
                 && same_label(
-                    register_label(image, certificate, unit, port, reg, turn),
+                    last_label(image, certificate, last, unit, port, reg, turn),
                     Label::Constant(word),
                 )
         }
@@ -86,11 +88,11 @@ fn is_cell_start(
     cells: u32,
     cell: u32,
     turn: u16,
-    quiet: bool,
+    hints: Hints,
 ) -> bool
     requires turn { turn ≡ length image.now.words }
     requires cell { cell < cells }
-    requires quiet { IsTrue quiet → AreAllQuiet image.now certificate.now 32 }
+    requires right { AreRight image.now certificate.now hints }
     ensures { IsTrue result
         ↔ IsCellStart graph.now image.now certificate.now turn cells unit cell }
 {
@@ -100,7 +102,7 @@ fn is_cell_start(
             let last = cell_in(cells, u64::from(cell), u16::from(image.unroll)) as u32;
             is_before(graph, node, sample, initial_cell(image, unit, cell))
                 && is_signal(
-                    label_in(image, certificate, unit, last, turn, quiet),
+                    label_in(image, certificate, unit, last, turn, hints),
                     node,
                     later(sample, image.unroll),
                 )
@@ -110,7 +112,7 @@ fn is_cell_start(
             let last = cell_in(cells, u64::from(cell), u16::from(image.unroll)) as u32;
             initial_cell(image, unit, cell) == word
                 && same_label(
-                    label_in(image, certificate, unit, last, turn, quiet),
+                    label_in(image, certificate, unit, last, turn, hints),
                     Label::Constant(word),
                 )
         }
@@ -121,18 +123,20 @@ fn check_file(
     graph: &Graph,
     image: &Image,
     certificate: &Certificate,
+    last: &[u16],
     unit: u32,
     port: u32,
     turn: u16,
 ) -> Result<(), Mismatch>
-    requires { turn ≡ length image.now.words }
+    requires turn { turn ≡ length image.now.words }
+    requires last { AreUnwritten image.now last.now turn }
     ensures ok { OnOk result (IsFileStart graph.now image.now certificate.now turn unit port 256) }
     ensures err { OnErr result (IsFileStart graph.now image.now certificate.now turn unit port 256 → ⊥) }
 {
     let registers = registers_on(image, unit, port);
     for reg in 0..256u32 {
         if (reg as usize) < registers
-            && !is_register_start(graph, image, certificate, unit, port, reg, turn)
+            && !is_register_start(graph, image, certificate, last, unit, port, reg, turn)
         {
             return Err(Mismatch::Register(unit, port, reg));
         }
@@ -144,16 +148,18 @@ fn check_files(
     graph: &Graph,
     image: &Image,
     certificate: &Certificate,
+    last: &[u16],
     unit: u32,
     turn: u16,
 ) -> Result<(), Mismatch>
-    requires { turn ≡ length image.now.words }
+    requires turn { turn ≡ length image.now.words }
+    requires last { AreUnwritten image.now last.now turn }
     ensures ok { OnOk result (AreFilesStart graph.now image.now certificate.now turn unit 3) }
     ensures err { OnErr result (AreFilesStart graph.now image.now certificate.now turn unit 3 → ⊥) }
 {
     for port in 0..3u32 {
         if (port as usize) < files_on(image, unit) {
-            check_file(graph, image, certificate, unit, port, turn)?;
+            check_file(graph, image, certificate, last, unit, port, turn)?;
         }
     }
     Ok(())
@@ -164,15 +170,17 @@ pub fn check_registers(
     graph: &Graph,
     image: &Image,
     certificate: &Certificate,
+    last: &[u16],
     turn: u16,
 ) -> Result<(), Mismatch>
-    requires { turn ≡ length image.now.words }
+    requires turn { turn ≡ length image.now.words }
+    requires last { AreUnwritten image.now last.now turn }
     ensures ok { OnOk result (AreRegistersStart graph.now image.now certificate.now turn 32) }
     ensures err { OnErr result (AreRegistersStart graph.now image.now certificate.now turn 32 → ⊥) }
 {
     for unit in 0..32u32 {
         if (unit as usize) < image.units.len() {
-            check_files(graph, image, certificate, unit, turn)?;
+            check_files(graph, image, certificate, last, unit, turn)?;
         }
     }
     Ok(())
@@ -185,15 +193,15 @@ fn check_ram(
     unit: u32,
     cells: u32,
     turn: u16,
-    quiet: bool,
+    hints: Hints,
 ) -> Result<(), Mismatch>
     requires turn { turn ≡ length image.now.words }
-    requires quiet { IsTrue quiet → AreAllQuiet image.now certificate.now 32 }
+    requires right { AreRight image.now certificate.now hints }
     ensures ok { OnOk result (IsRamStart graph.now image.now certificate.now turn cells unit cells) }
     ensures err { OnErr result (IsRamStart graph.now image.now certificate.now turn cells unit cells → ⊥) }
 {
     for cell in 0..cells {
-        if !is_cell_start(graph, image, certificate, unit, cells, cell, turn, quiet) {
+        if !is_cell_start(graph, image, certificate, unit, cells, cell, turn, hints) {
             return Err(Mismatch::Cell(unit, cell));
         }
     }
@@ -206,18 +214,18 @@ pub fn check_cells(
     image: &Image,
     certificate: &Certificate,
     turn: u16,
-    quiet: bool,
+    hints: Hints,
 ) -> Result<(), Mismatch>
     requires valid { IsValid image.now }
     requires turn { turn ≡ length image.now.words }
-    requires quiet { IsTrue quiet → AreAllQuiet image.now certificate.now 32 }
+    requires right { AreRight image.now certificate.now hints }
     ensures ok { OnOk result (AreCellsStart graph.now image.now certificate.now turn 32) }
     ensures err { OnErr result (AreCellsStart graph.now image.now certificate.now turn 32 → ⊥) }
 {
     for unit in 0..32u32 {
         if (unit as usize) < image.units.len() {
             let cells = cells_on(image, unit) as u32;
-            check_ram(graph, image, certificate, unit, cells, turn, quiet)?;
+            check_ram(graph, image, certificate, unit, cells, turn, hints)?;
         }
     }
     Ok(())

@@ -1,14 +1,17 @@
 -- The parts of a labelled image that are looked at one after another, as far as they are.
 use Rattle.std.specs.Prelude.{◌≡◌, ℕ, ◌-◌, ◌/◌, ◌<◌, ◌≤◌, ◌⊎◌, List, [], length, IsSome}
+use Rattle.fix_word.specs.declared.operation.Op.TheVariants.{Mul}
 use Rattle.operations.specs.Operations.{operands}
+use Rattle.signal_graph.specs.GraphSolves.{node_of}
 use Rattle.signal_graph.specs.declared.graph.Graph.{Graph}
 use Rattle.signal_graph.specs.declared.graph.Node.{Node}
 use Rattle.plan_core.specs.Operands.{edge_of}
 use Rattle.micro_image.specs.declared.image.Image.{Image}
+use Rattle.micro_image.specs.declared.image.Issue.{Issue}
 use Rattle.micro_image.specs.Fields.{nth, microprogram_of, unit_of}
 use Rattle.image_labels.specs.declared.label.Certificate.{Certificate}
 use Rattle.image_labels.specs.Labels.{word_in, issued_in}
-use Rattle.image_labels.specs.Rules.{representative, AreSameOperands, IsCopy}
+use Rattle.image_labels.specs.Rules.{representative, AreSameOperands, IsCopy, passed, IsFold}
 use Rattle.image_labels.specs.Labelled.{IsFitCycle, IsRegisterStart, IsCellStart, IsRowWord, PutsOn}
 
 module _ (g : Graph) (image : Image) (certificate : Certificate) where
@@ -45,6 +48,27 @@ module _ (g : Graph) (image : Image) (certificate : Certificate) where
       → u < length image.units
       → IsRamStart turn (length (unit_of (microprogram_of image) u).cells) u
       (length (unit_of (microprogram_of image) u).cells)
+
+-- the issue has the operation, the format and the argument of node v
+pub record DoesAt (g : Graph) (issue : Issue) (v : ℕ) : Type 0 where
+  pub there : v < length g.nodes
+  pub op_is : issue.op ≡ (node_of g v).op
+  pub fmt_is : issue.fmt ≡ (node_of g v).fmt
+  pub arg_is : issue.arg ≡ (node_of g v).arg
+
+-- the issue is a product that gives at once what node v makes of a product
+pub record DoesFold (g : Graph) (issue : Issue) (v : ℕ) : Type 0 where
+  pub op_is : issue.op ≡ Mul
+  pub fold : IsFold g v issue.fmt
+
+-- on the operands of node u the issue gives the word of node v
+abbrev pub DoesBy : Graph → Issue → (v u : ℕ) → Type 0
+DoesBy g issue v u = (DoesAt g issue v × (u ≡ v)) ⊎ (DoesFold g issue v × (u ≡ passed g v))
+
+-- it gives the word of node v on no operands
+pub record DoesOther (g : Graph) (issue : Issue) (v : ℕ) : Type 0 where
+  pub not_at : DoesAt g issue v → ⊥
+  pub no_fold : DoesFold g issue v → ⊥
 
 -- unit u has an issue so many cycles before cycle c of a turn
 abbrev pub IsIssuedBefore : Image → (c back u : ℕ) → Type 0

@@ -15,8 +15,8 @@ returns-then-does_fold c =
     let now : c.args.sample ≡ sample_at c.args.image.now c.args.cycle =
     omega (arith, c.if-sample-now.false, c.sample_at-now.ensures) in (
       λ is. record {
-        op = does.0;
-        fold = does.1;
+        op = does.op_is;
+        fold = does.fold;
         now = now;
         operands = subst reads c.sample_at-now.ensures (c.reads_passed.ensures.0 is);
       },

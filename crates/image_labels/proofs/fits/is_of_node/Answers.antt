@@ -14,10 +14,10 @@ returns-then-does_at c =
     let now : c.args.sample ≡ sample_at c.args.image.now c.args.cycle =
     omega (arith, c.if-sample-now.false, c.sample_at-now.ensures) in (
       λ is. record {
-        there = does.0;
-        op = does.1;
-        fmt = does.2;
-        arg = does.3;
+        there = does.there;
+        op = does.op_is;
+        fmt = does.fmt_is;
+        arg = does.arg_is;
         now = now;
         operands = subst reads c.sample_at-now.ensures (c.reads_node.ensures.0 is);
       },
