@@ -1,5 +1,4 @@
-//! Since when registers are not written: of all in each cycle of a turn, and by hints of the certificate, of those that are
-//! read.
+//! Since when registers are not written: all in each cycle of a turn, and by the certificate's hints, those that are read.
 ghost use Rattle.std.specs.Prelude.{◌≡◌, ◌<◌, ◌≤◌, ◌+◌, ◌*◌, length, IsTrue, slice_set};
 ghost use Rattle.std.specs.List.{All};
 ghost use Rattle.image_labels.specs.Labels.{word_in as word_of};
