@@ -33,8 +33,8 @@ pub record AreNoted (image : Image) (last : List ℕ) (c : ℕ) (takes : List Ta
       → place_of u p r < length last
       → (nth last (place_of u p r) 0 ≡ c + 1) ⊎ AreElsewhere u p r takes
 
--- since which cycle, as the certificate has it, the register is not written that the issue of cycle c on unit u reads at
--- its port p
+-- since which cycle, as the certificate has it, the register is not written that the issue of cycle c on unit u reads
+-- at port p
 abbrev pub written_at : Certificate → (c u p : ℕ) → ℕ
 written_at certificate c u p = nth certificate.written (c * 96 + u * 3 + p) 0
 
