@@ -19,6 +19,10 @@ use Rattle.image_labels.specs.Labels.{is_into, word_in, issued_in, taken_label, 
 use Rattle.image_labels.specs.Private.Written.{AreElsewhere, IsUnwritten, place_of, AreUnwritten, AreNoted, written_at}
 use Rattle.image_labels.specs.Private.Written.{AreReadSince, AreAllReadSince}
 
+-- what stands past the end of takes
+abbrev pub no_take : Take
+no_take = record { port = record { unit = 0; port = 0 }; bus = 0; reg = 0 }
+
 none_found : {A : Type 0} (test : A → Bool) (xs : List A) → All (λ x. test x ≡ false) xs → find test xs ≡ None
 none_found test [] all = refl
 none_found test (x ∷ xs) all =

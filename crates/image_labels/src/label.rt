@@ -30,13 +30,13 @@ pub struct Certificate {
     pub registers: List<Label>,
     /// What each cell of a ram holds when a turn starts: cell x of unit u is at 65536 u + x.
     pub cells: List<Label>,
-    /// In which cycle of the turn the first store into each cell ends, or 0, in the order of `cells`. This is a hint: where
-    /// the list has other cycles, the answer is the same and takes longer.
+    /// In which cycle of the turn the first store into each cell ends, or 0, in the order of `cells`. This is a hint:
+    /// where the list has other cycles, the answer is the same and takes longer.
     pub fresh: List<u16>,
     /// The cycle after the one in which the last store into each cell ends, or 0. It is a hint too.
     pub settled: List<u16>,
-    /// The cycle after the last one before it in which the register is written that the issue of a cycle reads at a port,
-    /// or 0: for port p of unit u in cycle c it is at 96 c + 3 u + p. It is a hint too.
+    /// The cycle after the last one before it in which the register is written that the issue of a cycle reads at a
+    /// port, or 0: for port p of unit u in cycle c it is at 96 c + 3 u + p. It is a hint too.
     pub written: List<u16>,
 }
 

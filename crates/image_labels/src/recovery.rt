@@ -73,8 +73,8 @@ enum Writer {
     Nothing,
 }
 
-/// The labels that are found so far, the issues that have one, in the order in which it was found, and for each register
-/// the cycle after the one in which it is written last in a turn, or 0.
+/// The labels that are found so far, the issues that have one, in the order in which it was found, and for each
+/// register the cycle after the one in which it is written last in a turn, or 0.
 #[derive(Drop)]
 struct Search {
     certificate: Certificate,
@@ -487,8 +487,8 @@ fn operand_signal(certificate: &Certificate, edges: &Edges, operand: u32, sample
     }
 }
 
-/// What writes a register last before the cycle in which its unit reads it, or in the turn before, and so many samples ago
-/// it counts.
+/// What writes a register last before the cycle in which its unit reads it, or in the turn before, and so many samples
+/// ago it counts.
 fn last_writer(
     search: &Search,
     image: &Image,

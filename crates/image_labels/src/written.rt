@@ -1,5 +1,5 @@
-//! Since when registers are not written: of all in each cycle of a turn, and by hints of the certificate, of those that are
-//! read.
+//! Since when registers are not written: all in each cycle of a turn, and by hints of the certificate those that are
+//! read by issues.
 ghost use Rattle.std.specs.Prelude.{◌≡◌, ◌<◌, ◌≤◌, ◌+◌, ◌*◌, length, IsTrue, slice_set};
 ghost use Rattle.std.specs.List.{All};
 ghost use Rattle.image_labels.specs.Labels.{word_in as word_of};
@@ -28,8 +28,8 @@ pub fn hint_index(cycle: u16, unit: u32, port: u32) -> usize
     usize::from(cycle) * 96 + unit as usize * 3 + port as usize
 }
 
-/// Since which cycle the register is not written that the issue of a cycle on a unit reads at a port, as the certificate
-/// has it.
+/// Since which cycle the register is not written that the issue of a cycle on a unit reads at a port, as the
+/// certificate has it.
 fn written_in(certificate: &Certificate, cycle: u16, unit: u32, port: u32) -> u16
     ensures { result ≡ written_at certificate.now cycle unit port }
 {
@@ -132,7 +132,7 @@ fn are_read_in(image: &Image, certificate: &Certificate, last: &[u16], cycle: u1
     true
 }
 
-/// Whether all hints on what is read are right, and for each register since when it is not written at the end of a turn.
+/// Whether all hints on what is read are right. Notes for each register since when it is not written at the turn's end.
 pub fn are_all_read_since(
     image: &Image,
     certificate: &Certificate,

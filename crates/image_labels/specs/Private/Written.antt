@@ -1,6 +1,4 @@
--- Since when a register of a turn is not written: of all registers in a cycle, and by hints that a certificate gives,
--- of
--- those that are read.
+-- Since when registers of a turn are not written: all in a cycle, and by a certificate's hints, those that are read.
 use Rattle.std.specs.Prelude.{◌≡◌, ℕ, ◌+◌, ◌*◌, ◌<◌, ◌≤◌, ◌⊎◌, false, List, length, All, IsTrue}
 use Rattle.micro_image.specs.declared.image.Image.{Image}
 use Rattle.micro_image.specs.declared.image.Issue.{Issue}
@@ -35,8 +33,7 @@ pub record AreNoted (image : Image) (last : List ℕ) (c : ℕ) (takes : List Ta
       → place_of u p r < length last
       → (nth last (place_of u p r) 0 ≡ c + 1) ⊎ AreElsewhere u p r takes
 
--- the cycle since which, as the certificate has it, the register is not written that the issue of cycle c on unit u
--- reads
+-- since which cycle, as the certificate has it, the register is not written that the issue of cycle c on unit u reads
 -- at port p
 abbrev pub written_at : Certificate → (c u p : ℕ) → ℕ
 written_at certificate c u p = nth certificate.written (c * 96 + u * 3 + p) 0

@@ -2,13 +2,10 @@ use Rattle.std.proofs.Common.{arith, subst, ap, sym, ◌∙◌, IsTrue}
 use Rattle.std.specs.List.{All}
 use Rattle.std.proofs.lemmas.List.{take_all}
 use Rattle.std.proofs.lemmas.List.Elements.{All-more}
-use Rattle.micro_image.specs.declared.image.Take.{Take}
 use Rattle.micro_image.specs.declared.image.Word.{Word}
 use Rattle.image_labels.specs.Labelled.{IsTaken}
+use Rattle.image_labels.proofs.Unwritten.{no_take}
 use Rattle.image_labels.proofs.cycles.check_takes.Goals as goal
-
-abbrev no_take : Take
-no_take = record { port = record { unit = 0; port = 0 }; bus = 0; reg = 0 }
 
 pub loop-take-preserved : goal.loop-take-preserved
 loop-take-preserved c =

@@ -1,13 +1,9 @@
 use Rattle.std.proofs.Common.{◌∙◌, ◌+◌, arith, ap, sym, subst, take, length}
 use Rattle.std.proofs.lemmas.List.{length-set, take_all}
-use Rattle.micro_image.specs.declared.image.Take.{Take}
 use Rattle.micro_image.specs.declared.image.Word.{Word}
 use Rattle.image_labels.specs.Private.Written.{AreNoted}
-use Rattle.image_labels.proofs.Unwritten.{noted_more, noted_all}
+use Rattle.image_labels.proofs.Unwritten.{no_take, noted_more, noted_all}
 use Rattle.image_labels.proofs.written.note_takes.Goals as goal
-
-abbrev no_take : Take
-no_take = record { port = record { unit = 0; port = 0 }; bus = 0; reg = 0 }
 
 pub loop-take-preserved : goal.loop-take-preserved
 loop-take-preserved c = (
