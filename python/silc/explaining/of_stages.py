@@ -219,8 +219,8 @@ class Staged(Placed):
                    "output": Report(f"{what} ends in cycle {self.ends(place) - 1}, before the last stage",
                                     f"issue it so that it ends in one of the cycles {last}.", PLACES)}
         report = reports.get(self.op(self.number)) or Report(
-            f"{what} is issued in cycle {place.cycle}, and is not in its stage", "issue an input in the first stage, an "
-            "output so that it ends in the last one, and a store so that it ends before its word is loaded.", PLACES)
+            f"{what} is issued in cycle {place.cycle}, and is not in its stage", "issue an input in the first stage, "
+            "an output so that it ends in the last one, and a store so that it ends before its word is loaded.", PLACES)
         report.span = self.span_of(place, 2)
         report.note(f"Of {counted(self.stages, 'stage')} with {counted(self.period, 'cycle')} each, the first one is "
                     f"the cycles {first}, and the last one {last}.")
