@@ -94,6 +94,8 @@ def report_of(case: Case) -> Report | None:
         from silc.explaining.of_frames import plan_report_of as of
     elif case.status in (6, 7, 8, 9):
         from silc.explaining.of_plan import report_of as of
+    elif case.status == 16 and "S" in case.files:
+        from silc.explaining.of_stages import report_of as of
     elif case.status == 16:
         from silc.explaining.of_places import report_of as of
     elif case.status in (10, 12):

@@ -2,7 +2,7 @@
 import re
 
 from silc.explaining.command import Case
-from silc.explaining.outputs import COMMANDS, FORMS
+from silc.explaining.outputs import COMMANDS, FORMS, command_of
 from silc.explaining.refusals import COMMANDS_PAGE
 from silc.explaining.report import Report, listed
 
@@ -32,7 +32,7 @@ def other_kind(case: Case, what: str) -> Report | None:
         found = kind_of(file.read(HEAD))
     if found is None or found == what:
         return None
-    name, command = case.files[what], case.words[0]
+    name, command = case.files[what], command_of(case.words)
     order = f"silc {command} {' '.join(FORMS[command])}"
     there = [other for other in case.files if other not in (what, "OUT") and looks_like(case.files[other], what)]
     cure = f"write the files in this order: `{order}`."

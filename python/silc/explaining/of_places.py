@@ -6,7 +6,7 @@ import difflib
 import re
 import subprocess
 import tempfile
-from collections.abc import Iterable, Iterator
+from collections.abc import Callable, Iterable, Iterator
 from itertools import chain, islice
 from pathlib import Path
 from typing import NamedTuple
@@ -14,12 +14,12 @@ from typing import NamedTuple
 from silc.explaining import lacks
 from silc.explaining.changes import TOP, Change, Ends, Key, edits_of, made, told
 from silc.explaining.command import BUILD, SECONDS, Case
-from silc.explaining.hardware import DONE_BY, Hardware, nodes_of, readers_of, words_of
+from silc.explaining.hardware import DONE_BY, Hardware, Node, nodes_of, readers_of, words_of
 from silc.explaining.of_plan import report_of as of_plan
 from silc.explaining.refusals import PLACES, refusal_of
 from silc.explaining.report import Report, counted, listed
 from silc.explaining.text import Span
-from silc.explaining.toml_places import Places
+from silc.explaining.toml_places import Places, Tree
 from silc.exploring.template import text_of
 from silc.micro_file.operations import KIND_OF
 from silc.programs import PLACE
@@ -53,20 +53,30 @@ class Cure(NamedTuple):
 def report_of(case: Case) -> Report | None:
     if case.refusal.code != case.status:
         return without_lines(case)
-    if case.refusal.text == "plan too long":
-        size = len(case.text("PLAN").data)
-        return Report(f"the plan has {size} bytes, and at most {MOST_BYTES} are read",
-                      "take out the lines that give no place: those that do not begin with the word `node`.", PLACES,
-                      about=case.files["PLAN"])
-    return Placed(case).report()
+    return too_long(case) or Placed(case).report()
+
+
+def too_long(case: Case) -> Report | None:
+    """The report on a plan that has too many bytes."""
+    if case.refusal.text != "plan too long":
+        return None
+    size = len(case.text("PLAN").data)
+    return Report(f"the plan has {size} bytes, and at most {MOST_BYTES} are read",
+                  "take out the lines that give no place: those that do not begin with the word `node`.", PLACES,
+                  about=case.files["PLAN"])
 
 
 def without_lines(case: Case) -> Report | None:
     """The report where the source gets no delay lines on the datapath, whatever the plan says."""
+    name_unit(case)
+    return of_plan(case)
+
+
+def name_unit(case: Case) -> None:
+    """Puts the name of the unit into a refusal that tells its number."""
     unit = case.values.get("unit", "")
     if unit.isdecimal():
         case.values["unit"] = lacks.tree_of(case.text("DP"))["unit"][int(unit)]["name"]
-    return of_plan(case)
 
 
 class Placed:
@@ -76,8 +86,7 @@ class Placed:
         self.case, self.plan, self.path = case, case.text("PLAN"), case.text("DP")
         self.tree = lacks.tree_of(self.path)
         self.hardware, self.period = Hardware(self.tree), int(self.tree["period"])
-        answer = case.show("origins", case.files["SRC"], case.files["DP"])
-        self.nodes = nodes_of(answer) if answer else []
+        self.nodes = self.nodes_here()
         self.line = int(case.values.get("l", 0))
         self.number = int(case.values.get("node", -1))
         self.places: dict[int, Place] = {}
@@ -87,15 +96,23 @@ class Placed:
                 place = Place(number, start, int(found[1]), int(found[2]), found[3])
                 self.places.setdefault(place.node, place)
 
+    def nodes_here(self) -> list[Node]:
+        """The nodes of the source, where the program is there that knows them."""
+        answer = self.case.show("origins", self.case.files["SRC"], self.case.files["DP"])
+        return nodes_of(answer) if answer else []
+
+    def reports(self) -> dict[str, Callable[[], Report]]:
+        """Who reports on which refusal, by its text without the line and what stands for names and numbers."""
+        return {"not node  cycle  unit ": self.form, "no number": self.no_number, "unknown unit": self.unknown_unit,
+                "node twice": self.twice, "no place for node ": self.missing, "no node ": self.surplus,
+                "node  too wide": self.too_wide, "wrong unit for node ": self.wrong_unit,
+                "operand  of node  is there from cycle ": self.late, "period exceeded at node ": self.past,
+                "unit busy at node ": self.busy, "file written  at node ": self.file_written,
+                "no bus to  at node ": self.no_bus, "file full  at node ": self.file_full}
+
     def report(self) -> Report:
         name = re.sub(r"plan line L: |\b[A-Z]+\b", "", self.case.refusal.text)
-        reports = {"not node  cycle  unit ": self.form, "no number": self.no_number, "unknown unit": self.unknown_unit,
-                   "node twice": self.twice, "no place for node ": self.missing, "no node ": self.surplus,
-                   "node  too wide": self.too_wide, "wrong unit for node ": self.wrong_unit,
-                   "operand  of node  is there from cycle ": self.late, "period exceeded at node ": self.past,
-                   "unit busy at node ": self.busy, "file written  at node ": self.file_written,
-                   "no bus to  at node ": self.no_bus, "file full  at node ": self.file_full}
-        report = reports[name]()
+        report = self.reports()[name]()
         report.about = self.plan.name
         if self.line:
             report.span = report.span or self.plan.line_span(self.line)
@@ -150,13 +167,17 @@ class Placed:
         return Cure(f"in line {place.line}, write `node {place.node} cycle {cycle} unit {unit}`", found.start(first),
                     found.end(last), text)
 
+    def last(self, _node: int, unit: str) -> int:
+        """The last cycle in which a node may be issued on a unit."""
+        return self.period - self.latency(unit)
+
     def later(self, place: Place, first: int, unit: str) -> Iterator[Cure]:
-        """The cycles of the period from one on, in which a node ends that is issued on a unit then."""
-        return (self.moved(place, cycle, unit) for cycle in range(first, self.period - self.latency(unit) + 1))
+        """The cycles from one on in which a node may be issued on a unit."""
+        return (self.moved(place, cycle, unit) for cycle in range(first, self.last(place.node, unit) + 1))
 
     def around(self, place: Place) -> Iterator[Cure]:
         """The other places of a node: those behind its own, and then those before it, and then those of other units."""
-        last = min(place.cycle - 1, self.period - self.latency(place.unit))
+        last = min(place.cycle - 1, self.last(place.node, place.unit))
         earlier = (self.moved(place, cycle, place.unit) for cycle in range(last, -1, -1))
         half = MOST_TRIED // 4
         own = chain(islice(self.later(place, place.cycle + 1, place.unit), half), islice(earlier, half))
@@ -193,9 +214,13 @@ class Placed:
             file, other, out = (Path(folder, name) for name in ("PLAN", "DP", "OUT"))
             file.write_bytes(plan)
             other.write_bytes(self.path.data if datapath is None else datapath.encode())
-            done = subprocess.run([PLACE.place(), self.case.files["SRC"], other, file, out], stdin=subprocess.DEVNULL,
+            done = subprocess.run([PLACE.place(), *self.asked(other, file, out)], stdin=subprocess.DEVNULL,
                                   capture_output=True, text=True, errors="replace", timeout=SECONDS)
             return done.returncode, done.stderr.strip()
+
+    def asked(self, datapath: Path, plan: Path, out: Path) -> list[str | Path]:
+        """The words by which `silc_place` is asked for a plan over a datapath."""
+        return [self.case.files["SRC"], datapath, plan, out]
 
     def rank(self, status: int, said: str) -> int | None:
         """How good a cure is by what is said then: 0 where there is a plan, nothing where the node is still refused."""
@@ -318,7 +343,7 @@ class Placed:
         start = self.plan.starts[after] if after < len(self.plan.starts) else end
         lead = "\n" if start == end and self.plan.chars[-1:] not in ("", "\n") else ""
         for unit in units:
-            for cycle in range(self.ready(self.number), self.period - self.latency(unit) + 1):
+            for cycle in range(self.ready(self.number), self.last(self.number, unit) + 1):
                 text = f"node {self.number} cycle {cycle} unit {unit}"
                 yield Cure(f"add the line `{text}`", start, start, f"{lead}{text}\n")
 
@@ -411,20 +436,35 @@ class Placed:
         return [other for other in self.places.values()
                 if other.node != place.node and self.comes(other) == self.comes(place) and self.goes_to(other.node)]
 
+    def in_same(self, other: Place, place: Place) -> str:
+        """When the result of a node comes that is in the way of another's."""
+        ends = self.ends(other)
+        return "the same cycle" if ends == self.ends(place) else f"cycle {ends - 1}, the same cycle of the period"
+
     def file_written(self) -> Report:
-        place, port = self.place(), self.port_name()
+        return self.written_at(self.place(), self.port_name())
+
+    def written_at(self, place: Place, port: str) -> Report:
+        """The report where the register file of a port is written in the cycle of a result."""
         report = Report(f"the result of {self.what(self.number)} comes to `{port}` in cycle {self.ends(place) - 1}, "
                         f"and its register file is written then", "issue it in another cycle.", PLACES,
                         self.span_of(place, 2))
         for other in self.at_once(place):
             if port in self.goes_to(other.node):
-                report.note(f"{capital(self.what(other.node))} comes to `{port}` in the same cycle.",
+                report.note(f"{capital(self.what(other.node))} comes to `{port}` in {self.in_same(other, place)}.",
                             self.span_of(other, 2))
         return self.with_cure(report, self.around(place))
 
     def no_bus(self) -> Report:
-        place, port = self.place(), self.port_name()
-        ways = [bus for bus in self.hardware.buses if place.unit in bus["from"] and port in bus["to"]]
+        return self.without_bus(self.place(), self.port_name())
+
+    def ways(self, place: Place, port: str) -> list[Tree]:
+        """The buses from the unit of a node to a port."""
+        return [bus for bus in self.hardware.buses if place.unit in bus["from"] and port in bus["to"]]
+
+    def without_bus(self, place: Place, port: str) -> Report:
+        """The report where no bus to a port is there and free in the cycle of a result."""
+        ways = self.ways(place, port)
         if not ways:
             return self.no_way(place, port)
         are = "are" if len(ways) > 1 else "is"
@@ -434,7 +474,8 @@ class Placed:
         report.note(f"What leads there {are} {quoted(bus['name'] for bus in ways)}.")
         for other in self.at_once(place):
             if any(other.unit in bus["from"] for bus in ways):
-                report.note(f"The result of {self.what(other.node)} comes in the same cycle.", self.span_of(other, 2))
+                report.note(f"The result of {self.what(other.node)} comes in {self.in_same(other, place)}.",
+                            self.span_of(other, 2))
         return self.with_cure(report, self.around(place))
 
     def no_way(self, place: Place, port: str) -> Report:

@@ -5,7 +5,7 @@ import re
 from collections.abc import Sequence
 
 from silc.explaining.command import Case
-from silc.explaining.outputs import COMMANDS, FORMS, INPUTS, named, same_input
+from silc.explaining.outputs import COMMANDS, FORMS, INPUTS, begin_of, command_of, named, same_input
 from silc.explaining.refusals import COMMANDS_PAGE
 from silc.explaining.report import Report, counted, listed
 
@@ -20,7 +20,7 @@ def usage(command: str) -> str:
 
 def report_of(case: Case) -> Report | None:
     words = case.words
-    command = words[0]
+    command = command_of(words)
     strange = next((number for number, word in enumerate(words) if not is_utf8(word)), None)
     if strange is not None:
         return no_utf8(words, strange)
@@ -33,7 +33,7 @@ def report_of(case: Case) -> Report | None:
             f"The commands are {listed([f'`{name}`' for name in COMMANDS])}; `silc --help` shows their words.")
     files = named(words)
     if files is None:
-        wanted, found = FORMS[command], words[1:]
+        wanted, found = FORMS[command], words[begin_of(words):]
         return Report(f"`{command}` has {counted(len(wanted), 'word')} after it, and here "
                       f"{counted(len(found), 'is', 'are')}", f"write `{usage(command)}`.", COMMANDS_PAGE, about="silc")
     if command == "demo":
@@ -62,7 +62,7 @@ def is_utf8(word: str) -> bool:
 def no_utf8(words: Sequence[str], number: int) -> Report:
     """The report on a word with bytes that are no UTF-8."""
     word, files = words[number], named(words) or {}
-    what = next((what for place, what in enumerate(files, 1) if place == number), "a word")
+    what = next((what for place, what in enumerate(files, begin_of(words)) if place == number), "a word")
     first = next(place for place, char in enumerate(word) if "\udc80" <= char <= "\udcff")
     byte = len(os.fsencode(word[:first]))
     report = Report(f"{what} is no UTF-8: byte {byte} of it is 0x{os.fsencode(word[first])[0]:02x}",

@@ -10,18 +10,31 @@ COMMANDS = {"compile": ("SRC", "DP", "OUT"), "schedule": ("SRC", "DP"), "sim": (
             "eval": ("SRC", "SAMPLES", "OUT"), "run": ("SRC", "DP", "SAMPLES", "OUT"), "list": ("MIC",),
             "demo": ("K", "N"), "stages": ("SRC", "DP", "S"), "pipe": ("SRC", "DP", "S", "SAMPLES", "OUT"),
             "frame": ("SRC", "DP", "M", "DOWN", "UP", "OUT"), "net": ("NET", "SAMPLES", "OUT")}
-# The command of a program of its own, and all that are explained.
-OF_PLACE = "place"
-FORMS = COMMANDS | {OF_PLACE: ("SRC", "DP", "PLAN", "OUT")}
+# The commands of a program of its own, and all that are explained.
+OF_PLACE, OF_STAGES = "place", "place pipe"
+FORMS = COMMANDS | {OF_PLACE: ("SRC", "DP", "PLAN", "OUT"),
+                    OF_STAGES: ("SRC", "DP", "PLAN", "S", "SAMPLES", "OUT")}
 # The words that name files which are read.
 INPUTS = ("SRC", "DP", "PLAN", "MIC", "NET", "SAMPLES")
 BAD_WORDS = 2
 
 
+def command_of(words: Sequence[str]) -> str:
+    """The name of a command. Four words behind `place` are files, also where the first of them is `pipe`."""
+    is_of_stages = list(words[:2]) == OF_STAGES.split() and len(words) != 1 + len(FORMS[OF_PLACE])
+    return OF_STAGES if is_of_stages else words[0]
+
+
+def begin_of(words: Sequence[str]) -> int:
+    """Which of the words is the first behind the name of the command."""
+    return len(command_of(words).split())
+
+
 def named(words: Sequence[str]) -> dict[str, str] | None:
     """The words of a command by what they are, or nothing where the words are no command."""
-    wanted = FORMS.get(words[0]) if words else None
-    return dict(zip(wanted, words[1:])) if wanted and len(wanted) == len(words) - 1 else None
+    wanted = FORMS.get(command_of(words)) if words else None
+    rest = words[begin_of(words):] if wanted else []
+    return dict(zip(wanted, rest)) if wanted and len(wanted) == len(rest) else None
 
 
 def program_of(words: Sequence[str]) -> str:

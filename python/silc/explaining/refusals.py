@@ -180,6 +180,16 @@ REFUSALS = [
             "No bus from the unit of a node to a port that reads it is there and free.", PLACES),
     Refusal(16, "plan line L: file full PORT at node NODE", "A register file has no register left for a word.",
             PLACES),
+    Refusal(16, "plan line L: operand late at node NODE",
+            "Over several stages: a node is issued before a word of the same sample is there that it reads.", PLACES),
+    Refusal(16, "plan line L: stages exceeded at node NODE", "A node does not end in the stages of its sample.",
+            PLACES),
+    Refusal(16, "plan line L: no transfer from node NODE",
+            "Over several stages: a register file that a result goes to is written in its cycle of the period, or no "
+            "bus to it is there and free.", PLACES),
+    Refusal(16, "plan line L: wrong stage for node NODE",
+            "An input is issued behind the first stage, an output ends before the last one, or a store ends after its "
+            "word is loaded.", PLACES),
 ]
 # What stands for a table of a datapath file or a net file is two words for a unit, a bus and a processor.
 TABLE = r"(?P<table>top|(?:unit|bus|processor) \d+)"

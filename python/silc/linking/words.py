@@ -8,7 +8,7 @@ from collections.abc import Iterator, Sequence
 from contextlib import contextmanager
 from typing import TYPE_CHECKING
 
-from silc.explaining.outputs import FORMS, named
+from silc.explaining.outputs import FORMS, begin_of, command_of, named
 from silc.linking.opening import opened
 
 if TYPE_CHECKING:
@@ -85,5 +85,5 @@ def given(words: list[str], folders: Sequence[str] = ()) -> Iterator[Given]:
         file = os.path.join(folder, os.path.basename(told.linked.main.name))
         with open(file, "wb") as made:
             made.write(told.text.data)
-        at = FORMS[words[0]].index("SRC") + 1
+        at = FORMS[command_of(words)].index("SRC") + begin_of(words)
         yield Given(words, [*words[:at], file, *words[at + 1:]], told.named(file))

@@ -42,11 +42,13 @@ class Row:
 
 
 def pairs(names: Sequence[str]) -> Iterator[tuple[str, Path, Path]]:
-    """The examples that are named, or all, each with its source and a datapath."""
+    """The examples that are named, or all, each with its source and a datapath. A name is that of an example, or of one
+    with a processor, as `dtmf/two_multipliers`."""
     folder = Path(in_checkout("examples"))
     for name in names or sorted(path.name for path in folder.iterdir() if (path / f"{path.name}.sil").is_file()):
-        for datapath in sorted((folder / name).glob("*.toml")):
-            yield name, folder / name / f"{name}.sil", datapath
+        example, _, processor = name.partition("/")
+        for datapath in sorted((folder / example).glob(f"{processor or '*'}.toml")):
+            yield example, folder / example / f"{example}.sil", datapath
 
 
 def rows_of(silc: str, names: Sequence[str], solver: str | None, seconds: int, seed: int,
