@@ -1,9 +1,8 @@
-"""Lays an .antt file out anew: where its lines break, how far in they begin, on how many `use` lines names stand, and
-how its comments are filled."""
+"""Lays an .antt file out anew: where its lines break, how far in they begin, and on how many `use` lines names
+stand."""
 import re
 from collections.abc import Sequence
 
-from .comments import Changed, refilled
 from .items import Item, items_of, outline
 from .printing import WIDTH, Printer
 from .terms import Node, Tree, elements_of, node_of
@@ -15,9 +14,12 @@ MOST_PASSES = 8
 USE = re.compile(r"^( *)((?:pub )?use [^\s{]+\.)\{([^}]*)\}$", re.M)
 
 
+class Changed(Exception):
+    """A new layout that would not say the same."""
+
+
 def laid_out(text: str) -> str:
-    """The text with its comments filled and its long lines broken."""
-    text = commented(text)
+    """The text with its long lines broken."""
     for _ in range(MOST_PASSES):
         new = once(text)
         if new == text:
@@ -46,16 +48,6 @@ def names_of(use: re.Match[str]) -> list[str]:
 def apart(text: str) -> str:
     """The text with a `use` line for each name, since on how many lines they stand says nothing."""
     return USE.sub(lambda use: "\n".join(f"{use[1]}{use[2]}{{{name}}}" for name in names_of(use)), text)
-
-
-def whole_lines(text: str) -> set[int]:
-    """The lines that are comments and nothing else."""
-    return {token.line for token in tokens_of(text) if token.is_comment() and token.begins_line}
-
-
-def commented(text: str) -> str:
-    """The text with its comments filled."""
-    return "\n".join(refilled(text.split("\n"), whole_lines(text)))
 
 
 def once(text: str) -> str:
@@ -157,9 +149,23 @@ def broken(line: str, tokens: Sequence[Token], begins_item: bool) -> list[str]:
     """The lines of one line."""
     if len(line) <= WIDTH or not tokens:
         return [line]
+    if tokens[0].is_comment():
+        return comment(line)
     if any(token.is_comment() for token in tokens):
         return [line]
     printer = Printer(tokens[0].column, begins_item)
     printer.tree(node_of(elements_of(tokens)))
     found = printer.done()
     return found if [one.strip() for one in found] != [line.strip()] else [line]
+
+
+def comment(line: str) -> list[str]:
+    """A comment, as many words on a line as fit."""
+    indent = line[: len(line) - len(line.lstrip())]
+    sign, *words = line.split()
+    found = [indent + sign]
+    for word in words:
+        if len(found[-1]) + 1 + len(word) > WIDTH:
+            found.append(indent + sign)
+        found[-1] += " " + word
+    return found
