@@ -6,7 +6,7 @@ import difflib
 import re
 import subprocess
 import tempfile
-from collections.abc import Iterable, Iterator
+from collections.abc import Callable, Iterable, Iterator
 from itertools import chain, islice
 from pathlib import Path
 from typing import NamedTuple
@@ -51,14 +51,15 @@ class Cure(NamedTuple):
 
 
 def report_of(case: Case) -> Report | None:
+    from silc.explaining.of_registers import Registered
     if case.refusal.code != case.status:
         return without_lines(case)
     if case.refusal.text == "plan too long":
         size = len(case.text("PLAN").data)
         return Report(f"the plan has {size} bytes, and at most {MOST_BYTES} are read",
-                      "take out the lines that give no place: those that do not begin with the word `node`.", PLACES,
-                      about=case.files["PLAN"])
-    return Placed(case).report()
+                      "take out the lines that give nothing: those that begin with neither of the words `node` and "
+                      "`register`.", PLACES, about=case.files["PLAN"])
+    return Registered(case).report()
 
 
 def without_lines(case: Case) -> Report | None:
@@ -87,15 +88,18 @@ class Placed:
                 place = Place(number, start, int(found[1]), int(found[2]), found[3])
                 self.places.setdefault(place.node, place)
 
+    def reports(self) -> dict[str, Callable[[], Report]]:
+        """What says more of each refusal."""
+        return {"not node  cycle  unit ": self.form, "no number": self.no_number, "unknown unit": self.unknown_unit,
+                "node twice": self.twice, "no place for node ": self.missing, "no node ": self.surplus,
+                "node  too wide": self.too_wide, "wrong unit for node ": self.wrong_unit,
+                "operand  of node  is there from cycle ": self.late, "period exceeded at node ": self.past,
+                "unit busy at node ": self.busy, "file written  at node ": self.file_written,
+                "no bus to  at node ": self.no_bus, "file full  at node ": self.file_full}
+
     def report(self) -> Report:
         name = re.sub(r"plan line L: |\b[A-Z]+\b", "", self.case.refusal.text)
-        reports = {"not node  cycle  unit ": self.form, "no number": self.no_number, "unknown unit": self.unknown_unit,
-                   "node twice": self.twice, "no place for node ": self.missing, "no node ": self.surplus,
-                   "node  too wide": self.too_wide, "wrong unit for node ": self.wrong_unit,
-                   "operand  of node  is there from cycle ": self.late, "period exceeded at node ": self.past,
-                   "unit busy at node ": self.busy, "file written  at node ": self.file_written,
-                   "no bus to  at node ": self.no_bus, "file full  at node ": self.file_full}
-        report = reports[name]()
+        report = self.reports()[name]()
         report.about = self.plan.name
         if self.line:
             report.span = report.span or self.plan.line_span(self.line)
