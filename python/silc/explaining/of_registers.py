@@ -185,10 +185,10 @@ class Registered(Placed):
         lines = self.at_file(file)
         if not lines:
             return super().file_full()
+        numbers = listed([str(given.line) for given in lines])
+        which = f"Line {numbers} gives one of its registers." if len(lines) == 1 else \
+            f"Lines {numbers} give its registers."
         report = Report(f"{self.what(self.number)} is read at `{file}`, whose file has no register left for it beside "
                         f"those that are given", "give registers to other words too, or to fewer.", PLACES)
-        numbers = listed([str(given.line) for given in lines])
-        report.note(f"Line {numbers} gives one of `{file}`." if len(lines) == 1 else
-                    f"Lines {numbers} give those of `{file}`.")
         report = self.with_cure(report, (self.removed(given.line) for given in lines))
-        return report if report.edits else super().file_full()
+        return (report if report.edits else super().file_full()).note(which)
