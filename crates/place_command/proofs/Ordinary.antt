@@ -1,7 +1,6 @@
 -- Where no register is given, a plan is the one that its places have, and a fault is one of its places.
 use Rattle.std.proofs.Common.{◌≡◌, refl, subst, arith, ℕ, ◌<◌, inl, inr, List, [], length}
 use Rattle.std.specs.List.{AllPairs}
-use Rattle.operations.specs.declared.units.PortRef.{PortRef}
 use Rattle.datapath.specs.declared.types.Datapath.{Datapath}
 use Rattle.signal_graph.specs.declared.graph.Graph.{Graph}
 use Rattle.plan_core.specs.Arcs.{IsArcBefore}
@@ -92,10 +91,10 @@ module _ (d : Datapath) (unroll : ℕ) (given : List GivenRegister) (arcs : List
     }
 
   -- a copy that finds no register around none finds none by first fit
-  without_by_fit : (port : PortRef) (node : ℕ)
-      → IsWithoutRegister d unroll given arcs port node
-      → IsWithoutByFit d unroll arcs port node
-  without_by_fit port node x = record {
+  without_by_fit : (unit port node : ℕ)
+      → IsWithoutRegister d unroll given arcs (port_of unit port) node
+      → IsWithoutByFit d unroll arcs (port_of unit port) node
+  without_by_fit unit port node x = record {
     regs = x.regs;
     k = x.k;
     i = x.i;
@@ -158,8 +157,8 @@ fault_alone g d places lines given none (of_plan.Registers (of_registers.Full un
         unroll = h.fault_is.unroll;
         is_unroll = h.fault_is.unroll_is;
         none =
-            without_by_fit d h.fault_is.unroll given.registers h.arcs none t.arcs_are.order
-            (port_of unit port) v h.fault_is.none;
+            without_by_fit d h.fault_is.unroll given.registers h.arcs none t.arcs_are.order unit port v
+            h.fault_is.none;
       },
       refl,
     )

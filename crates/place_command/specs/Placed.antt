@@ -1,5 +1,4 @@
--- What `silc_place SRC DP PLAN OUT` writes: microcode of the plan that has the places and the registers that PLAN
--- gives.
+-- What `silc_place SRC DP PLAN OUT` writes: microcode of the plan with the places and the registers that PLAN gives.
 use Rattle.std.specs.Prelude.{◌≡◌, ◌≢◌, ◌≤◌, ℕ, List, [], length, map}
 use Rattle.desk_core.specs.View.{Name, Content, Files, View}
 use Rattle.desk_core.specs.Desk.{content_of}

@@ -16,7 +16,7 @@ unplanned-requires c =
     (subst₂
     (λ (places : List Place) (given : List GivenRegister).
     (c.in-Err.fault ≡ Memory) ⊎ IsGivenPlanFault places c.args.graph c.args.path given c.in-Err.fault)
-    c.as_slice-2.ensures c.as_slice-given.ensures c.in-Err.ensures.fault)
+    c.as_slice.ensures c.as_slice-given.ensures c.in-Err.ensures.fault)
 
 pub returns-in-Err-clause-err : goal.returns-in-Err-clause-err
 returns-in-Err-clause-err c =
@@ -24,5 +24,5 @@ returns-in-Err-clause-err c =
     (subst₂
     (λ (places : List Place) (given : List GivenRegister).
     (c.in-Err.fault ≡ Memory) ⊎ IsGivenPlanFault places c.args.graph c.args.path given c.in-Err.fault)
-    c.as_slice-2.ensures c.as_slice-given.ensures c.in-Err.ensures.fault)
+    c.as_slice.ensures c.as_slice-given.ensures c.in-Err.ensures.fault)
     c.unplanned.result c.unplanned.ensures

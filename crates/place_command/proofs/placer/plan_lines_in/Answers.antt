@@ -8,21 +8,21 @@ use Rattle.place_command.specs.Private.Endings.{IsEndingOf, HaveTheirLines, AreP
 use Rattle.place_command.proofs.Refusing.{ending_of, too_long, lines_in, refused_in, their_lines}
 use Rattle.place_command.proofs.placer.plan_lines_in.Goals as goal
 
-pub returns-clause-numbers : goal.returns-clause-numbers
-returns-clause-numbers c =
+pub returns-in-Whole-clause-numbers : goal.returns-in-Whole-clause-numbers
+returns-in-Whole-clause-numbers c =
     if_ok c.plan_lines_of.result (ArePlanLines c.as_slice.result.now c.args.path.now) HaveTheirLines
     (their_lines c.as_slice.result.now c.args.path.now) c.plan_lines_of.ensures.lines
 
-pub returns-clause-lines : goal.returns-clause-lines
-returns-clause-lines c =
+pub returns-in-Whole-clause-lines : goal.returns-in-Whole-clause-lines
+returns-in-Whole-clause-lines c =
     let whole = c.in-Whole.is ∙ sym (ap Whole c.as_slice.ensures) in
     if_ok c.plan_lines_of.result (ArePlanLines c.as_slice.result.now c.args.path.now)
     (ArePlanLinesIn c.args.text.now c.args.path.now)
     (lines_in c.args.path.now c.as_slice.result.now (subst IsShort whole c.requires.short) c.args.text.now whole)
     c.plan_lines_of.ensures.lines
 
-pub returns-clause-err : goal.returns-clause-err
-returns-clause-err c =
+pub returns-in-Whole-clause-err : goal.returns-in-Whole-clause-err
+returns-in-Whole-clause-err c =
     let whole = c.in-Whole.is ∙ sym (ap Whole c.as_slice.ensures) in
     if_err c.plan_lines_of.result (IsEndingOf (IsTextRefused c.args.path.now c.as_slice.result.now))
     (IsEndingOf (IsUngivenIn c.args.text.now c.args.path.now))
