@@ -1,5 +1,5 @@
 -- Files have one answer: one refusal at most, and none where they have microcode.
-use Rattle.std.proofs.Common.{◌≡◌, ◌≢◌, ◌⊎◌, ◌∙◌, inl, inr, refl, sym, ap, subst, subst₂, arith, ⊎_elim, ℕ, ◌<◌, ◌≤◌}
+use Rattle.std.proofs.Common.{◌≡◌, ◌≢◌, ◌⊎◌, ◌∙◌, inl, inr, refl, sym, ap, subst, subst₂, arith, ⊎_elim, ◌<◌, ◌≤◌}
 use Rattle.std.proofs.Common.{List, length, Some, Result, Ok, Err}
 use Rattle.datapath.specs.Allowed.{IsDatapath}
 use Rattle.datapath.specs.Described.{IsPathOf}

@@ -12,7 +12,7 @@ use Rattle.plan_core.specs.declared.registers.Arc.{Arc}
 use Rattle.plan_core.specs.declared.plan.Plan.{Plan}
 use Rattle.plan_core.proofs.OneArcs.{one_unroll}
 use Rattle.plan_core.proofs.OneFit.{comes_first, comes_before}
-use Rattle.given_registers.specs.Around.{IsGivenAt, IsFree, HasRegister, AreRegisters, AreAllottedAround}
+use Rattle.given_registers.specs.Around.{IsGivenAt, IsFree, HasRegister, AreRegisters}
 use Rattle.given_registers.specs.Faults.{IsWithoutRegister}
 use Rattle.given_registers.specs.declared.given.GivenRegister.{GivenRegister}
 use Rattle.given_registers.specs.declared.fault.RegisterFault.TheVariants as of_registers
