@@ -1,7 +1,7 @@
 #!/usr/bin/env python3
 """Writes the microcode files of the cases, field by field as docs/MICROCODE.md has them; no part of the compiler is
-asked. Those of increment/ are of version 2, which `silc compile` writes, but for add-8-1.mic; all others are of version
-1.
+asked. Those of increment/ and place/ are of version 2, which `silc compile` writes, but for add-8-1.mic; all others are
+of version 1.
 
 usage: tests/make_microcode.py [--check]
 
@@ -13,7 +13,7 @@ from pathlib import Path
 
 from silc.fuzzing.microcode import NEWEST, OLDEST, image, issue, unit, word
 from silc.made_files import put_whole
-from silc.micro_file import Unit, Word
+from silc.micro_file import Issue, Unit, Word
 
 HERE = Path(__file__).resolve().parent
 EMPTY = word()
@@ -185,6 +185,40 @@ def two_channels() -> bytes:
     return program(4, units, words, inputs=(8, 0), outs=2)
 
 
+def four_negations() -> bytes:
+    """p = -a, q = -b, r = -c and s = -z@1 over tests/place/negations.toml, by the plan of docs/PLANNING.md, "Registers
+    that are given": a and b are in register 0, and c and z in register 1."""
+    units = [unit("in"), unit("alu", files=[[0] * 2, [0]]), unit("out", files=[[0]])]
+
+    def read(number: int) -> Issue:
+        return issue(0, "input", argument=number)
+
+    def negated(register: int) -> Issue:
+        return issue(1, "neg", [register, 0], width=8)
+
+    def put(number: int) -> Issue:
+        return issue(2, "output", [0], argument=number)
+
+    to_output = (2, 0, 1, 0)
+    words = [
+        EMPTY,
+        word([read(0)], [(0, 0)], [(1, 0, 0, 0)]),
+        word([negated(1)], [(1, 1)], [to_output]),
+        word([read(2), negated(0), put(3)], [(0, 0), (1, 1)], [(1, 0, 0, 1), to_output]),
+        word([read(1), put(0)], [(0, 0)], [(1, 0, 0, 0)]),
+        EMPTY,
+        EMPTY,
+        EMPTY,
+        word([negated(1)], [(1, 1)], [to_output]),
+        word([read(3), put(2)], [(0, 0)], [(1, 0, 0, 1)]),
+        EMPTY,
+        EMPTY,
+        word([negated(0)], [(1, 1)], [to_output]),
+        word([put(1)]),
+    ]
+    return program(16, units, words, inputs=(8, 8, 8, 8), outs=4, version=NEWEST)
+
+
 FILES = {
     f"increment/{operation}-{width}-{number}.mic": one_line(width, operation, number)
     for width in (1, 8, 15, 16) for operation in ("add", "sub") for number in sorted({0, 2 ** (width - 1) - 1})
@@ -210,6 +244,7 @@ FILES = {
     "machine/accumulator.mic": accumulator(),
     "machine/difference.mic": difference(),
     "machine/two-channels.mic": two_channels(),
+    "place/negations.mic": four_negations(),
 }
 
 

@@ -1,3 +1,4 @@
+pub mod Ordinary
 pub mod Made
 pub mod Lines
 pub mod Refusing

@@ -1,5 +1,5 @@
 -- Microcode of a plan with places that a text gives is that of the files, and carries the solution of the source.
-use Rattle.std.proofs.Common.{◌≡◌, ◌≢◌, ◌∙◌, ap, map, [], ◌∷◌, Result, Ok, Err, IfOk}
+use Rattle.std.proofs.Common.{◌≡◌, ◌≢◌, ◌∙◌, sym, ap, subst₂, map, List, [], ◌∷◌, Result, Ok, Err, IfOk}
 use Rattle.desk_core.specs.View.{Name, Content, View}
 use Rattle.desk_core.specs.Desk.{IfSpecified, WhereSpecified, content_of}
 use Rattle.desk_core.specs.Whole.{IsReadThrough, IsWrittenWhole}
@@ -10,10 +10,12 @@ use Rattle.signal_graph.specs.declared.graph.Graph.{Graph}
 use Rattle.loop_expand.specs.GraphFor.{IsGraphFor}
 use Rattle.silage_syntax.specs.Tree.{Program}
 use Rattle.microcode_asm.specs.Planned.{IsAssemblable}
-use Rattle.microcode_asm.proofs.ReadyPlans.{placed_assemblable}
 use Rattle.plan_soundness.specs.ImageOf.{width_of}
-use Rattle.placed_plan.specs.Places.{IsPlanAt}
-use Rattle.placed_plan.proofs.PlansAt.{at_feasible, at_routed, at_narrow, at_given}
+use Rattle.given_registers.specs.declared.given.GivenRegister.{GivenRegister}
+use Rattle.placed_plan.specs.declared.place.Place.{Place}
+use Rattle.placed_plan.proofs.GivenPlans.{given_feasible, given_routed, given_narrow, given_places, given_registers}
+use Rattle.place_file.specs.Given.{IsGivenBy}
+use Rattle.place_file.specs.Registers.{AreRegistersBy}
 use Rattle.silc_files.specs.Endings.{IsAmong}
 use Rattle.silc_files.specs.Limits.{text_limit}
 use Rattle.silc_files.specs.Reading.{OnlyReads, IsInput}
@@ -28,10 +30,13 @@ use Rattle.plan_commands.proofs.Compiled.{runs_the_solution}
 use Rattle.plan_commands.proofs.Errors.{read_plan}
 use Rattle.plan_commands.proofs.Plans.{input_plan_by}
 use Rattle.plan_commands.proofs.Making.{compile_done, written_at}
-use Rattle.place_command.specs.Placed.{IsPlaced, ArePlaced, HasThePlan}
-use Rattle.place_command.specs.Private.Placing.{AreGivenIn, IsInputPlacing, IsFeasibleMicrocode}
+use Rattle.place_command.specs.Placed.{IsPlanWith, IsPlaced, ArePlaced, HasThePlan}
+use Rattle.place_command.specs.Private.Endings.{ArePlanLinesIn}
+use Rattle.place_command.specs.Private.Placing.{AreGivenIn, AreRegistersIn, IsInputPlacing, IsFeasibleMicrocode}
 use Rattle.place_command.specs.declared.ending.PlaceEnding.{PlaceEnding}
 use Rattle.place_command.specs.declared.placer.Placed.{Placed}
+use Rattle.place_command.specs.declared.placer.PlanLines.{PlanLines}
+use Rattle.place_command.proofs.Ordinary.{plan_alone}
 
 -- the plan of the graph is that of the inputs
 pub input_placing : (inputs : Inputs) (text : Input) (program : Program) (g : Graph)
@@ -42,23 +47,69 @@ pub input_placing : (inputs : Inputs) (text : Input) (program : Program) (g : Gr
     → IsDatapath d
     → (r : Result Placed PlaceEnding)
     → IfOk r (λ (placed : Placed). placed.path ≡ d)
-    → IfOk r (λ (placed : Placed). IsPlanAt placed.places g d placed.plan)
+    → IfOk r (λ (placed : Placed). IsPlanWith placed.places placed.registers g d placed.plan)
     → IfOk r (λ (placed : Placed). AreGivenIn text placed.path placed.places)
+    → IfOk r (λ (placed : Placed). AreRegistersIn text placed.path placed.registers)
     → IfOk r (IsInputPlacing inputs text)
-input_placing inputs text program g has keeps d is_path allowed (Ok placed) same plan gives = record {
+input_placing inputs text program g has keeps d is_path allowed (Ok placed) same plan gives gives_registers = record {
   plan =
-      input_plan_by (IsPlanAt placed.places) inputs.source inputs.datapath program g has keeps d is_path allowed
-      placed.path placed.plan same plan;
+      input_plan_by (IsPlanWith placed.places placed.registers) inputs.source inputs.datapath program g has keeps d
+      is_path allowed placed.path placed.plan same plan;
   gives = gives;
+  gives_registers = gives_registers;
 }
-input_placing inputs text program g has keeps d is_path allowed (Err e) same plan gives = tt
+input_placing inputs text program g has keeps d is_path allowed (Err e) same plan gives gives_registers = tt
+
+-- what is placed with the lines of the input has what these give
+module _ (input : Input) (d : Datapath) (lines : PlanLines) (are : ArePlanLinesIn input d lines) where
+  pub places_given : (r : Result Placed PlaceEnding)
+      → IfOk r (λ (placed : Placed). placed.path ≡ d)
+      → IfOk r (λ (placed : Placed). placed.places ≡ lines.places.places)
+      → IfOk r (λ (placed : Placed). AreGivenIn input placed.path placed.places)
+  places_given (Ok placed) path same =
+      λ text is.
+      let its = are text is in (
+        its.0,
+        (
+          lines.places.lines,
+          subst₂ (λ (z : Datapath) (ps : List Place).
+              IsGivenBy z text (record { places = ps; lines = lines.places.lines })) (sym path) (sym same) its.1.places,
+        ),
+      )
+  places_given (Err e) path same = tt
+
+  pub registers_given : (r : Result Placed PlaceEnding)
+      → IfOk r (λ (placed : Placed). placed.path ≡ d)
+      → IfOk r (λ (placed : Placed). placed.registers ≡ lines.registers.registers)
+      → IfOk r (λ (placed : Placed). AreRegistersIn input placed.path placed.registers)
+  registers_given (Ok placed) path same =
+      λ text is.
+      let its = are text is in (
+        lines.registers.lines,
+        subst₂ (λ (z : Datapath) (rs : List GivenRegister).
+            AreRegistersBy z text (record { registers = rs; lines = lines.registers.lines })) (sym path) (sym same)
+            its.1.registers,
+      )
+  registers_given (Err e) path same = tt
 
 -- a plan of the inputs can be assembled
 pub assemblable : (inputs : Inputs) (text : Input) (placed : Placed)
     → IsInputPlacing inputs text placed
     → IsAssemblable placed.path placed.plan
 assemblable inputs text placed is =
-    placed_assemblable is.plan.graph placed.path placed.plan is.plan.allowed is.plan.keeps.sound is.plan.plan.placed
+    let its = is.plan in
+    let p = its.plan in
+    record {
+      graph = its.graph;
+      sound = its.keeps.sound;
+      plan =
+          given_feasible its.graph placed.path placed.places placed.registers its.allowed its.keeps.sound
+          its.keeps.loopless placed.plan p;
+      arcs = p.timed.arcs_are.order;
+      slot_count = p.timed.schedule.count;
+      register_count = p.registers.registers.count;
+      copies = p.registers.registers.copies;
+    }
 
 module _ (src datapath plan : Name) (old mid new : View) (inputs : Inputs) (are : AreRead src datapath old mid inputs)
     (first : OnlyReads (IsAmong (src ∷ datapath ∷ [])) old mid) (text : Input)
@@ -71,34 +122,43 @@ module _ (src datapath plan : Name) (old mid new : View) (inputs : Inputs) (are 
   made microcode of =
       let d = placed.path in
       let p = placed.plan in
-      let r = read_plan (IsPlanAt placed.places) src datapath old mid inputs are d p is.plan in
+      let places = placed.places in
+      let registers = placed.registers in
+      let r = read_plan (IsPlanWith places registers) src datapath old mid inputs are d p is.plan in
       let g = r.graph in
       let keeps = r.keeps in
       let at = r.plan in
       record {
         read = through_from plan text_limit old mid new first.unchanged.files through;
         compiled = λ files specified.
-            let its = is.gives (content_of (files plan)) (text_is files (first.unchanged.files ∙ specified)) in
+            let here = text_is files (first.unchanged.files ∙ specified) in
+            let its = is.gives (content_of (files plan)) here in
+            let planned = r.specified files specified in
             record {
               program = r.program;
               path = d;
-              places = placed.places;
+              places = places;
               within = its.0;
               gives = its.1;
+              registers = registers;
+              gives_registers = is.gives_registers (content_of (files plan)) here;
               plan = p;
-              planned = r.specified files specified;
-              given = at_given g d placed.places r.allowed keeps.sound p at;
-              routed = at_routed g d placed.places r.allowed keeps.sound p at;
-              narrow = at_narrow g d placed.places r.allowed keeps.sound p at;
+              planned = planned;
+              ordinary = λ none. plan_alone planned.has.graph d places registers none p planned.has.planned;
+              given = given_places g d places registers r.allowed keeps.sound keeps.loopless p at;
+              given_registers = given_registers g d places registers r.allowed keeps.sound keeps.loopless p at;
+              routed = given_routed g d places registers r.allowed keeps.sound keeps.loopless p at;
+              narrow = given_narrow g d places registers r.allowed keeps.sound keeps.loopless p at;
               image = of.image;
               image_of = of.image_of;
               spelled = of.spelled;
               short = of.short;
-              inputs = of.image_of.inputs ∙ ap (map width_of) (at.placed.inputs ∙ keeps.keeps.inputs);
-              outs = of.image_of.outs ∙ at.placed.outs ∙ keeps.keeps.outs;
+              inputs = of.image_of.inputs ∙ ap (map width_of) (at.inputs ∙ keeps.keeps.inputs);
+              outs = of.image_of.outs ∙ at.outs ∙ keeps.keeps.outs;
               runs =
                   runs_the_solution r.program g of.image keeps
-                  (of.runs g keeps.sound (at_feasible g d placed.places r.allowed keeps.sound p at));
+                  (of.runs g keeps.sound
+                  (given_feasible g d places registers r.allowed keeps.sound keeps.loopless p at));
               period = of.image_of.period;
             };
       }

@@ -1,6 +1,6 @@
 -- Files have one answer: one refusal at most, and none where they have microcode.
-use Rattle.std.proofs.Common.{◌≡◌, ◌≢◌, ◌⊎◌, ◌∙◌, inl, inr, refl, sym, ap, subst, arith, ⊎_elim, ℕ, ◌≤◌, List}
-use Rattle.std.proofs.Common.{length, Some}
+use Rattle.std.proofs.Common.{◌≡◌, ◌≢◌, ◌⊎◌, ◌∙◌, inl, inr, refl, sym, ap, subst, subst₂, arith, ⊎_elim, ◌<◌, ◌≤◌}
+use Rattle.std.proofs.Common.{List, length, Some, Result, Ok, Err}
 use Rattle.datapath.specs.Allowed.{IsDatapath}
 use Rattle.datapath.specs.Described.{IsPathOf}
 use Rattle.datapath.specs.declared.types.Datapath.{Datapath}
@@ -14,10 +14,16 @@ use Rattle.front_end.proofs.SoundGraph.{program_graph_sound, program_graph_loopl
 use Rattle.place_file.specs.Given.{IsGivenBy}
 use Rattle.place_file.specs.declared.given.Given.{Given}
 use Rattle.place_file.proofs.OneAnswer.{given_or_not, one_given, one_fault}
-use Rattle.placed_plan.specs.Faults.{IsPlaceFault}
-use Rattle.placed_plan.specs.Places.{IsPlanAt}
+use Rattle.place_file.specs.Registers.{AreRegistersBy}
+use Rattle.place_file.specs.declared.registers.GivenRegisters.{GivenRegisters}
+use Rattle.place_file.proofs.RegisterReading.{given_or_not as registers_or_not, one_given as one_registers}
+use Rattle.place_file.proofs.RegisterReading.{one_fault as one_registers_fault}
+use Rattle.given_registers.specs.declared.given.GivenRegister.{GivenRegister}
+use Rattle.placed_plan.specs.GivenPlans.{IsPlanGiven, IsGivenPlanFault}
 use Rattle.placed_plan.specs.declared.place.Place.{Place}
-use Rattle.placed_plan.proofs.OneFault.{plan_or_not, one_place_fault}
+use Rattle.placed_plan.specs.declared.fault.GivenPlanFault.{GivenPlanFault}
+use Rattle.placed_plan.specs.declared.fault.GivenPlanFault.TheVariants as of_plan
+use Rattle.placed_plan.proofs.GivenPlans.{finds_given, answers_given}
 use Rattle.plan_commands.specs.Compile.{IsWriteAnswerOf}
 use Rattle.plan_commands.proofs.Complete.{path_allowed}
 use Rattle.plan_commands.proofs.OneFault.{one_source_fault, one_path_fault, path_or_not}
@@ -31,11 +37,43 @@ use Rattle.source_faults.specs.Faults.{HasProgram}
 use Rattle.statuses.specs.declared.status.Status.{Status}
 use Rattle.statuses.specs.declared.status.Status.TheVariants.{Done, Memory, Desk, FrontEnd, Path}
 use Rattle.place_command.specs.Placed.{IsPlaced, ArePlaced, IsPlaceAnswer}
-use Rattle.place_command.specs.Refusals.{text_refusal, place_refusal, IsUngiven, IsTextRefused, IsMisplaced}
-use Rattle.place_command.specs.Refusals.{IsRefusedPlan, IsInputRefusal, IsInputRefused, IsPlaceError}
+use Rattle.place_command.specs.Refusals.{text_refusal, plan_refusal, IsTextRefused, IsMisplaced, IsRefusedPlan}
+use Rattle.place_command.specs.Refusals.{IsInputRefusal, IsInputRefused, IsPlaceError}
 use Rattle.place_command.specs.declared.ending.PlaceEnding.{PlaceEnding}
 use Rattle.place_command.specs.declared.ending.PlaceEnding.TheVariants.{Told, Refused}
 use Rattle.place_command.specs.declared.ending.Refusal.{Refusal}
+use Rattle.place_command.specs.declared.ending.Refusal.TheVariants.{Registers}
+
+-- Places and registers have one plan or one fault, and not both.
+
+module _ (g : Graph) (d : Datapath) (places : List Place) (given : List GivenRegister) (allowed : IsDatapath d)
+    (sound : IsGraph g) (loopless : IsGraphLoopless g) where
+  abbrev IsFault : GivenPlanFault → Type 0
+  IsFault = IsGivenPlanFault places g d given
+
+  refuted : (r : Result Plan GivenPlanFault) (p : Plan) (f : GivenPlanFault)
+      → r ≡ Ok p
+      → (r ≡ Err f) ⊎ (r ≡ Err of_plan.Memory)
+      → ⊥
+  refuted r p f is (inl e) = cc
+  refuted r p f is (inr e) = cc
+
+  plan_or_not : (p : Plan) → IsPlanGiven places g d given p → (f : GivenPlanFault) → IsFault f → ⊥
+  plan_or_not p is f h =
+      refuted (Ok p) p f refl ((finds_given g d places given allowed sound loopless p is).refused f h)
+
+  same_told : (r : Result Plan GivenPlanFault) (f h : GivenPlanFault)
+      → r ≡ Err f
+      → IsFault f
+      → (r ≡ Err h) ⊎ (r ≡ Err of_plan.Memory)
+      → f ≡ h
+  same_told r f h is x (inl e) = cc
+  same_told r f h is x (inr e) = let memory : f ≡ of_plan.Memory = cc in absurd (subst IsFault memory x)
+
+  one_plan_fault : (f h : GivenPlanFault) → IsFault f → IsFault h → f ≡ h
+  one_plan_fault f h x y =
+      same_told (Err f) f h refl x
+      ((answers_given g d places given allowed sound loopless (Err f) f refl (inr x)).refused h y)
 
 -- The text, where the graph and the datapath are known.
 
@@ -44,63 +82,72 @@ module _ (g : Graph) (d : Datapath) (text : Content) (allowed : IsDatapath d) (s
   abbrev IsRefused : Refusal → Type 0
   IsRefused refusal = IsTextRefused d text refusal ⊎ IsMisplaced g d text refusal
 
-  -- a text that gives places is not refused for itself
-  gives_or_not : (given : Given)
+  not_both : text_limit < length text → length text ≤ text_limit → ⊥
+  not_both above short = absurd (omega (arith, above, short))
+
+  -- a text that gives places and registers is not refused for itself
+  gives_or_not : (given : Given) (registers : GivenRegisters)
       → length text ≤ text_limit
       → IsGivenBy d text given
+      → AreRegistersBy d text registers
       → (refusal : Refusal)
       → IsTextRefused d text refusal
       → ⊥
-  gives_or_not given short gives refusal h =
-      ⊎_elim (λ long. let above = long.1 in absurd (omega (arith, short, above)))
-      (λ (u : IsUngiven d text refusal). given_or_not d text allowed given gives u.fault u.is_fault) h
+  gives_or_not given registers short gives registers_are refusal (inl long) = not_both long.1 short
+  gives_or_not given registers short gives registers_are refusal (inr (inl u)) =
+      given_or_not d text allowed given gives u.fault u.is_fault
+  gives_or_not given registers short gives registers_are refusal (inr (inr u)) =
+      registers_or_not d text allowed registers registers_are u.fault u.is_fault
 
-  -- nor for its places, where there is a plan with them
-  pub plan_or_refused : (places : List Place) (lines : List ℕ) (plan : Plan)
+  -- nor for these, where there is a plan with them
+  pub plan_or_refused : (given : Given) (registers : GivenRegisters) (plan : Plan)
       → length text ≤ text_limit
-      → IsGivenBy d text (record { places = places; lines = lines })
-      → IsPlanAt places g d plan
+      → IsGivenBy d text given
+      → AreRegistersBy d text registers
+      → IsPlanGiven given.places g d registers.registers plan
       → (refusal : Refusal)
       → IsRefused refusal
       → ⊥
-  plan_or_refused places lines plan short gives is refusal h =
-      ⊎_elim (gives_or_not (record { places = places; lines = lines }) short gives refusal)
-      (λ (m : IsMisplaced g d text refusal).
-      let same = one_given d text allowed m.given (record { places = places; lines = lines }) m.gives gives in
-      plan_or_not g d places allowed sound loopless plan is m.fault
-      (subst (λ (its : Given). IsPlaceFault g d its.places m.fault) same m.is_fault)) h
+  plan_or_refused given registers plan short gives registers_are is refusal (inl h) =
+      gives_or_not given registers short gives registers_are refusal h
+  plan_or_refused given registers plan short gives registers_are is refusal (inr m) =
+      plan_or_not g d given.places registers.registers allowed sound loopless plan is m.fault
+      (subst₂ (λ (its : Given) (rs : GivenRegisters). IsGivenPlanFault its.places g d rs.registers m.fault)
+      (one_given d text allowed m.given given m.gives gives)
+      (one_registers d text allowed m.registers registers m.gives_registers registers_are) m.is_fault)
 
   one_text : (r q : Refusal) → IsTextRefused d text r → IsTextRefused d text q → r ≡ q
-  one_text r q h k =
-      ⊎_elim
-      (λ long.
-      ⊎_elim (λ too. long.0 ∙ sym too.0)
-      (λ (u : IsUngiven d text q). let above = long.1 in let short = u.short in absurd (omega (arith, short, above))) k)
-      (λ (u : IsUngiven d text r).
-      ⊎_elim (λ too. let above = too.1 in let short = u.short in absurd (omega (arith, short, above)))
-      (λ (w : IsUngiven d text q).
-      u.told ∙ ap text_refusal (one_fault d text allowed u.fault w.fault u.is_fault w.is_fault) ∙ sym w.told) k)
-      h
+  one_text r q (inl x) (inl y) = x.0 ∙ sym y.0
+  one_text r q (inl x) (inr (inl y)) = absurd (not_both x.1 y.short)
+  one_text r q (inl x) (inr (inr y)) = absurd (not_both x.1 y.short)
+  one_text r q (inr (inl x)) (inl y) = absurd (not_both y.1 x.short)
+  one_text r q (inr (inr x)) (inl y) = absurd (not_both y.1 x.short)
+  one_text r q (inr (inl x)) (inr (inl y)) =
+      x.told ∙ ap text_refusal (one_fault d text allowed x.fault y.fault x.is_fault y.is_fault) ∙ sym y.told
+  one_text r q (inr (inl x)) (inr (inr y)) = absurd (given_or_not d text allowed y.given y.gives x.fault x.is_fault)
+  one_text r q (inr (inr x)) (inr (inl y)) = absurd (given_or_not d text allowed x.given x.gives y.fault y.is_fault)
+  one_text r q (inr (inr x)) (inr (inr y)) =
+      x.told ∙ ap Registers (one_registers_fault d text allowed x.fault y.fault x.is_fault y.is_fault) ∙ sym y.told
 
   one_misplaced : (r q : Refusal) → IsMisplaced g d text r → IsMisplaced g d text q → r ≡ q
   one_misplaced r q m n =
-      let same = one_given d text allowed m.given n.given m.gives n.gives in
+      let places = one_given d text allowed m.given n.given m.gives n.gives in
+      let registers = one_registers d text allowed m.registers n.registers m.gives_registers n.gives_registers in
       let fault =
-      one_place_fault g d n.given.places allowed sound loopless m.fault n.fault
-      (subst (λ (its : Given). IsPlaceFault g d its.places m.fault) same m.is_fault) n.is_fault in
-      m.told ∙ ap (λ (its : Given). place_refusal its.lines m.fault) same ∙ ap (place_refusal n.given.lines) fault
-      ∙ sym n.told
+      one_plan_fault g d n.given.places n.registers.registers allowed sound loopless m.fault n.fault
+      (subst₂ (λ (its : Given) (rs : GivenRegisters). IsGivenPlanFault its.places g d rs.registers m.fault) places
+      registers m.is_fault) n.is_fault in
+      m.told ∙ ap (λ (its : Given). plan_refusal its.lines m.registers m.fault) places
+      ∙ ap (λ (rs : GivenRegisters). plan_refusal n.given.lines rs m.fault) registers
+      ∙ ap (plan_refusal n.given.lines n.registers) fault ∙ sym n.told
 
   pub one_refused : (r q : Refusal) → IsRefused r → IsRefused q → r ≡ q
-  one_refused r q h k =
-      ⊎_elim
-      (λ ours.
-      ⊎_elim (λ its. one_text r q ours its)
-      (λ (n : IsMisplaced g d text q). absurd (gives_or_not n.given n.short n.gives r ours)) k)
-      (λ (m : IsMisplaced g d text r).
-      ⊎_elim (λ its. absurd (gives_or_not m.given m.short m.gives q its))
-      (λ (n : IsMisplaced g d text q). one_misplaced r q m n) k)
-      h
+  one_refused r q (inl x) (inl y) = one_text r q x y
+  one_refused r q (inl x) (inr n) =
+      absurd (gives_or_not n.given n.registers n.short n.gives n.gives_registers r x)
+  one_refused r q (inr m) (inl y) =
+      absurd (gives_or_not m.given m.registers m.short m.gives m.gives_registers q y)
+  one_refused r q (inr m) (inr n) = one_misplaced r q m n
 
 -- The files.
 
@@ -135,8 +182,10 @@ module _ (s p t : Content) where
       let has = is.planned.has in
       plan_or_refused has.graph is.path t (path_allowed p is.path has.described)
       (program_graph_sound s is.program has.read has.graph has.graph_of)
-      (program_graph_loopless s is.program has.read has.graph has.graph_of) is.places is.gives.0 is.plan is.within
-      is.gives.1 has.planned r
+      (program_graph_loopless s is.program has.read has.graph has.graph_of)
+      (record { places = is.places; lines = is.gives.0 })
+      (record { registers = is.registers; lines = is.gives_registers.0 }) is.plan is.within is.gives.1
+      is.gives_registers.1 has.planned r
       (refused_here is.program has.read has.graph has.graph_of is.path has.described r h)
 
   pub one_input_refusal : (why other : Status)

@@ -1,5 +1,5 @@
 -- Why no microcode is made, from the endings of the parts.
-use Rattle.std.proofs.Common.{◌≡◌, ◌⊎◌, ◌∙◌, refl, inl, inr, ⊎_elim, subst, ◌≤◌, [], ◌∷◌, length}
+use Rattle.std.proofs.Common.{◌≡◌, ◌⊎◌, ◌∙◌, refl, sym, ap, inl, inr, ⊎_elim, subst, ℕ, ◌≤◌, List, [], ◌∷◌, length}
 use Rattle.datapath.specs.declared.types.Datapath.{Datapath}
 use Rattle.desk_core.specs.View.{Name, Content, View}
 use Rattle.desk_core.specs.Desk.{WhereSpecified, content_of}
@@ -9,6 +9,14 @@ use Rattle.desk_core.proofs.WholeLemmas.{through_from}
 use Rattle.place_file.specs.Faults.{IsGivenFault}
 use Rattle.place_file.specs.declared.fault.GivenFault.{GivenFault}
 use Rattle.place_file.specs.declared.fault.GivenFault.TheVariants as of_given
+use Rattle.place_file.specs.Given.{IsGivenBy}
+use Rattle.place_file.specs.declared.given.Given.{Given}
+use Rattle.place_file.specs.Registers.{IsRegistersFault}
+use Rattle.place_file.specs.declared.fault.RegistersFault.{RegistersFault}
+use Rattle.place_file.specs.declared.fault.RegistersFault.TheVariants as of_text
+use Rattle.placed_plan.specs.GivenPlans.{IsGivenPlanFault}
+use Rattle.placed_plan.specs.declared.fault.GivenPlanFault.{GivenPlanFault}
+use Rattle.placed_plan.specs.declared.fault.GivenPlanFault.TheVariants as of_plan
 use Rattle.plan_commands.specs.Compile.{IsWriteAnswerOf}
 use Rattle.plan_commands.specs.Planning.{AreRead, AreUnread, IsSourceIn, IsNoSource, IsPathIn, IsNoPath}
 use Rattle.plan_commands.specs.Planning.{IsNoInputPlanOf}
@@ -25,14 +33,25 @@ use Rattle.silc_files.proofs.Endings.{unchanged_trans}
 use Rattle.statuses.specs.declared.status.Status.{Status}
 use Rattle.statuses.specs.declared.status.Status.TheVariants.{Done, Memory, Desk, FrontEnd, Path}
 use Rattle.place_command.specs.Placed.{ArePlaced, IsPlaceAnswer, IsDone}
-use Rattle.place_command.specs.Refusals.{text_refusal, IsInputRefusal, IsInputRefused, IsOneUnread}
-use Rattle.place_command.specs.Refusals.{IsPlaceError}
-use Rattle.place_command.specs.Private.Endings.{IsToldAs, IsEndingOf, IsUngivenIn, IsUnplacedIn}
+use Rattle.place_command.specs.Refusals.{text_refusal, plan_refusal, IsUngiven, IsTextRefused, IsInputRefusal}
+use Rattle.place_command.specs.Refusals.{IsInputRefused, IsOneUnread, IsPlaceError}
+use Rattle.place_command.specs.Private.Endings.{IsWantOfMemory, IsToldAs, IsEndingOf, HaveTheirLines, ArePlanLines}
+use Rattle.place_command.specs.Private.Endings.{ArePlanLinesIn, IsUngivenIn, IsPlanless, IsUnplacedIn}
 use Rattle.place_command.specs.Private.Endings.{IsNoInputPlacing, IsNotMade}
 use Rattle.place_command.specs.declared.ending.PlaceEnding.{PlaceEnding}
 use Rattle.place_command.specs.declared.ending.PlaceEnding.TheVariants.{Told, Refused}
 use Rattle.place_command.specs.declared.ending.Refusal.{Refusal}
 use Rattle.place_command.specs.declared.ending.Refusal.TheVariants as of_refusal
+use Rattle.place_command.specs.declared.placer.PlanLines.{PlanLines}
+use Rattle.place_command.proofs.Ordinary.{fault_alone}
+
+pub ending_of : (P Q : Refusal → Type 0)
+    → ((refusal : Refusal) → P refusal → Q refusal)
+    → (ending : PlaceEnding)
+    → IsEndingOf P ending
+    → IsEndingOf Q ending
+ending_of P Q f (Told ending) h = h
+ending_of P Q f (Refused refusal) h = f refusal h
 
 -- PLAN's text.
 
@@ -40,35 +59,107 @@ use Rattle.place_command.specs.declared.ending.Refusal.TheVariants as of_refusal
 pub too_long : (d : Datapath) (input : Input) → input ≡ TooLong → IsUngivenIn input d of_refusal.TooLong
 too_long d input same = λ text is. inl (refl, subst (IsInput text) same is)
 
--- it has a fault
-pub ungiven_in : (d : Datapath) (input : Input) (bytes : Content)
-    → input ≡ Whole bytes
-    → length bytes ≤ text_limit
-    → (fault : GivenFault)
-    → (fault ≡ of_given.Memory) ⊎ IsGivenFault d bytes fault
-    → (ending : PlaceEnding)
-    → IsToldAs (fault ≡ of_given.Memory) (text_refusal fault) ending
-    → IsEndingOf (IsUngivenIn input d) ending
-ungiven_in d input bytes same short fault why (Told ending) told = told.1
-ungiven_in d input bytes same short fault why (Refused refusal) told =
-    λ text is.
-    let its : bytes ≡ text = subst (IsInput text) same is in
-    inr (record {
-      short = subst (λ (t : Content). length t ≤ text_limit) its short;
-      fault = fault;
-      is_fault =
-          subst (λ (t : Content). IsGivenFault d t fault) its
-          (⊎_elim (λ (e : fault ≡ of_given.Memory). absurd (told.0 e)) (λ (h : IsGivenFault d bytes fault). h) why);
-      told = told.1;
-    })
+module _ (d : Datapath) (bytes : Content) (short : length bytes ≤ text_limit) where
+  -- it has a fault
+  pub ungiven_by : (fault : GivenFault)
+      → (fault ≡ of_given.Memory) ⊎ IsGivenFault d bytes fault
+      → (ending : PlaceEnding)
+      → IsToldAs (fault ≡ of_given.Memory) (text_refusal fault) ending
+      → IsEndingOf (IsUngiven d bytes) ending
+  ungiven_by fault why (Told ending) told = told.1
+  ungiven_by fault why (Refused refusal) told = record {
+    short = short;
+    fault = fault;
+    is_fault =
+        ⊎_elim (λ (e : fault ≡ of_given.Memory). absurd (told.0 e)) (λ (h : IsGivenFault d bytes fault). h) why;
+    told = told.1;
+  }
 
-module _ (g : Graph) (d : Datapath) (input : Input) where
-  -- it gives no places
-  pub ungiven_over : (ending : PlaceEnding)
-      → IsEndingOf (IsUngivenIn input d) ending
-      → IsEndingOf (IsUnplacedIn input g d) ending
-  ungiven_over (Told ending) h = h
-  ungiven_over (Refused refusal) h = λ text is. inl (h text is)
+  -- it gives places, and has a fault of registers
+  pub registerless_by : (given : Given)
+      → IsGivenBy d bytes given
+      → (fault : RegistersFault)
+      → (fault ≡ of_text.Memory) ⊎ IsRegistersFault d bytes fault
+      → (ending : PlaceEnding)
+      → IsToldAs (fault ≡ of_text.Memory) (of_refusal.Registers fault) ending
+      → IsEndingOf (IsTextRefused d bytes) ending
+  registerless_by given gives fault why (Told ending) told = told.1
+  registerless_by given gives fault why (Refused refusal) told =
+      inr (inr (record {
+        short = short;
+        given = given;
+        gives = gives;
+        fault = fault;
+        is_fault =
+            ⊎_elim (λ (e : fault ≡ of_text.Memory). absurd (told.0 e)) (λ (h : IsRegistersFault d bytes fault). h) why;
+        told = told.1;
+      }))
+
+  -- what an input gives that was read whole
+  module _ (input : Input) (same : input ≡ Whole bytes) where
+    pub lines_in : (lines : PlanLines) → ArePlanLines bytes d lines → ArePlanLinesIn input d lines
+    lines_in lines are =
+        λ text is.
+        let its : bytes ≡ text = subst (IsInput text) same is in (
+          subst (λ (t : Content). length t ≤ text_limit) its short,
+          subst (λ (t : Content). ArePlanLines t d lines) its are,
+        )
+
+    pub refused_in : (refusal : Refusal) → IsTextRefused d bytes refusal → IsUngivenIn input d refusal
+    refused_in refusal h =
+        λ text is.
+        let its : bytes ≡ text = subst (IsInput text) same is in
+        subst (λ (t : Content). IsTextRefused d t refusal) its h
+
+pub their_lines : (text : Content) (d : Datapath) (lines : PlanLines) → ArePlanLines text d lines → HaveTheirLines lines
+their_lines text d lines are = record { places = are.places.count; registers = are.registers.count }
+
+module _ (g : Graph) (d : Datapath) where
+  -- there is no plan with what it gives
+  pub planless : (lines : PlanLines) (numbers : List ℕ)
+      → numbers ≡ lines.places.lines
+      → (fault : GivenPlanFault)
+      → (fault ≡ of_plan.Memory) ⊎ IsGivenPlanFault lines.places.places g d lines.registers.registers fault
+      → (ending : PlaceEnding)
+      → IsToldAs (IsWantOfMemory fault) (plan_refusal numbers lines.registers fault) ending
+      → IsEndingOf (IsPlanless g d lines) ending
+  planless lines numbers same fault why (Told ending) told = told.1
+  planless lines numbers same fault why (Refused refusal) told = record {
+    fault = fault;
+    is_fault =
+        ⊎_elim (λ (e : fault ≡ of_plan.Memory). absurd (told.0 (subst IsWantOfMemory (sym e) tt)))
+        (λ (h : IsGivenPlanFault lines.places.places g d lines.registers.registers fault). h) why;
+    told = told.1 ∙ ap (λ (ns : List ℕ). plan_refusal ns lines.registers fault) same;
+  }
+
+  module _ (input : Input) where
+    -- it gives no places or no registers
+    pub ungiven_over : (refusal : Refusal) → IsUngivenIn input d refusal → IsUnplacedIn input g d refusal
+    ungiven_over refusal h = λ text is. inl (h text is)
+
+    -- it gives both, with which there is no plan
+    pub planless_over : (lines : PlanLines)
+        → ArePlanLinesIn input d lines
+        → (refusal : Refusal)
+        → IsPlanless g d lines refusal
+        → IsUnplacedIn input g d refusal
+    planless_over lines are refusal h =
+        λ text is.
+        let its = are text is in
+        inr (record {
+          short = its.0;
+          given = lines.places;
+          gives = its.1.places;
+          registers = lines.registers;
+          gives_registers = its.1.registers;
+          fault = h.fault;
+          is_fault = h.is_fault;
+          told = h.told;
+          ordinary = λ none.
+              let alone = fault_alone g d lines.places.places lines.places.lines lines.registers none h.fault h.is_fault
+              in
+              (alone.0, alone.1, h.told ∙ alone.2);
+        })
 
 -- The inputs.
 

@@ -12,7 +12,16 @@ use Rattle.place_file.specs.Given.{IsGivenBy}
 use Rattle.place_file.specs.declared.fault.GivenFault.{GivenFault}
 use Rattle.place_file.specs.declared.fault.GivenFault.TheVariants as of_given
 use Rattle.place_file.specs.declared.given.Given.{Given}
+use Rattle.place_file.specs.Registers.{AreRegistersBy, IsRegistersFault}
+use Rattle.place_file.specs.declared.registers.GivenRegisters.{GivenRegisters}
+use Rattle.place_file.specs.declared.fault.RegistersFault.{RegistersFault}
+use Rattle.given_registers.specs.Around.{given_at}
+use Rattle.given_registers.specs.declared.fault.RegisterFault.{RegisterFault}
+use Rattle.given_registers.specs.declared.fault.RegisterFault.TheVariants as of_registers
 use Rattle.placed_plan.specs.Faults.{IsPlaceFault}
+use Rattle.placed_plan.specs.GivenPlans.{IsGivenPlanFault}
+use Rattle.placed_plan.specs.declared.fault.GivenPlanFault.{GivenPlanFault}
+use Rattle.placed_plan.specs.declared.fault.GivenPlanFault.TheVariants as of_plan
 use Rattle.placed_plan.specs.declared.fault.PlaceFault.{PlaceFault}
 use Rattle.placed_plan.specs.declared.fault.PlaceFault.TheVariants.{Line as Unstored, Missing, Surplus, TooWide}
 use Rattle.placed_plan.specs.declared.fault.PlaceFault.TheVariants.{WrongUnit, Late, Past, Busy, FileWritten}
@@ -27,7 +36,7 @@ use Rattle.statuses.specs.declared.status.Status.{Status}
 use Rattle.statuses.specs.declared.status.Status.TheVariants.{FrontEnd, Path, Desk}
 use Rattle.statuses.specs.declared.status.Status.TheVariants as of_status
 use Rattle.place_command.specs.declared.ending.Refusal.{Refusal}
-use Rattle.place_command.specs.declared.ending.Refusal.TheVariants.{TooLong, Text, Line, Plan}
+use Rattle.place_command.specs.declared.ending.Refusal.TheVariants.{TooLong, Text, Line, Plan, Registers, Register}
 
 -- how a fault of the text is told: where no line has a node, as the fault of places that it is
 abbrev pub text_refusal : GivenFault → Refusal
@@ -58,6 +67,19 @@ told_at lines fault (Some v) = Line (slice_index_or lines v 0) fault
 abbrev pub place_refusal : List ℕ → PlaceFault → Refusal
 place_refusal lines fault = told_at lines fault (named_node fault)
 
+-- how a fault of registers is told: with the line that gives the register, or, where a copy finds none, with the line
+-- of its node
+abbrev pub register_refusal : List ℕ → GivenRegisters → RegisterFault → Refusal
+register_refusal lines given (of_registers.Given n cause) =
+    Register (slice_index_or given.lines n 0) (given_at given.registers n) cause
+register_refusal lines given (of_registers.Full unit port v) = place_refusal lines (FileFull unit port v)
+register_refusal lines given of_registers.Memory = Plan Memory
+
+abbrev pub plan_refusal : List ℕ → GivenRegisters → GivenPlanFault → Refusal
+plan_refusal lines given (of_plan.Place fault) = place_refusal lines fault
+plan_refusal lines given (of_plan.Registers fault) = register_refusal lines given fault
+plan_refusal lines given of_plan.Memory = Plan Memory
+
 -- the text has a fault of its own
 pub record IsUngiven (d : Datapath) (text : Content) (refusal : Refusal) : Type 0 where
   pub short : length text ≤ text_limit
@@ -65,21 +87,40 @@ pub record IsUngiven (d : Datapath) (text : Content) (refusal : Refusal) : Type 
   pub is_fault : IsGivenFault d text fault
   pub told : refusal ≡ text_refusal fault
 
+-- its lines of nodes have none, and its lines of registers have one
+pub record IsRegisterless (d : Datapath) (text : Content) (refusal : Refusal) : Type 0 where
+  pub short : length text ≤ text_limit
+  pub given : Given
+  pub gives : IsGivenBy d text given
+  pub fault : RegistersFault
+  pub is_fault : IsRegistersFault d text fault
+  pub told : refusal ≡ Registers fault
+
 -- it is too long, or else has a fault of its own
 abbrev pub IsTextRefused : Datapath → Content → Refusal → Type 0
-IsTextRefused d text refusal = ((refusal ≡ TooLong) × (text_limit < length text)) ⊎ IsUngiven d text refusal
+IsTextRefused d text refusal =
+    ((refusal ≡ TooLong) × (text_limit < length text)) ⊎ IsUngiven d text refusal ⊎ IsRegisterless d text refusal
 
--- the text gives places, and the graph has no plan with them
+-- the refusal tells a fault of the places that are given, whatever registers are
+abbrev pub TellsPlaceFault : Graph → Datapath → Given → Refusal → Type 0
+TellsPlaceFault g d given refusal =
+    (fault : PlaceFault) × IsPlaceFault g d given.places fault × (refusal ≡ place_refusal given.lines fault)
+
+-- the text gives places and registers, and the graph has no plan with them
 pub record IsMisplaced (g : Graph) (d : Datapath) (text : Content) (refusal : Refusal) : Type 0 where
   pub short : length text ≤ text_limit
   pub given : Given
   pub gives : IsGivenBy d text given
-  pub fault : PlaceFault
-  pub is_fault : IsPlaceFault g d given.places fault
-  pub told : refusal ≡ place_refusal given.lines fault
+  pub registers : GivenRegisters
+  pub gives_registers : AreRegistersBy d text registers
+  pub fault : GivenPlanFault
+  pub is_fault : IsGivenPlanFault given.places g d registers.registers fault
+  pub told : refusal ≡ plan_refusal given.lines registers fault
+  -- where no register is given, the places alone have none
+  pub ordinary : registers.registers ≡ [] → TellsPlaceFault g d given refusal
 
--- Why there is no plan of a source over a datapath with the places of a text. The source has a program and the file
--- describes a datapath: a fault of one of them is told first, by a status.
+-- Why there is no plan of a source over a datapath with the places and the registers of a text. The source has a
+-- program and the file describes a datapath: a fault of one of them is told first, by a status.
 pub record IsRefusedPlan (refusal : Refusal) (source datapath text : List ℕ) : Type 0 where
   pub program : Program
   pub read : HasProgram source program

@@ -1,31 +1,34 @@
 //! From files to microcode.
 
-ghost use Rattle.std.specs.Prelude.{◌≡◌, ◌≢◌, [], ◌∷◌, length, IfOk, IfErr};
+ghost use Rattle.std.specs.Prelude.{◌≡◌, ◌≢◌, ◌≤◌, [], ◌∷◌, length, IfOk, IfErr};
 ghost use Rattle.datapath.specs.Allowed.{IsDatapath};
 ghost use Rattle.desk_core.specs.Desk.{FaultsNeverFall, IfSpecified};
 ghost use Rattle.desk_core.specs.Whole.{IsUnchangedButInput};
 ghost use Rattle.signal_graph.specs.GraphRules.{IsGraph};
 ghost use Rattle.signal_graph.specs.GraphSolves.{IsGraphLoopless};
 ghost use Rattle.microcode_asm.specs.Planned.{IsAssemblable};
-ghost use Rattle.placed_plan.specs.Places.{IsPlanAt};
+ghost use Rattle.place_file.specs.Given.{IsGivenBy};
 ghost use Rattle.silc_files.specs.Endings.{IsAmong, UsesOnly};
+ghost use Rattle.silc_files.specs.Limits.{text_limit};
 ghost use Rattle.silc_files.specs.Reading.{IsShort, OnlyReads};
 ghost use Rattle.plan_commands.specs.Compile.{HasTheSolution};
 ghost use Rattle.plan_commands.specs.Compiling.{IsMadeOf};
-ghost use Rattle.place_command.specs.Placed.{ArePlaced, HasThePlan, IsPlaceAnswer, IsDone, IsUnmade};
-ghost use Rattle.place_command.specs.Private.Endings.{IsEndingOf, IsGivenIn, IsUngivenIn, IsUnplacedIn, IsNoInputPlacing};
-ghost use Rattle.place_command.specs.Private.Endings.{IsNotMade};
-ghost use Rattle.place_command.specs.Private.Placing.{AreGivenIn, IsInputPlacing, IsFeasibleMicrocode};
+ghost use Rattle.place_command.specs.Placed.{IsPlanWith, ArePlaced, HasThePlan, IsPlaceAnswer, IsDone, IsUnmade};
+ghost use Rattle.place_command.specs.Refusals.{IsUngiven, IsTextRefused};
+ghost use Rattle.place_command.specs.Private.Endings.{IsEndingOf, HaveTheirLines, ArePlanLines, ArePlanLinesIn};
+ghost use Rattle.place_command.specs.Private.Endings.{IsUngivenIn, IsPlanless, IsUnplacedIn, IsNoInputPlacing, IsNotMade};
+ghost use Rattle.place_command.specs.Private.Placing.{AreGivenIn, AreRegistersIn, IsInputPlacing, IsFeasibleMicrocode};
 ghost use Rattle.statuses.specs.declared.status.Status.TheVariants.{Memory};
 
-use crate::ending::{PlaceEnding, Refusal, misplaced, ungiven};
+use crate::ending::{PlaceEnding, Refusal, registerless, ungiven, unplanned};
 use datapath::Datapath;
 use desk_core::{Desk, write_whole};
+use given_registers::GivenRegister;
 use lists::{Bytes, List};
 use micro_file::encode;
 use microcode_asm::assemble_feasible;
-use place_file::{Given, places_in};
-use placed_plan::{Place, plan_at};
+use place_file::{Given, GivenRegisters, places_in, registers_in};
+use placed_plan::{Place, plan_given};
 use plan_commands::{Inputs, datapath_in, read_inputs, source_in};
 use plan_core::Plan;
 use signal_graph::Graph;
@@ -33,32 +36,94 @@ use silc_files::{Input, read_input};
 use statuses::Status;
 use std::alloc::Global;
 
-/// A plan, its datapath, and the places that were given for it.
+/// A plan, its datapath, and the places and the registers that were given for it.
 #[derive(Drop)]
 pub(crate) struct Placed {
     pub plan: Plan,
     pub path: Datapath,
     pub places: List<Place>,
+    pub registers: List<GivenRegister>,
 }
 
-/// The places that the input gives.
-fn given_in(alloc: Global, text: &Input, path: &Datapath) -> Result<Given, PlaceEnding>
+/// The places and the registers that the lines of a text give.
+#[derive(Drop)]
+pub(crate) struct PlanLines {
+    pub places: Given,
+    pub registers: GivenRegisters,
+}
+
+/// The places that the lines of a text give.
+fn places_of(alloc: Global, text: &[u8], path: &Datapath) -> Result<Given, PlaceEnding>
+    requires path { IsDatapath path.now }
+    requires short { length text.now ≤ text_limit }
+    ensures places { IfOk result (IsGivenBy path.now text.now) }
+    ensures err { IfErr result (IsEndingOf (IsUngiven path.now text.now)) }
+{
+    match places_in(alloc, text, path) {
+        Ok(places) => Ok(places),
+        Err(fault) => Err(ungiven(fault)),
+    }
+}
+
+/// What the lines of a text give.
+fn plan_lines_of(alloc: Global, text: &[u8], path: &Datapath) -> Result<PlanLines, PlaceEnding>
+    requires path { IsDatapath path.now }
+    requires short { length text.now ≤ text_limit }
+    ensures lines { IfOk result (ArePlanLines text.now path.now) }
+    ensures err { IfErr result (IsEndingOf (IsTextRefused path.now text.now)) }
+{
+    let places = places_of(alloc, text, path)?;
+    match registers_in(alloc, text, path) {
+        Ok(registers) => Ok(PlanLines { places, registers }),
+        Err(fault) => Err(registerless(fault)),
+    }
+}
+
+/// What the lines of the input give.
+fn plan_lines_in(alloc: Global, text: &Input, path: &Datapath) -> Result<PlanLines, PlaceEnding>
     requires path { IsDatapath path.now }
     requires short { IsShort text.now }
-    ensures count { IfOk result (λ given. length given.lines ≡ length given.places) }
-    ensures given { IfOk result (IsGivenIn text.now path.now) }
+    ensures numbers { IfOk result HaveTheirLines }
+    ensures lines { IfOk result (ArePlanLinesIn text.now path.now) }
     ensures err { IfErr result (IsEndingOf (IsUngivenIn text.now path.now)) }
 {
     match text {
-        Input::Whole(bytes) => match places_in(alloc, bytes.as_slice(), path) {
-            Ok(given) => Ok(given),
-            Err(fault) => Err(ungiven(fault)),
-        },
+        Input::Whole(bytes) => plan_lines_of(alloc, bytes.as_slice(), path),
         Input::TooLong => Err(PlaceEnding::Refused(Refusal::TooLong)),
     }
 }
 
-/// The plan of a graph with the places that the input gives.
+/// The plan of a graph with the places and the registers that these lines give.
+fn placed_with(
+    alloc: Global,
+    graph: Graph,
+    path: Datapath,
+    lines: PlanLines,
+) -> Result<Placed, PlaceEnding>
+    requires sound { IsGraph graph }
+    requires loopless { IsGraphLoopless graph }
+    requires path { IsDatapath path }
+    requires numbers { HaveTheirLines lines }
+    ensures path { IfOk result (λ placed. placed.path ≡ path) }
+    ensures plan { IfOk result (λ placed. IsPlanWith placed.places placed.registers graph path placed.plan) }
+    ensures places { IfOk result (λ placed. placed.places ≡ lines.places.places) }
+    ensures registers { IfOk result (λ placed. placed.registers ≡ lines.registers.registers) }
+    ensures err { IfErr result (IsEndingOf (IsPlanless graph path lines)) }
+{
+    let PlanLines { places, registers } = lines;
+    let given = registers.registers.as_slice();
+    match plan_given(alloc, graph, places.places.as_slice(), given, &path) {
+        Ok(plan) => Ok(Placed {
+            plan,
+            path,
+            places: places.places,
+            registers: registers.registers,
+        }),
+        Err(fault) => Err(unplanned(fault, places.lines.as_slice(), &registers)),
+    }
+}
+
+/// The plan of a graph with the places and the registers that the input gives.
 fn placed_over(
     alloc: Global,
     graph: Graph,
@@ -70,22 +135,16 @@ fn placed_over(
     requires path { IsDatapath path }
     requires short { IsShort text.now }
     ensures path { IfOk result (λ placed. placed.path ≡ path) }
-    ensures plan { IfOk result (λ placed. IsPlanAt placed.places graph path placed.plan) }
+    ensures plan { IfOk result (λ placed. IsPlanWith placed.places placed.registers graph path placed.plan) }
     ensures gives { IfOk result (λ placed. AreGivenIn text.now placed.path placed.places) }
+    ensures registers { IfOk result (λ placed. AreRegistersIn text.now placed.path placed.registers) }
     ensures err { IfErr result (IsEndingOf (IsUnplacedIn text.now graph path)) }
 {
-    let given = given_in(alloc, text, &path)?;
-    match plan_at(alloc, graph, given.places.as_slice(), &path) {
-        Ok(plan) => Ok(Placed {
-            plan,
-            path,
-            places: given.places,
-        }),
-        Err(fault) => Err(misplaced(fault, given.lines.as_slice())),
-    }
+    let lines = plan_lines_in(alloc, text, &path)?;
+    placed_with(alloc, graph, path, lines)
 }
 
-/// The plan of the inputs with the places that the text gives.
+/// The plan of the inputs with the places and the registers that the text gives.
 fn placed_of(alloc: Global, inputs: &Inputs, text: &Input) -> Result<Placed, PlaceEnding>
     requires { IsShort text.now }
     ensures ok { IfOk result (IsInputPlacing inputs.now text.now) }
@@ -128,7 +187,8 @@ fn make<D: Desk>(
 }
 
 /// Reads a source, a datapath and a plan, and writes to OUT the microcode of the plan that has the units and the cycles of
-/// the given one. All three are read before one is judged: first the source, then the datapath, then the plan.
+/// the given one, and the registers that it gives. All three are read before one is judged: first the source, then the
+/// datapath, then the plan.
 pub fn place<D: Desk>(
     alloc: Global,
     desk: &mut D,

@@ -13,8 +13,8 @@ use std::io::{self, ErrorKind};
 use std::process::ExitCode;
 
 const HELP: &str =
-    "silc_place compiles SRC for the datapath DP with the units and cycles that PLAN gives, or runs such a
-plan.
+    "silc_place compiles SRC for the datapath DP with the units, cycles and registers that PLAN gives, or
+runs such a plan.
 
 usage: silc_place SRC DP PLAN OUT    writes the microcode of that plan to OUT
        silc_place pipe SRC DP PLAN S SAMPLES OUT
@@ -23,15 +23,18 @@ usage: silc_place SRC DP PLAN OUT    writes the microcode of that plan to OUT
 
 PLAN is what 'silc schedule SRC DP' prints, or any text that has for each node a line as
 node 3 cycle 5 unit alu
-with more behind it or not. Lines that do not begin with 'node' give no place. What wrote PLAN is not
-trusted: where OUT is written, it is the solution of SRC, and each node stands where PLAN says. For 'pipe',
-PLAN is what 'silc stages SRC DP S' prints, or such a text, and OUT has the rows of 'silc pipe'.
+and, for a copy of a word that waits at a port, a line with its register or none:
+register 1 unit alu port 0 node 3 copy 0
+with more behind it or not. Lines that begin with neither of the two words give nothing. What wrote PLAN
+is not trusted: where OUT is written, it is the solution of SRC, each node stands where PLAN says, and each
+copy has the register that PLAN gives it. For 'pipe', PLAN is what 'silc stages SRC DP S' prints, or a text
+with such lines of nodes, and OUT has the rows of 'silc pipe'.
 
 The exit code is that of 'silc compile SRC DP OUT', or of 'silc pipe SRC DP S SAMPLES OUT', and 16 where
-PLAN gives no places or nodes can't stand at them. Their buses and registers are the first that are free,
-so that other places, or a choice of buses and registers, may have a plan where these have none. An error
-is reported in one line on standard error, and no OUT is made then, except where it can't be written, or
-where rows of SAMPLES came before the error.";
+PLAN gives no places or nodes can't stand at them, or copies can't have their registers. Buses, and
+registers that are not given, are the first that are free, so that other places, or a choice of buses and
+registers, may have a plan where these have none. An error is reported in one line on standard error, and
+no OUT is made then, except where it can't be written, or where rows of SAMPLES came before the error.";
 
 const VERSION: &str = "silc_place 0.1.0";
 

@@ -51,18 +51,20 @@ class Cure(NamedTuple):
 
 
 def report_of(case: Case) -> Report | None:
+    from silc.explaining.of_registers import Registered
     if case.refusal.code != case.status:
         return without_lines(case)
-    return too_long(case) or Placed(case).report()
+    idle = "those that begin with neither of the words `node` and `register`"
+    return too_long(case, idle) or Registered(case).report()
 
 
-def too_long(case: Case) -> Report | None:
-    """The report on a plan that has too many bytes."""
+def too_long(case: Case, idle: str) -> Report | None:
+    """The report on a plan that has too many bytes, of which some lines give nothing."""
     if case.refusal.text != "plan too long":
         return None
     size = len(case.text("PLAN").data)
     return Report(f"the plan has {size} bytes, and at most {MOST_BYTES} are read",
-                  "take out the lines that give no place: those that do not begin with the word `node`.", PLACES,
+                  f"take out the lines that give nothing: {idle}.", PLACES,
                   about=case.files["PLAN"])
 
 

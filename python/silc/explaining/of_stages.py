@@ -25,7 +25,7 @@ def report_of(case: Case) -> Report | None:
     if case.refusal.code != case.status:
         name_unit(case)
         return Unstored(case, lacks.tree_of(case.text("DP"))).report()
-    return too_long(case) or Staged(case).report()
+    return too_long(case, "those that do not begin with the word `node`") or Staged(case).report()
 
 
 def stages_of(case: Case) -> int:

@@ -9,15 +9,17 @@ use Rattle.plan_core.specs.declared.plan.Plan.{Plan}
 use Rattle.plan_soundness.specs.Feasible.{IsFeasiblePlan}
 use Rattle.plan_soundness.specs.ImageOf.{IsImageOf}
 use Rattle.plan_soundness.specs.Run.{RunsSolution}
-use Rattle.placed_plan.specs.Places.{IsPlanAt}
 use Rattle.placed_plan.specs.declared.place.Place.{Place}
+use Rattle.given_registers.specs.declared.given.GivenRegister.{GivenRegister}
 use Rattle.place_file.specs.Given.{GivesPlaces}
+use Rattle.place_file.specs.Registers.{GivesRegisters}
 use Rattle.silc_files.specs.Limits.{text_limit, microcode_limit}
 use Rattle.silc_files.specs.Reading.{IsInput}
 use Rattle.silc_files.specs.declared.files.Input.{Input}
 use Rattle.plan_commands.specs.Headline.{SpellsOnly}
 use Rattle.plan_commands.specs.Planning.{IsInputPlanBy}
 use Rattle.plan_commands.specs.declared.planning.Inputs.{Inputs}
+use Rattle.place_command.specs.Placed.{IsPlanWith}
 use Rattle.place_command.specs.declared.placer.Placed.{Placed}
 
 -- the text of the input gives the places, and is not too long
@@ -25,10 +27,16 @@ abbrev pub AreGivenIn : Input → Datapath → List Place → Type 0
 AreGivenIn input d places =
     (text : Content) → IsInput text input → (length text ≤ text_limit) × GivesPlaces d text places
 
--- the plan of the inputs, with the places that the text gives
+-- it gives the registers
+abbrev pub AreRegistersIn : Input → Datapath → List GivenRegister → Type 0
+AreRegistersIn input d registers = (text : Content) → IsInput text input → GivesRegisters d text registers
+
+-- the plan of the inputs, with the places and the registers that the text gives
 pub record IsInputPlacing (inputs : Inputs) (text : Input) (placed : Placed) : Type 0 where
-  pub plan : IsInputPlanBy (IsPlanAt placed.places) inputs.source inputs.datapath placed.path placed.plan
+  pub plan :
+      IsInputPlanBy (IsPlanWith placed.places placed.registers) inputs.source inputs.datapath placed.path placed.plan
   pub gives : AreGivenIn text placed.path placed.places
+  pub gives_registers : AreRegistersIn text placed.path placed.registers
 
 -- the microcode spells the image of the plan, which runs each graph of which the plan is a feasible one
 pub record IsFeasibleMicrocode (d : Datapath) (plan : Plan) (microcode : Content) : Type 0 where

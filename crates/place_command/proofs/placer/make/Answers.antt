@@ -67,3 +67,9 @@ returns-in_err-microcode_of-clause-err g c =
     (no_memory c.args.source.now c.args.datapath.now c.args.plan.now (g.D.Desk.view c.args.desk.now)
     (g.D.Desk.view c.read_inputs.new.desk) (g.D.Desk.view c.read_input.new.desk) c.in_ok-inputs.ensures.reads
     c.in_ok-text.ensures.reads c.in_err-microcode_of.field-0.0 c.in_err-microcode_of.ensures.err)
+
+pub returns-in_err-microcode_of-clause-reads : goal.returns-in_err-microcode_of-clause-reads
+returns-in_err-microcode_of-clause-reads g c =
+    reads_more (c.args.source.now ∷ c.args.datapath.now ∷ []) (c.args.plan.now ∷ []) (g.D.Desk.view c.args.desk.now)
+    (g.D.Desk.view c.read_inputs.new.desk) (g.D.Desk.view c.read_input.new.desk) c.in_ok-inputs.ensures.reads
+    c.in_ok-text.ensures.reads

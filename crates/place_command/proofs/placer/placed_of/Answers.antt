@@ -13,7 +13,7 @@ returns-clause-ok c =
     input_placing c.args.inputs.now c.args.text.now (view c.in_ok-accepted.accepted.program)
     c.in_ok-accepted.accepted.graph c.in_ok-accepted.ensures.ok c.in_ok-accepted.ensures.graph c.in_ok-path.path
     c.in_ok-path.ensures.ok c.in_ok-path.ensures.allowed c.placed_over.result c.placed_over.ensures.path
-    c.placed_over.ensures.plan c.placed_over.ensures.gives
+    c.placed_over.ensures.plan c.placed_over.ensures.gives c.placed_over.ensures.registers
 
 pub returns-in_err-accepted-clause-err : goal.returns-in_err-accepted-clause-err
 returns-in_err-accepted-clause-err c =
