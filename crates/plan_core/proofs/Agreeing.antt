@@ -10,10 +10,10 @@ use Rattle.plan_core.specs.Hardware.{latency_on, port_of}
 use Rattle.plan_core.specs.Operands.{Reads}
 use Rattle.plan_core.specs.Assigned.{unit_in}
 use Rattle.plan_core.specs.Heights.{ReadsNow, latency_of, AreHeights, IsPlacedBefore}
-use Rattle.plan_core.specs.Reservations.{result_on, IsFreeRouteOver, FitsOver, IsFirstBusOver, IsGapApart, IsOneCycle}
+use Rattle.plan_core.specs.Reservations.{result_on, IsFreeRouteVia, FitsVia, IsFirstBusVia, IsGapApart, IsOneCycle}
 use Rattle.plan_core.specs.ListSchedule.{slot_of, cycle_of, ends, IsDestination, IsPortBefore, AreDestinations}
-use Rattle.plan_core.specs.ListSchedule.{IsEarlier, IsTakenBefore, CanIssueOver, IsPlacedOver, AnyCycle, CanIssue}
-use Rattle.plan_core.specs.ListSchedule.{IsPlaced}
+use Rattle.plan_core.specs.ListSchedule.{IsEarlier, IsTakenBefore, CanIssueVia, IsPlacedVia, AnyBus, AnyCycle}
+use Rattle.plan_core.specs.ListSchedule.{CanIssue, IsPlaced}
 use Rattle.plan_core.specs.declared.schedule.Assigned.{Assigned}
 use Rattle.plan_core.specs.declared.schedule.Transfer.{Transfer}
 use Rattle.plan_core.specs.declared.schedule.Slot.{Slot}
@@ -113,21 +113,6 @@ module _ (d : Datapath) (a : Assigned) (live : (u : ℕ) → 1 ≤ latency_on d 
 -- The rules of the reservation table, the cycle before which operations end, and what else a node asks of its cycle.
 module _ (IsAway : (gap t u : ℕ) → Type 0) (IsSame : (w x : ℕ) → Type 0) (end : ℕ)
     (Allows : Schedule → (height : ℕ → ℕ) → (v t : ℕ) → Type 0) (d : Datapath) (a : Assigned) where
-  abbrev Free : (IsTaken : (unit : ℕ) → Slot → Type 0) → (u w : ℕ) → PortRef → (b : ℕ) → Type 0
-  Free IsTaken u w port b = IsFreeRouteOver IsAway IsSame d IsTaken u w port b
-
-  abbrev Fitting : (IsTaken : (unit : ℕ) → Slot → Type 0) → (PortRef → Type 0) → (u t : ℕ) → Type 0
-  Fitting IsTaken IsTo u t = FitsOver IsAway IsSame d IsTaken end IsTo u t
-
-  abbrev First : (IsTaken : (unit : ℕ) → Slot → Type 0) → (u w : ℕ) → Transfer → Type 0
-  First IsTaken u w transfer = IsFirstBusOver IsAway IsSame d IsTaken u w transfer
-
-  abbrev Can : Schedule → (height : ℕ → ℕ) → (v t : ℕ) → Type 0
-  Can s h v t = CanIssueOver IsAway IsSame end Allows d a s h v t
-
-  abbrev Placed : Schedule → (height : ℕ → ℕ) → (v : ℕ) → Type 0
-  Placed s h v = IsPlacedOver IsAway IsSame end Allows d a s h v
-
   -- What else a node asks is the same in schedules that agree on the nodes that are placed before it.
   abbrev pub AllowsAlike : Type 0
   AllowsAlike =
@@ -141,13 +126,32 @@ module _ (IsAway : (gap t u : ℕ) → Type 0) (IsSame : (w x : ℕ) → Type 0)
       → Allows s g v t
       → Allows z h v t
 
+-- The same, and the buses that the result of a node may take.
+module _ (IsAway : (gap t u : ℕ) → Type 0) (IsSame : (w x : ℕ) → Type 0) (end : ℕ)
+    (Allows : Schedule → (height : ℕ → ℕ) → (v t : ℕ) → Type 0) (d : Datapath) (a : Assigned)
+    (Leads : (v : ℕ) → Datapath → (u : ℕ) → PortRef → (b : ℕ) → Type 0) where
+  abbrev Free : (v : ℕ) → (IsTaken : (unit : ℕ) → Slot → Type 0) → (u w : ℕ) → PortRef → (b : ℕ) → Type 0
+  Free v IsTaken u w port b = IsFreeRouteVia IsAway IsSame d IsTaken (Leads v) u w port b
+
+  abbrev Fitting : (v : ℕ) → (IsTaken : (unit : ℕ) → Slot → Type 0) → (PortRef → Type 0) → (u t : ℕ) → Type 0
+  Fitting v IsTaken IsTo u t = FitsVia IsAway IsSame d IsTaken (Leads v) end IsTo u t
+
+  abbrev First : (v : ℕ) → (IsTaken : (unit : ℕ) → Slot → Type 0) → (u w : ℕ) → Transfer → Type 0
+  First v IsTaken u w transfer = IsFirstBusVia IsAway IsSame d IsTaken (Leads v) u w transfer
+
+  abbrev Can : Schedule → (height : ℕ → ℕ) → (v t : ℕ) → Type 0
+  Can s h v t = CanIssueVia IsAway IsSame end Allows d a Leads s h v t
+
+  abbrev Placed : Schedule → (height : ℕ → ℕ) → (v : ℕ) → Type 0
+  Placed s h v = IsPlacedVia IsAway IsSame end Allows d a Leads s h v
+
   -- the place of node v, as its slot says it
   pub record IsPlacedIn (z : Schedule) (h : ℕ → ℕ) (v : ℕ) (slot : Slot) : Type 0 where
     pub can : Can z h v slot.cycle
     pub least : (t : ℕ) → t < slot.cycle → Can z h v t → ⊥
     pub destinations : AreDestinations a v (map (λ (transfer : Transfer). transfer.port) slot.transfers)
     pub buses :
-        All (First (IsTakenBefore a z h v) (unit_in a.units v) (result_on d (unit_in a.units v) slot.cycle))
+        All (First v (IsTakenBefore a z h v) (unit_in a.units v) (result_on d (unit_in a.units v) slot.cycle))
         slot.transfers
 
   pub placed_in_over : (z : Schedule) (h : ℕ → ℕ) (v : ℕ) (slot : Slot)
@@ -158,7 +162,7 @@ module _ (IsAway : (gap t u : ℕ) → Type 0) (IsSame : (w x : ℕ) → Type 0)
       let k = subst (IsPlacedIn z h v) same p in
       record { can = k.can; least = k.least; destinations = k.destinations; buses = k.buses }
 
-  module _ (live : (u : ℕ) → 1 ≤ latency_on d u) (alike : AllowsAlike) where
+  module _ (live : (u : ℕ) → 1 ≤ latency_on d u) (alike : AllowsAlike IsAway IsSame end Allows d a) where
     module _ (inside : (v q x : ℕ) → Reads a.lowered.nodes v q x → x < length a.lowered.nodes) (s z : Schedule)
         (g h : ℕ → ℕ) (gs : AreHeights d a g) (hs : AreHeights d a h) (v : ℕ) (there : v < length a.lowered.nodes)
         (agree : (u : ℕ) → IsEarlier a h v u → slot_of s u ≡ slot_of z u) where
@@ -172,13 +176,13 @@ module _ (IsAway : (gap t u : ℕ) → Type 0) (IsSame : (w x : ℕ) → Type 0)
       }
 
       pub free_same : (u w : ℕ) (port : PortRef) (b : ℕ)
-          → Free (IsTakenBefore a s g v) u w port b
-          → Free (IsTakenBefore a z h v) u w port b
+          → Free v (IsTakenBefore a s g v) u w port b
+          → Free v (IsTakenBefore a z h v) u w port b
       free_same u w port b f = record { route = f.route; free = λ x slot t. f.free x slot (taken-back x slot t) }
 
       fits-same : (u t : ℕ)
-          → Fitting (IsTakenBefore a s g v) (IsDestination a v) u t
-          → Fitting (IsTakenBefore a z h v) (IsDestination a v) u t
+          → Fitting v (IsTakenBefore a s g v) (IsDestination a v) u t
+          → Fitting v (IsTakenBefore a z h v) (IsDestination a v) u t
       fits-same u t f = record {
         period = f.period;
         unit = λ slot x. f.unit slot (taken-back u slot x);
@@ -203,8 +207,8 @@ module _ (IsAway : (gap t u : ℕ) → Type 0) (IsSame : (w x : ℕ) → Type 0)
       agree-back u r = sym (agree u r)
 
       bus-kept : (x : Transfer)
-          → First (IsTakenBefore a s h v) (unit_in a.units v) (ends d a s v) x
-          → First (IsTakenBefore a z h v) (unit_in a.units v) (ends d a s v) x
+          → First v (IsTakenBefore a s h v) (unit_in a.units v) (ends d a s v) x
+          → First v (IsTakenBefore a z h v) (unit_in a.units v) (ends d a s v) x
       bus-kept x f = record {
         route = free_same inside s z h h hs hs v there agree (unit_in a.units v) (ends d a s v) x.port x.bus f.route;
         first = λ b less r. f.first b less
@@ -244,10 +248,10 @@ module _ (IsAway : (gap t u : ℕ) → Type 0) (IsSame : (w x : ℕ) → Type 0)
         (placed_s : (v : ℕ) → v < length a.lowered.nodes → Has v → Placed s g v)
         (placed_z : (v : ℕ) → v < length a.lowered.nodes → Has v → Placed z h v) where
       abbrev First_s : ℕ → ℕ → Transfer → Type 0
-      First_s v w x = First (IsTakenBefore a s g v) (unit_in a.units v) w x
+      First_s v w x = First v (IsTakenBefore a s g v) (unit_in a.units v) w x
 
       abbrev First_z : ℕ → ℕ → Transfer → Type 0
-      First_z v w x = First (IsTakenBefore a z h v) (unit_in a.units v) w x
+      First_z v w x = First v (IsTakenBefore a z h v) (unit_in a.units v) w x
 
       slot-same : (v : ℕ)
           → v < length a.lowered.nodes
@@ -279,19 +283,19 @@ module _ (IsAway : (gap t u : ℕ) → Type 0) (IsSame : (w x : ℕ) → Type 0)
           forth : (w x : ℕ) (p q : PortRef) (b : ℕ)
               → w ≡ x
               → p ≡ q
-              → Free (IsTakenBefore a s g v) (unit_in a.units v) w p b
-              → Free (IsTakenBefore a z h v) (unit_in a.units v) x q b
+              → Free v (IsTakenBefore a s g v) (unit_in a.units v) w p b
+              → Free v (IsTakenBefore a z h v) (unit_in a.units v) x q b
           forth w x p q b ew ep f =
-              subst₂ (λ (y : ℕ) (r : PortRef). Free (IsTakenBefore a z h v) (unit_in a.units v) y r b) ew ep
+              subst₂ (λ (y : ℕ) (r : PortRef). Free v (IsTakenBefore a z h v) (unit_in a.units v) y r b) ew ep
               (free_same inside s z g h gs hs v there agree_h (unit_in a.units v) w p b f)
 
           back : (w x : ℕ) (p q : PortRef) (b : ℕ)
               → w ≡ x
               → p ≡ q
-              → Free (IsTakenBefore a z h v) (unit_in a.units v) w p b
-              → Free (IsTakenBefore a s g v) (unit_in a.units v) x q b
+              → Free v (IsTakenBefore a z h v) (unit_in a.units v) w p b
+              → Free v (IsTakenBefore a s g v) (unit_in a.units v) x q b
           back w x p q b ew ep f =
-              subst₂ (λ (y : ℕ) (r : PortRef). Free (IsTakenBefore a s g v) (unit_in a.units v) y r b) ew ep
+              subst₂ (λ (y : ℕ) (r : PortRef). Free v (IsTakenBefore a s g v) (unit_in a.units v) y r b) ew ep
               (free_same inside z s h g hs gs v there agree_back (unit_in a.units v) w p b f)
 
           bus-same : (w e : ℕ) → w ≡ e → (x y : Transfer) → x.port ≡ y.port → First_s v w x → First_z v e y → x ≡ y
@@ -349,9 +353,9 @@ any_alike d a s z g h gs hs v there agree t any = tt {0}
 module _ (d : Datapath) (a : Assigned) where
   pub placed_in : (z : Schedule) (h : ℕ → ℕ) (v : ℕ) (slot : Slot)
       → slot ≡ slot_of z v
-      → IsPlacedIn IsGapApart IsOneCycle d.period AnyCycle d a z h v slot
+      → IsPlacedIn IsGapApart IsOneCycle d.period AnyCycle d a AnyBus z h v slot
       → IsPlaced d a z h v
-  placed_in z h v slot same p = placed_in_over IsGapApart IsOneCycle d.period AnyCycle d a z h v slot same p
+  placed_in z h v slot same p = placed_in_over IsGapApart IsOneCycle d.period AnyCycle d a AnyBus z h v slot same p
 
   module _ (live : (u : ℕ) → 1 ≤ latency_on d u)
       (inside : (v q x : ℕ) → Reads a.lowered.nodes v q x → x < length a.lowered.nodes) (s z : Schedule) where
@@ -364,7 +368,7 @@ module _ (d : Datapath) (a : Assigned) where
         → (t : ℕ)
         → CanIssue d a s g v t
         → CanIssue d a z h v t
-    can_same = can_same_over IsGapApart IsOneCycle d.period AnyCycle d a live (any_alike d a) inside s z
+    can_same = can_same_over IsGapApart IsOneCycle d.period AnyCycle d a AnyBus live (any_alike d a) inside s z
 
     pub placed_same : (h : ℕ → ℕ)
         → AreHeights d a h
@@ -374,7 +378,7 @@ module _ (d : Datapath) (a : Assigned) where
         → slot_of s v ≡ slot_of z v
         → IsPlaced d a s h v
         → IsPlaced d a z h v
-    placed_same = placed_same_over IsGapApart IsOneCycle d.period AnyCycle d a live (any_alike d a) inside s z
+    placed_same = placed_same_over IsGapApart IsOneCycle d.period AnyCycle d a AnyBus live (any_alike d a) inside s z
 
     pub one_slot : (g h : ℕ → ℕ)
         → AreHeights d a g
@@ -387,4 +391,4 @@ module _ (d : Datapath) (a : Assigned) where
         → v < length a.lowered.nodes
         → Has v
         → slot_of s v ≡ slot_of z v
-    one_slot = one_slot_over IsGapApart IsOneCycle d.period AnyCycle d a live (any_alike d a) inside s z
+    one_slot = one_slot_over IsGapApart IsOneCycle d.period AnyCycle d a AnyBus live (any_alike d a) inside s z

@@ -12,6 +12,7 @@ pub mod WorkedPlans
 pub mod WorkedStages
 pub mod WorkedRefusals
 mod WrongPlans
+mod WorkedBuses
 pub mod Distances
 pub mod Samples
 pub mod Sorted
@@ -19,6 +20,7 @@ pub mod OneAssigned
 pub mod OneArcs
 pub mod OneHeight
 pub mod Agreeing
+pub mod Leading
 pub mod OneSchedule
 pub mod OneFit
 pub mod OneFullFile

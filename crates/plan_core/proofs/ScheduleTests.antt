@@ -10,10 +10,11 @@ use Rattle.plan_core.specs.Operands.{delay_at, Reads}
 use Rattle.plan_core.specs.Assigned.{unit_in}
 use Rattle.plan_core.specs.Heights.{ReadsNow, latency_of, IsHeight, AreHeights, IsPlacedBefore}
 use Rattle.plan_core.specs.Reservations.{result_on, IsUnitFreeOver, IsFileFreeOver, IsBusFreeOver}
-use Rattle.plan_core.specs.Reservations.{IsFreeRouteOver, FitsOver, IsFirstBusOver, IsGapApart}
+use Rattle.plan_core.specs.Reservations.{IsFreeRouteVia, FitsVia, IsFirstBusVia, IsGapApart}
 use Rattle.plan_core.specs.ListSchedule.{slot_of, cycle_of, ends, IsDestination, IsPortBefore, AreDestinations}
-use Rattle.plan_core.specs.ListSchedule.{IsTakenBefore, AreOperandsThere, CanIssueOver, IsPlacedOver, AnyCycle}
-use Rattle.plan_core.specs.ListSchedule.{CanIssue, IsPlaced, IsListSchedule, IsListScheduleOver}
+use Rattle.plan_core.specs.ListSchedule.{IsTakenBefore, AreOperandsThere, CanIssueVia, IsPlacedVia, IsListScheduleVia}
+use Rattle.plan_core.specs.ListSchedule.{AnyBus, CanIssueOver, IsPlacedOver, IsListScheduleOver, AnyCycle, CanIssue}
+use Rattle.plan_core.specs.ListSchedule.{IsPlaced, IsListSchedule}
 use Rattle.plan_core.specs.declared.schedule.Slot.{Slot}
 use Rattle.plan_core.specs.declared.schedule.Assigned.{Assigned}
 use Rattle.plan_core.specs.declared.schedule.Transfer.{Transfer}
@@ -121,8 +122,13 @@ taken_to a s height v P h u slot t = subst₂ P t.unit t.its_slot (h t.x t.earli
 module _ {IsAway : (gap t u : ℕ) → Type 0} {IsSame : (w x : ℕ) → Type 0}
     {Allows : Schedule → (height : ℕ → ℕ) → (v t : ℕ) → Type 0} (away : (gap t u : ℕ) → Test (IsAway gap t u))
     (same : (w x : ℕ) → Test (IsSame w x)) (end : ℕ)
-    (allows : (s : Schedule) (height : ℕ → ℕ) (v t : ℕ) → Test (Allows s height v t)) (d : Datapath) (a : Assigned)
-    (s : Schedule) (height : ℕ → ℕ) where
+    (allows : (s : Schedule) (height : ℕ → ℕ) (v t : ℕ) → Test (Allows s height v t))
+    {Leads : (v : ℕ) → Datapath → (u : ℕ) → PortRef → (b : ℕ) → Type 0}
+    (leads : (v : ℕ) (d : Datapath) (u : ℕ) (port : PortRef) (b : ℕ) → Test (Leads v d u port b))
+    (are_there : (v : ℕ) (d : Datapath) (u : ℕ) (port : PortRef) (b : ℕ)
+    → Leads v d u port b
+    → b < length d.buses)
+    (d : Datapath) (a : Assigned) (s : Schedule) (height : ℕ → ℕ) where
   -- each operation in the reservation table
   abbrev each_taken : {P : ℕ → Slot → Type 0} (v : ℕ)
       → ((u : ℕ) (slot : Slot) → Test (P u slot))
@@ -159,18 +165,21 @@ module _ {IsAway : (gap t u : ℕ) → Type 0} {IsSame : (w x : ℕ) → Type 0}
       each_of slot.transfers (λ (transfer : Transfer). nay (eq transfer.bus b))))
 
   abbrev free_route : (v u w : ℕ) (port : PortRef) (b : ℕ)
-      → Test (IsFreeRouteOver IsAway IsSame d (IsTakenBefore a s height v) u w port b)
+      → Test (IsFreeRouteVia IsAway IsSame d (IsTakenBefore a s height v) (Leads v) u w port b)
   free_route v u w port b =
-      like {P = IsRoute d u port b × IsBusFreeOver IsAway IsSame d (IsTakenBefore a s height v) w b}
+      like {P = Leads v d u port b × IsBusFreeOver IsAway IsSame d (IsTakenBefore a s height v) w b}
       (λ h. record { route = h.0; free = h.1 }) (λ h. (h.route, h.free))
-      (both (is_route d u port b) (bus_free v w b))
+      (both (leads v d u port b) (bus_free v w b))
 
   abbrev some_free_route : (v u w : ℕ) (port : PortRef)
-      → Test ((b : ℕ) × IsFreeRouteOver IsAway IsSame d (IsTakenBefore a s height v) u w port b)
+      → Test ((b : ℕ) × IsFreeRouteVia IsAway IsSame d (IsTakenBefore a s height v) (Leads v) u w port b)
   some_free_route v u w port =
       like
-      {P = (b : ℕ) × (b < length d.buses) × IsFreeRouteOver IsAway IsSame d (IsTakenBefore a s height v) u w port b}
-      (λ h. (h.0, h.2)) (λ h. (h.0, h.1.route.there, h.1))
+      {P =
+          (b : ℕ)
+          × (b < length d.buses)
+          × IsFreeRouteVia IsAway IsSame d (IsTakenBefore a s height v) (Leads v) u w port b}
+      (λ h. (h.0, h.2)) (λ h. (h.0, are_there v d u port h.0 h.1.route, h.1))
       (some_below (length d.buses) (λ b. free_route v u w port b))
 
   abbrev operands_there : (v t : ℕ) → Test (AreOperandsThere d a s v t)
@@ -188,9 +197,10 @@ module _ {IsAway : (gap t u : ℕ) → Type 0} {IsSame : (w x : ℕ) → Type 0}
   abbrev Buses : ℕ → ℕ → ℕ → Type 0
   Buses v u t =
       (port : PortRef) → IsDestination a v port
-      → (b : ℕ) × IsFreeRouteOver IsAway IsSame d (IsTakenBefore a s height v) u (result_on d u t) port b
+      → (b : ℕ) × IsFreeRouteVia IsAway IsSame d (IsTakenBefore a s height v) (Leads v) u (result_on d u t) port b
 
-  abbrev fits : (v u t : ℕ) → Test (FitsOver IsAway IsSame d (IsTakenBefore a s height v) end (IsDestination a v) u t)
+  abbrev fits : (v u t : ℕ)
+      → Test (FitsVia IsAway IsSame d (IsTakenBefore a s height v) (Leads v) end (IsDestination a v) u t)
   fits v u t =
       like
       {P = (t + latency_on d u ≤ end) × (IsUnitFreeOver IsAway IsSame d (IsTakenBefore a s height v) u t × (Files v u t
@@ -202,46 +212,72 @@ module _ {IsAway : (gap t u : ℕ) → Type 0} {IsSame : (w x : ℕ) → Type 0}
       (both (each_destination a v (λ port. file_free v (result_on d u t) port))
       (each_destination a v (λ port. some_free_route v u (result_on d u t) port)))))
 
-  abbrev pub can_issue_over : (v t : ℕ) → Test (CanIssueOver IsAway IsSame end Allows d a s height v t)
-  can_issue_over v t =
-      like {P = AreOperandsThere d a s v t × (FitsOver IsAway IsSame d (IsTakenBefore a s height v) end
+  abbrev pub can_issue_via : (v t : ℕ) → Test (CanIssueVia IsAway IsSame end Allows d a Leads s height v t)
+  can_issue_via v t =
+      like {P = AreOperandsThere d a s v t × (FitsVia IsAway IsSame d (IsTakenBefore a s height v) (Leads v) end
       (IsDestination a v) (unit_in a.units v) t × Allows s height v t)}
       (λ h. record { operands = h.0; fits = h.1.0; allows = h.1.1 }) (λ h. (h.operands, (h.fits, h.allows)))
       (both (operands_there v t) (both (fits v (unit_in a.units v) t) (allows s height v t)))
 
   abbrev is_first_bus : (v u w : ℕ) (transfer : Transfer)
-      → Test (IsFirstBusOver IsAway IsSame d (IsTakenBefore a s height v) u w transfer)
+      → Test (IsFirstBusVia IsAway IsSame d (IsTakenBefore a s height v) (Leads v) u w transfer)
   is_first_bus v u w transfer =
-      like {P = IsFreeRouteOver IsAway IsSame d (IsTakenBefore a s height v) u w transfer.port transfer.bus × ((b : ℕ)
-      → b < transfer.bus → IsFreeRouteOver IsAway IsSame d (IsTakenBefore a s height v) u w transfer.port b → ⊥)}
+      like {P =
+          IsFreeRouteVia IsAway IsSame d (IsTakenBefore a s height v) (Leads v) u w transfer.port transfer.bus
+          × ((b : ℕ)
+      → b < transfer.bus
+      → IsFreeRouteVia IsAway IsSame d (IsTakenBefore a s height v) (Leads v) u w transfer.port b
+      → ⊥)}
       (λ h. record { route = h.0; first = h.1 }) (λ h. (h.route, h.first))
       (both (free_route v u w transfer.port transfer.bus) (below transfer.bus
       (λ b. nay (free_route v u w transfer.port b))))
 
-  abbrev pub is_placed_over : (v : ℕ) → Test (IsPlacedOver IsAway IsSame end Allows d a s height v)
-  is_placed_over v =
+  abbrev pub is_placed_via : (v : ℕ) → Test (IsPlacedVia IsAway IsSame end Allows d a Leads s height v)
+  is_placed_via v =
       like {P =
-      CanIssueOver IsAway IsSame end Allows d a s height v (cycle_of s v)
-      × (((t : ℕ) → t < cycle_of s v → CanIssueOver IsAway IsSame end Allows d a s height v t
+      CanIssueVia IsAway IsSame end Allows d a Leads s height v (cycle_of s v)
+      × (((t : ℕ) → t < cycle_of s v → CanIssueVia IsAway IsSame end Allows d a Leads s height v t
       → ⊥) × (AreDestinations a v (map (λ (transfer : Transfer). transfer.port) (slot_of s v).transfers)
-      × All (IsFirstBusOver IsAway IsSame d (IsTakenBefore a s height v) (unit_in a.units v) (ends d a s v))
+      × All (IsFirstBusVia IsAway IsSame d (IsTakenBefore a s height v) (Leads v) (unit_in a.units v) (ends d a s v))
       (slot_of s v).transfers))}
       (λ h. record { can = h.0; least = h.1.0; destinations = h.1.1.0; buses = h.1.1.1 })
       (λ h. (h.can, (h.least, (h.destinations, h.buses))))
-      (both (can_issue_over v (cycle_of s v))
-      (both (below (cycle_of s v) (λ t. nay (can_issue_over v t)))
+      (both (can_issue_via v (cycle_of s v))
+      (both (below (cycle_of s v) (λ t. nay (can_issue_via v t)))
       (both (are_destinations a v (map (λ (transfer : Transfer). transfer.port) (slot_of s v).transfers))
       (each_of (slot_of s v).transfers (is_first_bus v (unit_in a.units v) (ends d a s v))))))
 
+  abbrev pub are_placed_via :
+      Test ((v : ℕ) → v < length a.lowered.nodes → IsPlacedVia IsAway IsSame end Allows d a Leads s height v)
+  are_placed_via = below (length a.lowered.nodes) (λ v. is_placed_via v)
+
+-- the same where results may take any route
+abbrev any_route : (v : ℕ) (d : Datapath) (u : ℕ) (port : PortRef) (b : ℕ) → Test (AnyBus v d u port b)
+any_route v d u port b = is_route d u port b
+
+pub route_there : (v : ℕ) (d : Datapath) (u : ℕ) (port : PortRef) (b : ℕ) → AnyBus v d u port b → b < length d.buses
+route_there v d u port b route = route.there
+
+module _ {IsAway : (gap t u : ℕ) → Type 0} {IsSame : (w x : ℕ) → Type 0}
+    {Allows : Schedule → (height : ℕ → ℕ) → (v t : ℕ) → Type 0} (away : (gap t u : ℕ) → Test (IsAway gap t u))
+    (same : (w x : ℕ) → Test (IsSame w x)) (end : ℕ)
+    (allows : (s : Schedule) (height : ℕ → ℕ) (v t : ℕ) → Test (Allows s height v t)) (d : Datapath) (a : Assigned)
+    (s : Schedule) (height : ℕ → ℕ) where
+  abbrev pub can_issue_over : (v t : ℕ) → Test (CanIssueOver IsAway IsSame end Allows d a s height v t)
+  can_issue_over v t = can_issue_via away same end allows any_route route_there d a s height v t
+
+  abbrev pub is_placed_over : (v : ℕ) → Test (IsPlacedOver IsAway IsSame end Allows d a s height v)
+  is_placed_over v = is_placed_via away same end allows any_route route_there d a s height v
+
   abbrev pub are_placed_over :
       Test ((v : ℕ) → v < length a.lowered.nodes → IsPlacedOver IsAway IsSame end Allows d a s height v)
-  are_placed_over = below (length a.lowered.nodes) (λ v. is_placed_over v)
+  are_placed_over = are_placed_via away same end allows any_route route_there d a s height
 
 -- the same where one sample is in flight at a time
-abbrev gap_apart : (gap t u : ℕ) → Test (IsGapApart gap t u)
+abbrev pub gap_apart : (gap t u : ℕ) → Test (IsGapApart gap t u)
 gap_apart gap t u = either (le (t + gap) u) (le (u + gap) t)
 
-abbrev any_cycle : (s : Schedule) (height : ℕ → ℕ) (v t : ℕ) → Test (AnyCycle s height v t)
+abbrev pub any_cycle : (s : Schedule) (height : ℕ → ℕ) (v t : ℕ) → Test (AnyCycle s height v t)
 any_cycle s height v t = trivial
 
 module _ (d : Datapath) (a : Assigned) (s : Schedule) (height : ℕ → ℕ) where
@@ -255,6 +291,26 @@ module _ (d : Datapath) (a : Assigned) (s : Schedule) (height : ℕ → ℕ) whe
   are_placed = are_placed_over gap_apart eq d.period any_cycle d a s height
 
 -- a schedule, by computing
+pub scheduled_via :
+    {IsAway : (gap t u : ℕ) → Type 0} {IsSame : (w x : ℕ) → Type 0}
+    {Allows : Schedule → (height : ℕ → ℕ) → (v t : ℕ) → Type 0} (away : (gap t u : ℕ) → Test (IsAway gap t u))
+    (same : (w x : ℕ) → Test (IsSame w x)) (end : ℕ)
+    (allows : (s : Schedule) (height : ℕ → ℕ) (v t : ℕ) → Test (Allows s height v t))
+    {Leads : (v : ℕ) → Datapath → (u : ℕ) → PortRef → (b : ℕ) → Type 0}
+    (leads : (v : ℕ) (d : Datapath) (u : ℕ) (port : PortRef) (b : ℕ) → Test (Leads v d u port b))
+    (are_there : (v : ℕ) (d : Datapath) (u : ℕ) (port : PortRef) (b : ℕ) → Leads v d u port b → b < length d.buses)
+    (d : Datapath) (a : Assigned) (s : Schedule) (height : ℕ → ℕ)
+    → (are_heights d a height).passes ≡ true
+    → length s.slots ≡ length a.lowered.nodes
+    → (are_placed_via away same end allows leads are_there d a s height).passes ≡ true
+    → IsListScheduleVia IsAway IsSame end Allows d a Leads s
+scheduled_via away same end allows leads are_there d a s height e count f = record {
+  height = height;
+  heights = passed (are_heights d a height) e;
+  count = count;
+  placed = passed (are_placed_via away same end allows leads are_there d a s height) f;
+}
+
 pub scheduled_over :
     {IsAway : (gap t u : ℕ) → Type 0} {IsSame : (w x : ℕ) → Type 0}
     {Allows : Schedule → (height : ℕ → ℕ) → (v t : ℕ) → Type 0} (away : (gap t u : ℕ) → Test (IsAway gap t u))
@@ -265,12 +321,8 @@ pub scheduled_over :
     → length s.slots ≡ length a.lowered.nodes
     → (are_placed_over away same end allows d a s height).passes ≡ true
     → IsListScheduleOver IsAway IsSame end Allows d a s
-scheduled_over away same end allows d a s height e count f = record {
-  height = height;
-  heights = passed (are_heights d a height) e;
-  count = count;
-  placed = passed (are_placed_over away same end allows d a s height) f;
-}
+scheduled_over away same end allows d a s height e count f =
+    scheduled_via away same end allows any_route route_there d a s height e count f
 
 pub scheduled : (d : Datapath) (a : Assigned) (s : Schedule) (height : ℕ → ℕ)
     → (are_heights d a height).passes ≡ true

@@ -4,11 +4,11 @@ use Rattle.std.specs.Prelude.{◌≡◌, ℕ, ◌+◌, ◌<◌, ◌≤◌, ◌�
 use Rattle.std.specs.List.{AllPairs}
 use Rattle.operations.specs.declared.units.PortRef.{PortRef}
 use Rattle.datapath.specs.declared.types.Datapath.{Datapath}
-use Rattle.plan_core.specs.Hardware.{port_of}
+use Rattle.plan_core.specs.Hardware.{port_of, IsRoute}
 use Rattle.plan_core.specs.Operands.{Reads}
 use Rattle.plan_core.specs.Assigned.{unit_in}
 use Rattle.plan_core.specs.Heights.{ReadsNow, latency_of, AreHeights, IsPlacedBefore}
-use Rattle.plan_core.specs.Reservations.{result_on, FitsOver, IsFirstBusOver, IsGapApart, IsOneCycle}
+use Rattle.plan_core.specs.Reservations.{result_on, FitsVia, IsFirstBusVia, IsGapApart, IsOneCycle}
 use Rattle.plan_core.specs.declared.schedule.Assigned.{Assigned}
 use Rattle.plan_core.specs.declared.schedule.Transfer.{Transfer}
 use Rattle.plan_core.specs.declared.schedule.Slot.{Slot}
@@ -63,33 +63,50 @@ abbrev pub AreOperandsThere : Datapath → Assigned → Schedule → (v t : ℕ)
 AreOperandsThere d a s v t =
     (q x : ℕ) → ReadsNow a.lowered.nodes v q x → cycle_of s x + latency_of d a x ≤ t
 
+-- the result of node v, on unit u, may take any route to a port
+abbrev pub AnyBus : (v : ℕ) → Datapath → (u : ℕ) → PortRef → (b : ℕ) → Type 0
+AnyBus v = IsRoute
+
 -- The rules of the reservation table; the cycle before which operations end; and what else a node asks of its cycle,
 -- where these are the places and the heights of the nodes.
 module _ (IsAway : (gap t u : ℕ) → Type 0) (IsSame : (w x : ℕ) → Type 0) (end : ℕ)
     (Allows : Schedule → (height : ℕ → ℕ) → (v t : ℕ) → Type 0) (d : Datapath) (a : Assigned) where
-  module _ (s : Schedule) (height : ℕ → ℕ) where
-    -- node v can be issued at cycle t
-    pub record CanIssueOver (v t : ℕ) : Type 0 where
-      pub operands : AreOperandsThere d a s v t
-      pub fits :
-          FitsOver IsAway IsSame d (IsTakenBefore a s height v) end (IsDestination a v) (unit_in a.units v) t
-      pub allows : Allows s height v t
+  -- Where these are the buses that the result of a node, on its unit, may take to a port.
+  module _ (Leads : (v : ℕ) → Datapath → (u : ℕ) → PortRef → (b : ℕ) → Type 0) where
+    module _ (s : Schedule) (height : ℕ → ℕ) where
+      -- node v can be issued at cycle t
+      pub record CanIssueVia (v t : ℕ) : Type 0 where
+        pub operands : AreOperandsThere d a s v t
+        pub fits :
+            FitsVia IsAway IsSame d (IsTakenBefore a s height v) (Leads v) end (IsDestination a v) (unit_in a.units v) t
+        pub allows : Allows s height v t
 
-    -- node v is issued at the least cycle, and its result is transferred to each port that reads it
-    pub record IsPlacedOver (v : ℕ) : Type 0 where
-      pub can : CanIssueOver v (cycle_of s v)
-      pub least : (t : ℕ) → t < cycle_of s v → CanIssueOver v t → ⊥
-      pub destinations : AreDestinations a v (map (λ (transfer : Transfer). transfer.port) (slot_of s v).transfers)
-      pub buses :
-          All (IsFirstBusOver IsAway IsSame d (IsTakenBefore a s height v) (unit_in a.units v) (ends d a s v))
-          (slot_of s v).transfers
+      -- node v is issued at the least cycle, and its result is transferred to each port that reads it
+      pub record IsPlacedVia (v : ℕ) : Type 0 where
+        pub can : CanIssueVia v (cycle_of s v)
+        pub least : (t : ℕ) → t < cycle_of s v → CanIssueVia v t → ⊥
+        pub destinations : AreDestinations a v (map (λ (transfer : Transfer). transfer.port) (slot_of s v).transfers)
+        pub buses :
+            All
+            (IsFirstBusVia IsAway IsSame d (IsTakenBefore a s height v) (Leads v) (unit_in a.units v) (ends d a s v))
+            (slot_of s v).transfers
 
-  -- each node has its place
-  pub record IsListScheduleOver (s : Schedule) : Type 0 where
-    pub height : ℕ → ℕ
-    pub heights : AreHeights d a height
-    pub count : length s.slots ≡ length a.lowered.nodes
-    pub placed : (v : ℕ) → v < length a.lowered.nodes → IsPlacedOver s height v
+    -- each node has its place
+    pub record IsListScheduleVia (s : Schedule) : Type 0 where
+      pub height : ℕ → ℕ
+      pub heights : AreHeights d a height
+      pub count : length s.slots ≡ length a.lowered.nodes
+      pub placed : (v : ℕ) → v < length a.lowered.nodes → IsPlacedVia s height v
+
+  -- the same where results may take any route
+  abbrev pub CanIssueOver : Schedule → (height : ℕ → ℕ) → (v t : ℕ) → Type 0
+  CanIssueOver s height v t = CanIssueVia AnyBus s height v t
+
+  abbrev pub IsPlacedOver : Schedule → (height : ℕ → ℕ) → (v : ℕ) → Type 0
+  IsPlacedOver s height v = IsPlacedVia AnyBus s height v
+
+  abbrev pub IsListScheduleOver : Schedule → Type 0
+  IsListScheduleOver s = IsListScheduleVia AnyBus s
 
 -- nothing else is asked of a cycle
 abbrev pub AnyCycle : Schedule → (height : ℕ → ℕ) → (v t : ℕ) → Type 0

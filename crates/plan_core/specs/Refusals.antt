@@ -11,7 +11,7 @@ use Rattle.plan_core.specs.Operands.{node_of, Reads}
 use Rattle.plan_core.specs.Lowered.{AreLongDelays, AreLines, HasRoom, stored}
 use Rattle.plan_core.specs.Assigned.{unit_in, IsRightUnit, IsCandidate, AreUnits}
 use Rattle.plan_core.specs.Heights.{AreHeights}
-use Rattle.plan_core.specs.ListSchedule.{IsEarlier, CanIssueOver, IsPlacedOver, AnyCycle}
+use Rattle.plan_core.specs.ListSchedule.{IsEarlier, CanIssueVia, IsPlacedVia, AnyBus, AnyCycle}
 use Rattle.plan_core.specs.Reservations.{IsGapApart, IsOneCycle}
 use Rattle.plan_core.specs.Arcs.{arc_of}
 use Rattle.plan_core.specs.FirstFit.{register_of, IsListedBefore, IsFree, IsFirstFree}
@@ -125,13 +125,19 @@ module _ (d : Datapath) (l : Lowered) where
 -- the nodes that are placed before node v have their places, and no cycle is left for it
 module _ (IsAway : (gap t u : ℕ) → Type 0) (IsSame : (w x : ℕ) → Type 0) (end : ℕ)
     (Allows : Schedule → (height : ℕ → ℕ) → (v t : ℕ) → Type 0) (d : Datapath) (a : Assigned) where
-  pub record IsWithoutCycleOver (v : ℕ) : Type 0 where
-    pub height : ℕ → ℕ
-    pub heights : AreHeights d a height
-    pub there : v < length a.lowered.nodes
-    pub schedule : Schedule
-    pub before : (u : ℕ) → IsEarlier a height v u → IsPlacedOver IsAway IsSame end Allows d a schedule height u
-    pub none : (t : ℕ) → CanIssueOver IsAway IsSame end Allows d a schedule height v t → ⊥
+  module _ (Leads : (v : ℕ) → Datapath → (u : ℕ) → PortRef → (b : ℕ) → Type 0) where
+    pub record IsWithoutCycleVia (v : ℕ) : Type 0 where
+      pub height : ℕ → ℕ
+      pub heights : AreHeights d a height
+      pub there : v < length a.lowered.nodes
+      pub schedule : Schedule
+      pub before : (u : ℕ)
+          → IsEarlier a height v u
+          → IsPlacedVia IsAway IsSame end Allows d a Leads schedule height u
+      pub none : (t : ℕ) → CanIssueVia IsAway IsSame end Allows d a Leads schedule height v t → ⊥
+
+  abbrev pub IsWithoutCycleOver : (v : ℕ) → Type 0
+  IsWithoutCycleOver v = IsWithoutCycleVia AnyBus v
 
 -- the same where one sample is in flight at a time: no cycle of the period is left
 abbrev pub IsWithoutCycle : Datapath → Assigned → (v : ℕ) → Type 0

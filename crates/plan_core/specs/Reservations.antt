@@ -32,23 +32,35 @@ module _ (IsAway : (gap t u : ℕ) → Type 0) (IsSame : (w x : ℕ) → Type 0)
         (u : ℕ) (slot : Slot) → IsTaken u slot → IsSame (result_on d u slot.cycle) w
         → All (λ (transfer : Transfer). transfer.bus ≢ b) slot.transfers
 
-    -- bus b can take a result of unit u to the port in cycle w: it is a route, and it is free
-    pub record IsFreeRouteOver (u w : ℕ) (port : PortRef) (b : ℕ) : Type 0 where
-      pub route : IsRoute d u port b
-      pub free : IsBusFreeOver w b
+    -- Where these are the buses that a result of a unit may take to a port.
+    module _ (Leads : Datapath → (u : ℕ) → PortRef → (b : ℕ) → Type 0) where
+      -- bus b can take a result of unit u to the port in cycle w: it may, and it is free
+      pub record IsFreeRouteVia (u w : ℕ) (port : PortRef) (b : ℕ) : Type 0 where
+        pub route : Leads d u port b
+        pub free : IsBusFreeOver w b
 
-    -- An operation fits on unit u at cycle t: it ends before this cycle, the unit is free, and in the cycle of its
-    -- result each destination has a register file that is not written and a bus to it.
-    pub record FitsOver (end : ℕ) (IsTo : PortRef → Type 0) (u t : ℕ) : Type 0 where
-      pub period : t + latency_on d u ≤ end
-      pub unit : IsUnitFreeOver u t
-      pub files : (port : PortRef) → IsTo port → IsFileFreeOver (result_on d u t) port
-      pub buses : (port : PortRef) → IsTo port → (b : ℕ) × IsFreeRouteOver u (result_on d u t) port b
+      -- An operation fits on unit u at cycle t: it ends before this cycle, the unit is free, and in the cycle of its
+      -- result each destination has a register file that is not written and a bus to it.
+      pub record FitsVia (end : ℕ) (IsTo : PortRef → Type 0) (u t : ℕ) : Type 0 where
+        pub period : t + latency_on d u ≤ end
+        pub unit : IsUnitFreeOver u t
+        pub files : (port : PortRef) → IsTo port → IsFileFreeOver (result_on d u t) port
+        pub buses : (port : PortRef) → IsTo port → (b : ℕ) × IsFreeRouteVia u (result_on d u t) port b
 
-    -- the transfer of a result of unit u in cycle w goes over the first bus that can take it
-    pub record IsFirstBusOver (u w : ℕ) (transfer : Transfer) : Type 0 where
-      pub route : IsFreeRouteOver u w transfer.port transfer.bus
-      pub first : (b : ℕ) → b < transfer.bus → IsFreeRouteOver u w transfer.port b → ⊥
+      -- the transfer of a result of unit u in cycle w goes over the first bus that can take it
+      pub record IsFirstBusVia (u w : ℕ) (transfer : Transfer) : Type 0 where
+        pub route : IsFreeRouteVia u w transfer.port transfer.bus
+        pub first : (b : ℕ) → b < transfer.bus → IsFreeRouteVia u w transfer.port b → ⊥
+
+    -- the same where it may take each route
+    abbrev pub IsFreeRouteOver : (u w : ℕ) → PortRef → (b : ℕ) → Type 0
+    IsFreeRouteOver u w port b = IsFreeRouteVia IsRoute u w port b
+
+    abbrev pub FitsOver : (end : ℕ) → (PortRef → Type 0) → (u t : ℕ) → Type 0
+    FitsOver end IsTo u t = FitsVia IsRoute end IsTo u t
+
+    abbrev pub IsFirstBusOver : (u w : ℕ) → Transfer → Type 0
+    IsFirstBusOver u w transfer = IsFirstBusVia IsRoute u w transfer
 
 -- the rules where one sample is in flight at a time
 abbrev pub IsGapApart : (gap t u : ℕ) → Type 0
