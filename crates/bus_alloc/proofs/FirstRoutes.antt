@@ -47,13 +47,9 @@ module _ (rows : Rows) (u : ℕ) (port : PortRef) (cycle : ℕ) where
       first = λ c less route. takes.first c less (so_far.tried c route);
     }
 
-  pub some_left : (left : Set32)
-      → AreTriedSoFar rows u port cycle left
-      → ((b : ℕ) → ¬ Has left.bits b)
-      → IsPortOpen rows u port (cycle / 64) (cycle % 64)
+  pub some_free : IsPortOpen rows u port (cycle / 64) (cycle % 64)
+      → ((b : ℕ) → IsRouteFree rows u port cycle b → ⊥)
       → ⊥
-  some_left left so_far none is_open =
+  some_free is_open none =
       let bus = is_open.bus in
-      none bus.b
-      (so_far.tried bus.b
-      (record { number = bus.number; drive = bus.drive; source = bus.source; free = bus.open_bit }))
+      none bus.b (record { number = bus.number; drive = bus.drive; source = bus.source; free = bus.open_bit })

@@ -27,11 +27,17 @@ module _ {IsAway : (gap t u : ℕ) → Type 0} {IsSame : (w x : ℕ) → Type 0}
   pub latency_some : (u : ℕ) → u < length rows.units → 1 ≤ latency_on d u
   latency_some u within = let h : u < length d.units = omega (arith, s.units) in (s.path.units u no_unit h).latency.0
 
+  pub port_in : (port : PortRef) → HasPort d port → IsPortIn rows port
+  port_in port has = (omega (arith, s.units, has.0), has.1)
+
   file_at : (port : PortRef)
       → IsPortIn rows port
       → IsFileRowOver IsAway IsSame place IsKept d placed port (file_row rows port)
   file_at port is_in = let h : port.unit < length d.units = omega (arith, s.units, is_in.0) in s.file port.unit
       port.port h is_in.1
+
+  pub few_buses : (b : ℕ) → b < length d.buses → b < 32
+  few_buses b less = omega (arith, less, s.path.bus_count.1)
 
   pub ports_in : (dests : List PortRef) → All (HasPort d) dests → All (IsPortIn rows) dests
   ports_in dests ports k x less = let port = ports k x less in (omega (arith, s.units, port.0), port.1)
@@ -51,9 +57,6 @@ module _ {IsAway : (gap t u : ℕ) → Type 0} {IsSame : (w x : ℕ) → Type 0}
         let leads = ((file_at port is_in).sources b).0 source in
         record { there = can.there; driver = can.driver; taker = leads.taker }
 
-    few_buses : (b : ℕ) → b < length d.buses → b < 32
-    few_buses b less = omega (arith, s.path.bus_count.1)
-
     free_route : (port : PortRef) (w b : ℕ)
         → IsPortIn rows port
         → IsKept w
@@ -67,7 +70,7 @@ module _ {IsAway : (gap t u : ℕ) → Type 0} {IsSame : (w x : ℕ) → Type 0}
       free = (s.bus b w number before).0 free;
     }
 
-    route_free : (port : PortRef) (w b : ℕ)
+    pub route_free : (port : PortRef) (w b : ℕ)
         → IsPortIn rows port
         → IsKept w
         → IsFreeRouteOver IsAway IsSame d (IsTaken placed) u w port b

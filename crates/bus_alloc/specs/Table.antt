@@ -4,7 +4,9 @@ use Rattle.std.specs.Prelude.{◌≡◌, ℕ, ◌+◌, ◌<◌, ◌≤◌, List,
 use Rattle.std.specs.List.{All}
 use Rattle.operations.specs.declared.units.PortRef.{PortRef}
 use Rattle.datapath.specs.declared.types.Datapath.{Datapath}
-use Rattle.plan_core.specs.Reservations.{result_on, FitsOver, IsFirstBusOver, IsGapApart, IsOneCycle}
+use Rattle.plan_core.specs.Hardware.{IsRoute}
+use Rattle.plan_core.specs.Reservations.{result_on, FitsVia, IsFirstBusVia, IsGapApart, IsOneCycle}
+use Rattle.plan_core.specs.Reservations.{IsFreeRoute, IsFirstBus}
 use Rattle.plan_core.specs.Stages.{IsGapAround, IsSameAround}
 use Rattle.plan_core.specs.declared.schedule.Transfer.{Transfer}
 use Rattle.plan_core.specs.declared.schedule.Slot.{Slot}
@@ -37,11 +39,20 @@ with_placed r u t transfers = record {
 abbrev pub HasPort : Datapath → PortRef → Type 0
 HasPort d port = (port.unit < length d.units) × (port.port < 3)
 
+-- the port of a transfer is one of the datapath, and its bus is there
+pub record IsTransferOf (d : Datapath) (transfer : Transfer) : Type 0 where
+  pub port : HasPort d transfer.port
+  pub bus : transfer.bus < length d.buses
+
 -- by the rules of a table, for operations that end before this cycle
 module _ (IsAway : (gap t u : ℕ) → Type 0) (IsSame : (w x : ℕ) → Type 0) (end : ℕ) (r : Reservations) where
-  -- an operation fits on unit u at cycle t, with its result going to these ports
+  -- an operation fits on unit u at cycle t, with its result going to these ports over buses that it may take
+  abbrev pub FitsAtVia : (Datapath → (u : ℕ) → PortRef → (b : ℕ) → Type 0) → (u t : ℕ) → List PortRef → Type 0
+  FitsAtVia Leads u t dests = FitsVia IsAway IsSame r.datapath (IsTaken r.placed) Leads end (Contains dests) u t
+
+  -- it may take any route
   abbrev pub FitsAtOver : (u t : ℕ) → List PortRef → Type 0
-  FitsAtOver u t dests = FitsOver IsAway IsSame r.datapath (IsTaken r.placed) end (Contains dests) u t
+  FitsAtOver u t dests = FitsAtVia IsRoute u t dests
 
   -- t is the first cycle from this one on at which it fits
   pub record IsFirstFitAtOver (u from : ℕ) (dests : List PortRef) (t : ℕ) : Type 0 where
@@ -55,10 +66,14 @@ module _ (IsAway : (gap t u : ℕ) → Type 0) (IsSame : (w x : ℕ) → Type 0)
 
 -- the transfers of the operation, one to each port, each over the first free bus
 module _ (IsAway : (gap t u : ℕ) → Type 0) (IsSame : (w x : ℕ) → Type 0) (r : Reservations) where
-  pub record AreTransfersOver (u t : ℕ) (dests : List PortRef) (transfers : List Transfer) : Type 0 where
-    pub ports : map (λ (transfer : Transfer). transfer.port) transfers ≡ dests
-    pub buses :
-        All (IsFirstBusOver IsAway IsSame r.datapath (IsTaken r.placed) u (result_on r.datapath u t)) transfers
+  module _ (Leads : Datapath → (u : ℕ) → PortRef → (b : ℕ) → Type 0) where
+    pub record AreTransfersVia (u t : ℕ) (dests : List PortRef) (transfers : List Transfer) : Type 0 where
+      pub ports : map (λ (transfer : Transfer). transfer.port) transfers ≡ dests
+      pub buses :
+          All (IsFirstBusVia IsAway IsSame r.datapath (IsTaken r.placed) Leads u (result_on r.datapath u t)) transfers
+
+  abbrev pub AreTransfersOver : (u t : ℕ) → List PortRef → List Transfer → Type 0
+  AreTransfersOver u t dests transfers = AreTransfersVia IsRoute u t dests transfers
 
 -- the same where one sample is in flight at a time: operations end in the period
 module _ (r : Reservations) where
@@ -73,6 +88,12 @@ module _ (r : Reservations) where
 
   abbrev pub AreTransfers : (u t : ℕ) → List PortRef → List Transfer → Type 0
   AreTransfers u t dests transfers = AreTransfersOver IsGapApart IsOneCycle r u t dests transfers
+
+  -- the first bus that can take a result of unit u to the port in cycle w, if there is one
+  abbrev pub IsFirstBusTo : (u w : ℕ) → PortRef → Option ℕ → Type 0
+  IsFirstBusTo u w port None = (b : ℕ) → IsFreeRoute r.datapath (IsTaken r.placed) u w port b → ⊥
+  IsFirstBusTo u w port (Some b) =
+      IsFirstBus r.datapath (IsTaken r.placed) u w (record { port = port; bus = b })
 
 -- the same around the period, where samples overlap: operations end before this cycle
 module _ (end : ℕ) (r : Reservations) where

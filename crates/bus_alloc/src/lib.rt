@@ -13,4 +13,5 @@ mod rows;
 mod table;
 
 pub use modulo::ModuloTable;
+pub use routes::is_route;
 pub use table::{Table, TableFault};

@@ -1,9 +1,10 @@
 //! Takes units, register files and buses in a reservation table.
 
-ghost use Rattle.std.specs.Prelude.{◌≡◌, ◌+◌, ◌<◌, ◌≤◌, ◌/◌, ◌%◌, length, map, IfOk};
+ghost use Rattle.std.specs.Prelude.{◌≡◌, ◌+◌, ◌<◌, ◌≤◌, ◌/◌, ◌%◌, ◌↔◌, ℕ, length, map, IsTrue, IfOk, MatchOption};
 ghost use Rattle.std.specs.List.{All};
-ghost use Rattle.bus_alloc.specs.Private.Rows.{AreRows, IsPortIn, IsPortOpen, IsOpen, unit_row};
-ghost use Rattle.bus_alloc.specs.Private.Taking.{IsFirstRoute, IsFirstTransfer, IsTransferIn, TakesUnit, TakesTransfer, TakesTransfers, TakesAll, TakesUnitAround, TakesAllAround};
+ghost use Rattle.bus_alloc.specs.Sets.{mark};
+ghost use Rattle.bus_alloc.specs.Private.Rows.{AreRows, IsPortIn, IsPortOpen, IsOpen, unit_row, file_row, bus_words};
+ghost use Rattle.bus_alloc.specs.Private.Taking.{IsRouteFree, IsFirstRoute, IsFirstTransfer, IsTransferIn, TakesUnit, TakesTransfer, TakesTransfers, TakesAll, TakesUnitAround, TakesAllAround};
 
 use crate::cycles::MOST_CYCLES;
 use crate::rows::{Rows, file_number};
@@ -12,7 +13,46 @@ use plan_core::{Transfer, Transfers};
 use std::alloc::{AllocError, Global};
 
 impl Rows {
-    /// The first free bus from the unit to the port in the cycle.
+    /// Whether the register file of the port is not written in the cycle.
+    pub fn is_file_free(&self, port: PortRef, cycle: u16) -> bool
+        requires rows { AreRows self.now }
+        requires port { IsPortIn self.now port }
+        requires cycle { cycle < 4096 }
+        ensures { IsTrue result ↔ (mark (file_row self.now port).written.words cycle ≡ 0) }
+    {
+        !self.files[file_number(port)].written.contains(cycle)
+    }
+
+    /// Whether the bus is free in the cycle.
+    pub fn is_bus_free(&self, bus: u8, cycle: u16) -> bool
+        requires rows { AreRows self.now }
+        requires bus { bus < 32 }
+        requires cycle { cycle < 4096 }
+        ensures { IsTrue result ↔ (mark (bus_words self.now bus) cycle ≡ 0) }
+    {
+        !self.buses[bus as usize].contains(cycle)
+    }
+
+    /// The first free bus from the unit to the port in the cycle, if there is one.
+    pub fn free_bus(&self, unit: u8, port: PortRef, cycle: u16) -> Option<u8>
+        requires rows { AreRows self.now }
+        requires unit { unit < length self.now.units }
+        requires port { IsPortIn self.now port }
+        requires cycle { cycle < 4096 }
+        ensures { MatchOption result ((b : ℕ) → IsRouteFree self.now unit port cycle b → ⊥)
+            (IsFirstRoute self.now unit port cycle) }
+    {
+        let file = &self.files[file_number(port)];
+        let mut left = self.units[unit as usize].drives.intersection(file.sources);
+        while let Some(bus) = left.pop_first() {
+            if !self.buses[bus as usize].contains(cycle) {
+                return Some(bus);
+            }
+        }
+        None
+    }
+
+    /// The same where there is one.
     fn first_bus(&self, unit: u8, port: PortRef, cycle: u16) -> u8
         requires rows { AreRows self.now }
         requires unit { unit < length self.now.units }
@@ -21,14 +61,10 @@ impl Rows {
         requires is_open { IsPortOpen self.now unit port (cycle / 64) (cycle % 64) }
         ensures { IsFirstRoute self.now unit port cycle result }
     {
-        let file = &self.files[file_number(port)];
-        let mut left = self.units[unit as usize].drives.intersection(file.sources);
-        while let Some(bus) = left.pop_first() {
-            if !self.buses[bus as usize].contains(cycle) {
-                return bus;
-            }
+        match self.free_bus(unit, port, cycle) {
+            Some(bus) => bus,
+            None => unreachable!(),
         }
-        unreachable!()
     }
 
     /// The transfers of a result of the unit in the cycle, each over the first free bus.

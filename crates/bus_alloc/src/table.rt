@@ -1,9 +1,12 @@
 //! The reservation table, which callers see as the operations that it has.
 
-ghost use Rattle.std.specs.Prelude.{◌≡◌, ◌<◌, ◌≤◌, ◌↔◌, length, IsTrue, IfOk, OnErr};
+ghost use Rattle.std.specs.Prelude.{◌≡◌, ◌+◌, ◌<◌, ◌≤◌, ◌↔◌, length, IsTrue, IfOk, OnErr};
 ghost use Rattle.std.specs.List.{All};
 ghost use Rattle.datapath.specs.Allowed.{IsDatapath};
+ghost use Rattle.plan_core.specs.Hardware.{latency_on};
+ghost use Rattle.plan_core.specs.Reservations.{IsFileFree, IsBusFree};
 ghost use Rattle.bus_alloc.specs.Table.{none_placed, with_placed, HasPort, FitsAt, IsFirstFit, AreTransfers};
+ghost use Rattle.bus_alloc.specs.Table.{IsTaken, IsTransferOf, IsFirstBusTo};
 
 use crate::fresh::fresh_rows;
 use crate::history::History;
@@ -99,6 +102,34 @@ impl Table {
         }
     }
 
+    /// Whether no result is written into the register file of the port in the cycle. Takes no memory.
+    pub fn is_file_free(&self, port: PortRef, cycle: u16) -> bool
+        requires port { HasPort self.now.datapath port }
+        requires cycle { cycle < self.now.datapath.period }
+        ensures { IsTrue result ↔ IsFileFree self.now.datapath (IsTaken self.now.placed) cycle port }
+    {
+        self.rows.is_file_free(port, cycle)
+    }
+
+    /// Whether no result is on the bus in the cycle. Takes no memory.
+    pub fn is_bus_free(&self, bus: u8, cycle: u16) -> bool
+        requires bus { bus < length self.now.datapath.buses }
+        requires cycle { cycle < self.now.datapath.period }
+        ensures { IsTrue result ↔ IsBusFree self.now.datapath (IsTaken self.now.placed) cycle bus }
+    {
+        self.rows.is_bus_free(bus, cycle)
+    }
+
+    /// The first bus that can take a result of the unit to the port in the cycle, if there is one. Takes no memory.
+    pub fn first_bus(&self, unit: u8, port: PortRef, cycle: u16) -> Option<u8>
+        requires unit { unit < length self.now.datapath.units }
+        requires port { HasPort self.now.datapath port }
+        requires cycle { cycle < self.now.datapath.period }
+        ensures { IsFirstBusTo self.now unit cycle port result }
+    {
+        self.rows.free_bus(unit, port, cycle)
+    }
+
     /// Takes the unit, the register files and the first free buses for an operation that fits, and gives its transfers
     /// to the ports.
     ///
@@ -123,5 +154,21 @@ impl Table {
             slot: Snapshot::of(&slot),
         };
         Ok(slot.transfers)
+    }
+    /// Takes the unit, the register files and the buses of an operation whose cycle and transfers are chosen. Takes no
+    /// memory.
+    pub fn place(&mut self, unit: u8, slot: &Slot)
+        requires unit { unit < length self.old.datapath.units }
+        requires transfers { All (IsTransferOf self.old.datapath) slot.now.transfers }
+        requires ends { slot.now.cycle + latency_on self.old.datapath unit ≤ self.old.datapath.period }
+        ensures { self.new ≡ with_placed self.old unit slot.now.cycle slot.now.transfers }
+    {
+        let end = slot.cycle + self.rows.latency(unit) - 1;
+        self.rows.reserve(unit, end, &slot.transfers);
+        self.history = History::Then {
+            earlier: Snapshot::of(&self.history),
+            unit,
+            slot: Snapshot::of(slot),
+        };
     }
 }

@@ -1,5 +1,5 @@
 use Rattle.bus_alloc.proofs.FirstRoutes.{AreTriedSoFar}
-use Rattle.bus_alloc.proofs.rows.Rows.first_bus.Given as goal
+use Rattle.bus_alloc.proofs.rows.Rows.free_bus.Given as goal
 
 abbrev pub invariant-loop-bus : goal.invariant-loop-bus
 invariant-loop-bus l = AreTriedSoFar l.fn.self l.unit l.fn.port l.cycle l.left
