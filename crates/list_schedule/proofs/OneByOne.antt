@@ -5,7 +5,7 @@ use Rattle.datapath.specs.declared.types.Datapath.{Datapath}
 use Rattle.plan_core.specs.Assigned.{unit_in}
 use Rattle.plan_core.specs.Heights.{AreHeights}
 use Rattle.plan_core.specs.Reservations.{IsGapApart, IsOneCycle}
-use Rattle.plan_core.specs.ListSchedule.{AnyCycle, IsListSchedule}
+use Rattle.plan_core.specs.ListSchedule.{AnyBus, AnyCycle, IsListSchedule}
 use Rattle.plan_core.specs.declared.schedule.Assigned.{Assigned}
 use Rattle.plan_core.specs.declared.schedule.Slot.{Slot}
 use Rattle.plan_core.proofs.Agreeing.{any_alike}
@@ -39,8 +39,8 @@ module _ (d : Datapath) (a : Assigned) (is : IsProblem d a) where
       → IsFirstFit table (unit_in a.units v) from ports answer
       → IsFirstOpen d a slots table v ports answer
   first_found slots table v from ports answer path ready found =
-      over.first_found IsGapApart IsOneCycle d.period AnyCycle AnySlots d a is short (any_alike d a) any_is
-      (λ slots v t. tt {0}) slots table v from ports answer ready
+      over.first_found IsGapApart IsOneCycle d.period AnySlots d a (λ slots v t. tt {0}) slots table v from ports answer
+      ready
       (subst
       (λ (x : Datapath). IsFirstFitOver IsGapApart IsOneCycle x.period table (unit_in a.units v) from ports answer)
       path found)
@@ -49,7 +49,8 @@ module _ (d : Datapath) (a : Assigned) (is : IsProblem d a) where
       (within : k < length items) where
     pub goes_on : (new : Placing) → Places d a (nth items k) p new → ArePlaced d a order (k + 1) new
     goes_on new h =
-        over.goes_on IsGapApart IsOneCycle d.period AnyCycle AnySlots d a is short (any_alike d a) any_is order items
+        over.goes_on IsGapApart IsOneCycle d.period AnyCycle AnySlots d a AnyBus is short (any_alike d a) any_is order
+        items
         same k p.slots p.table b within new.slots new.table h
 
     pub stops : (fault : PeriodFault)
@@ -59,7 +60,8 @@ module _ (d : Datapath) (a : Assigned) (is : IsProblem d a) where
         ⊎_elim (λ (e : fault ≡ Memory). inl e)
         (λ (h : (fault ≡ Period (nth items k)) × HasNoCycle d a (nth items k) p).
         inr (subst (IsPeriodFault d a) (sym h.0)
-        (over.stops IsGapApart IsOneCycle d.period AnyCycle AnySlots d a is short (any_alike d a) any_is order items
+        (over.stops IsGapApart IsOneCycle d.period AnyCycle AnySlots d a AnyBus is short (any_alike d a) any_is order
+        items
         same k p.slots p.table b within h.1)))
         why
 
@@ -68,5 +70,6 @@ module _ (d : Datapath) (a : Assigned) (is : IsProblem d a) where
       → ArePlaced d a order k p
       → IsListSchedule d a (of_slots p.slots)
   all_placed order k p all b =
-      over.all_placed IsGapApart IsOneCycle d.period AnyCycle AnySlots d a is short (any_alike d a) any_is order k
+      over.all_placed IsGapApart IsOneCycle d.period AnyCycle AnySlots d a AnyBus is short (any_alike d a) any_is order
+      k
       p.slots p.table all b

@@ -1,11 +1,12 @@
 -- A graph has one schedule or one fault, and not both.
 use Rattle.std.proofs.Common.{◌≡◌, ◌⊎◌, ◌∙◌, ap, inl, inr, ⊎_elim, ℕ, Result, Ok, Err}
+use Rattle.operations.specs.declared.units.PortRef.{PortRef}
 use Rattle.datapath.specs.declared.types.Datapath.{Datapath}
 use Rattle.plan_core.specs.Heights.{AreHeights}
 use Rattle.plan_core.specs.Reservations.{IsGapApart, IsOneCycle}
-use Rattle.plan_core.specs.ListSchedule.{cycle_of, IsEarlier, IsPlacedOver, IsListScheduleOver, IsListSchedule}
-use Rattle.plan_core.specs.ListSchedule.{AnyCycle}
-use Rattle.plan_core.specs.Refusals.{IsWithoutCycleOver}
+use Rattle.plan_core.specs.ListSchedule.{cycle_of, IsEarlier, IsPlacedVia, IsListScheduleVia, IsListSchedule}
+use Rattle.plan_core.specs.ListSchedule.{AnyBus, AnyCycle}
+use Rattle.plan_core.specs.Refusals.{IsWithoutCycleVia}
 use Rattle.plan_core.specs.declared.schedule.Assigned.{Assigned}
 use Rattle.plan_core.specs.declared.schedule.Schedule.{Schedule}
 use Rattle.plan_core.proofs.OneHeight.{live_of}
@@ -20,13 +21,14 @@ use Rattle.schedule_priority.proofs.Problems.{operand_in}
 
 -- by any rules of the table, where what else is asked of a cycle depends on earlier nodes alone
 module _ (IsAway : (gap t u : ℕ) → Type 0) (IsSame : (w x : ℕ) → Type 0) (end : ℕ)
-    (Allows : Schedule → (height : ℕ → ℕ) → (v t : ℕ) → Type 0) (d : Datapath) (a : Assigned) (is : IsProblem d a)
+    (Allows : Schedule → (height : ℕ → ℕ) → (v t : ℕ) → Type 0) (d : Datapath) (a : Assigned)
+    (Leads : (v : ℕ) → Datapath → (u : ℕ) → PortRef → (b : ℕ) → Type 0) (is : IsProblem d a)
     (alike : AllowsAlike IsAway IsSame end Allows d a) where
   abbrev Placed : Schedule → (height : ℕ → ℕ) → (v : ℕ) → Type 0
-  Placed z h v = IsPlacedOver IsAway IsSame end Allows d a z h v
+  Placed z h v = IsPlacedVia IsAway IsSame end Allows d a Leads z h v
 
   abbrev Without : ℕ → Type 0
-  Without v = IsWithoutCycleOver IsAway IsSame end Allows d a v
+  Without v = IsWithoutCycleVia IsAway IsSame end Allows d a Leads v
 
   -- the node without a cycle has no place in another schedule in which the nodes before it have theirs
   refuted : (v : ℕ)
@@ -38,20 +40,22 @@ module _ (IsAway : (gap t u : ℕ) → Type 0) (IsSame : (w x : ℕ) → Type 0)
       → ⊥
   refuted v w z h hs before here =
       let agree = λ (u : ℕ) (r : IsEarlier a h v u).
-      one_slot_over IsAway IsSame end Allows d a (live_of d is.path) alike (operand_in d a is) z w.schedule h w.height
+      one_slot_over IsAway IsSame end Allows d a Leads (live_of d is.path) alike (operand_in d a is) z w.schedule h
+      w.height
       hs w.heights
       (IsEarlier a h v)
       (λ x y has e. earlier_trans a h v x y has e) (λ x there has. before x has)
       (λ x there has. w.before x (earlier_same d a (live_of d is.path) w.height h w.heights hs v x w.there has)) u
       r.node r in
       w.none (cycle_of z v)
-      (can_same_over IsAway IsSame end Allows d a (live_of d is.path) alike (operand_in d a is) z w.schedule h w.height
+      (can_same_over IsAway IsSame end Allows d a Leads (live_of d is.path) alike (operand_in d a is) z w.schedule h
+      w.height
       hs w.heights v w.there
       (λ u r. agree u (earlier_same d a (live_of d is.path) h w.height hs w.heights v u w.there r)) (cycle_of z v)
       here.can)
 
   pub scheduled_not : (s : Schedule)
-      → IsListScheduleOver IsAway IsSame end Allows d a s
+      → IsListScheduleVia IsAway IsSame end Allows d a Leads s
       → (v : ℕ)
       → Without v
       → ⊥
@@ -76,12 +80,12 @@ module _ (IsAway : (gap t u : ℕ) → Type 0) (IsSame : (w x : ℕ) → Type 0)
 module _ (d : Datapath) (a : Assigned) (is : IsProblem d a) where
   pub scheduled_or_not : (s : Schedule) → IsListSchedule d a s → (fault : PeriodFault) → IsPeriodFault d a fault → ⊥
   scheduled_or_not s x (Period v) w =
-      scheduled_not IsGapApart IsOneCycle d.period AnyCycle d a is (any_alike d a) s x v w
+      scheduled_not IsGapApart IsOneCycle d.period AnyCycle d a AnyBus is (any_alike d a) s x v w
   scheduled_or_not s x Memory w = w
 
   pub one_fault : (f g : PeriodFault) → IsPeriodFault d a f → IsPeriodFault d a g → f ≡ g
   one_fault (Period v) (Period u) x y =
-      ap Period (one_without IsGapApart IsOneCycle d.period AnyCycle d a is (any_alike d a) v u x y)
+      ap Period (one_without IsGapApart IsOneCycle d.period AnyCycle d a AnyBus is (any_alike d a) v u x y)
   one_fault (Period v) Memory x y = absurd y
   one_fault Memory g x y = absurd x
 

@@ -11,10 +11,10 @@ use Rattle.datapath.specs.declared.types.Datapath.{Datapath}
 use Rattle.plan_core.specs.Operands.{node_of, edge_of, delay_at}
 use Rattle.plan_core.specs.Assigned.{unit_in}
 use Rattle.plan_core.specs.Heights.{ReadsNow, latency_of, AreHeights, IsPlacedBefore}
-use Rattle.plan_core.specs.Reservations.{result_on, IsFreeRouteOver, FitsOver, IsFirstBusOver}
+use Rattle.plan_core.specs.Reservations.{result_on, IsFreeRouteVia, FitsVia, IsFirstBusVia}
 use Rattle.plan_core.specs.ListSchedule.{no_slot, slot_of, IsDestination, AreDestinations, IsEarlier, IsTakenBefore}
-use Rattle.plan_core.specs.ListSchedule.{CanIssueOver, IsPlacedOver, IsListScheduleOver}
-use Rattle.plan_core.specs.Refusals.{IsWithoutCycleOver}
+use Rattle.plan_core.specs.ListSchedule.{CanIssueVia, IsPlacedVia, IsListScheduleVia, AnyBus}
+use Rattle.plan_core.specs.Refusals.{IsWithoutCycleVia}
 use Rattle.plan_core.specs.declared.schedule.Assigned.{Assigned}
 use Rattle.plan_core.specs.declared.schedule.Transfer.{Transfer}
 use Rattle.plan_core.specs.declared.schedule.Slot.{Slot}
@@ -22,7 +22,7 @@ use Rattle.plan_core.specs.declared.schedule.Schedule.{Schedule}
 use Rattle.plan_core.proofs.OneHeight.{live_of}
 use Rattle.plan_core.proofs.Agreeing.{operand_earlier, AllowsAlike, placed_same_over, placed_in_over}
 use Rattle.plan_core.proofs.Readers.{reader_there}
-use Rattle.bus_alloc.specs.Table.{Placed, Reservations, IsTaken, HasPort, FitsAtOver, IsFirstFitOver, AreTransfersOver}
+use Rattle.bus_alloc.specs.Table.{Placed, Reservations, IsTaken, HasPort, FitsAtVia, IsFirstFitOver, AreTransfersVia}
 use Rattle.schedule_priority.specs.Problem.{IsProblem}
 use Rattle.schedule_priority.specs.Order.{nth}
 use Rattle.schedule_priority.proofs.Problems.{operand_in, edges_few, unit_there}
@@ -97,11 +97,30 @@ not_both h x y (inl l) (inr m) = let e = m.0 in absurd (omega arith)
 not_both h x y (inr l) (inl m) = let e = l.0 in absurd (omega arith)
 not_both h x y (inr l) (inr m) = let i = l.1 in let j = m.1 in absurd (omega arith)
 
+-- where nothing else is asked of a cycle, the first one from where the operands are there on at which node v fits
+module _ (IsAway : (gap t u : ℕ) → Type 0) (IsSame : (w x : ℕ) → Type 0) (end : ℕ)
+    (May : List Slot → (v t : ℕ) → Type 0) (d : Datapath) (a : Assigned) where
+  pub first_found : ((slots : List Slot) (v t : ℕ) → May slots v t)
+      → (slots : List Slot) (table : Reservations) (v from : ℕ) (ports : List PortRef) (answer : Option ℕ)
+      → IsFirstReady d a slots v from
+      → IsFirstFitOver IsAway IsSame end table (unit_in a.units v) from ports answer
+      → IsFirstOpenOver IsAway IsSame end May d a AnyBus slots table v ports answer
+  first_found any slots table v from ports None ready found = λ t h fits may. found t (ready.first t h) fits
+  first_found any slots table v from ports (Some t) ready found = record {
+    is_open = record {
+      ready = λ q x r. (let b = ready.ready q x r in let after = found.after in omega arith);
+      fits = found.fits;
+      may = any slots v t;
+    };
+    first = λ c less h fits may. found.first c (ready.first c h) less fits;
+  }
+
 -- By any rules of the table, where what else is asked of a cycle can be told of the slots of the nodes that have
 -- theirs.
 module _ (IsAway : (gap t u : ℕ) → Type 0) (IsSame : (w x : ℕ) → Type 0) (end : ℕ)
     (Allows : Schedule → (height : ℕ → ℕ) → (v t : ℕ) → Type 0) (May : List Slot → (v t : ℕ) → Type 0) (d : Datapath)
-    (a : Assigned) (is : IsProblem d a) (short : end ≤ last_cycle) (alike : AllowsAlike IsAway IsSame end Allows d a)
+    (a : Assigned) (Leads : (v : ℕ) → Datapath → (u : ℕ) → PortRef → (b : ℕ) → Type 0)
+    (is : IsProblem d a) (short : end ≤ last_cycle) (alike : AllowsAlike IsAway IsSame end Allows d a)
     (allows_is : (slots : List Slot) (height : ℕ → ℕ)
     → AreHeights d a height
     → (v : ℕ)
@@ -112,80 +131,66 @@ module _ (IsAway : (gap t u : ℕ) → Type 0) (IsSame : (w x : ℕ) → Type 0)
     abbrev Taking : Reservations → (unit : ℕ) → Slot → Type 0
     Taking table = IsTaken table.placed
 
-    abbrev Free : (IsTaken : (unit : ℕ) → Slot → Type 0) → (u w : ℕ) → PortRef → (b : ℕ) → Type 0
-    Free taken u w port b = IsFreeRouteOver IsAway IsSame d taken u w port b
+    abbrev Free : (v : ℕ) → (IsTaken : (unit : ℕ) → Slot → Type 0) → (u w : ℕ) → PortRef → (b : ℕ) → Type 0
+    Free v taken u w port b = IsFreeRouteVia IsAway IsSame d taken (Leads v) u w port b
 
-    abbrev First : (IsTaken : (unit : ℕ) → Slot → Type 0) → (u w : ℕ) → Transfer → Type 0
-    First taken u w transfer = IsFirstBusOver IsAway IsSame d taken u w transfer
+    abbrev First : (v : ℕ) → (IsTaken : (unit : ℕ) → Slot → Type 0) → (u w : ℕ) → Transfer → Type 0
+    First v taken u w transfer = IsFirstBusVia IsAway IsSame d taken (Leads v) u w transfer
 
-    abbrev Fitting : (IsTaken : (unit : ℕ) → Slot → Type 0) → (PortRef → Type 0) → (u t : ℕ) → Type 0
-    Fitting taken IsTo u t = FitsOver IsAway IsSame d taken end IsTo u t
+    abbrev Fitting : (v : ℕ) → (IsTaken : (unit : ℕ) → Slot → Type 0) → (PortRef → Type 0) → (u t : ℕ) → Type 0
+    Fitting v taken IsTo u t = FitsVia IsAway IsSame d taken (Leads v) end IsTo u t
 
-    abbrev FitsIn : Reservations → (u t : ℕ) → List PortRef → Type 0
-    FitsIn table u t ports = FitsAtOver IsAway IsSame end table u t ports
+    abbrev FitsIn : (v : ℕ) → Reservations → (u t : ℕ) → List PortRef → Type 0
+    FitsIn v table u t ports = FitsAtVia IsAway IsSame end table (Leads v) u t ports
 
     abbrev Can : Schedule → (height : ℕ → ℕ) → (v t : ℕ) → Type 0
-    Can s h v t = CanIssueOver IsAway IsSame end Allows d a s h v t
+    Can s h v t = CanIssueVia IsAway IsSame end Allows d a Leads s h v t
 
     abbrev IsPlacedIn : Schedule → (height : ℕ → ℕ) → (v : ℕ) → Type 0
-    IsPlacedIn s h v = IsPlacedOver IsAway IsSame end Allows d a s h v
+    IsPlacedIn s h v = IsPlacedVia IsAway IsSame end Allows d a Leads s h v
 
     abbrev Open : List Slot → Reservations → (v : ℕ) → List PortRef → (t : ℕ) → Type 0
-    Open slots table v ports t = IsOpenAtOver IsAway IsSame end May d a slots table v ports t
+    Open slots table v ports t = IsOpenAtOver IsAway IsSame end May d a Leads slots table v ports t
 
     abbrev Shut : List Slot → Reservations → (v : ℕ) → List PortRef → (t : ℕ) → Type 0
-    Shut slots table v ports t = IsShutAtOver IsAway IsSame end May d a slots table v ports t
+    Shut slots table v ports t = IsShutAtOver IsAway IsSame end May d a Leads slots table v ports t
 
     abbrev FirstOpen : List Slot → Reservations → (v : ℕ) → List PortRef → Option ℕ → Type 0
-    FirstOpen slots table v ports answer = IsFirstOpenOver IsAway IsSame end May d a slots table v ports answer
+    FirstOpen slots table v ports answer = IsFirstOpenOver IsAway IsSame end May d a Leads slots table v ports answer
 
     abbrev Places : (v : ℕ) → List Slot → Reservations → List Slot → Reservations → Type 0
-    Places v slots table new taken_in = PlacesOver IsAway IsSame end May d a v slots table new taken_in
+    Places v slots table new taken_in = PlacesOver IsAway IsSame end May d a Leads v slots table new taken_in
 
     abbrev HasNoCycle : (v : ℕ) → List Slot → Reservations → Type 0
-    HasNoCycle v slots table = HasNoCycleOver IsAway IsSame end May d a v slots table
+    HasNoCycle v slots table = HasNoCycleOver IsAway IsSame end May d a Leads v slots table
 
     abbrev ArePlaced : (order : List ℕ) (k : ℕ) → List Slot → Reservations → Type 0
-    ArePlaced order k slots table = ArePlacedOver IsAway IsSame end Allows d a order k slots table
-
-    -- where nothing else is asked of a cycle, the first one from where the operands are there on at which node v fits
-    pub first_found : ((slots : List Slot) (v t : ℕ) → May slots v t)
-        → (slots : List Slot) (table : Reservations) (v from : ℕ) (ports : List PortRef) (answer : Option ℕ)
-        → IsFirstReady d a slots v from
-        → IsFirstFitOver IsAway IsSame end table (unit_in a.units v) from ports answer
-        → FirstOpen slots table v ports answer
-    first_found any slots table v from ports None ready found = λ t h fits may. found t (ready.first t h) fits
-    first_found any slots table v from ports (Some t) ready found = record {
-      is_open = record {
-        ready = λ q x r. (let b = ready.ready q x r in let after = found.after in omega arith);
-        fits = found.fits;
-        may = any slots v t;
-      };
-      first = λ c less h fits may. found.first c (ready.first c h) less fits;
-    }
+    ArePlaced order k slots table = ArePlacedOver IsAway IsSame end Allows d a Leads order k slots table
 
     module _ (order : List ℕ) (k : ℕ) (slots : List Slot) (table : Reservations)
         (b : ArePlaced order k slots table) where
       -- what the table says, of this datapath
-      fits_here : (u t : ℕ) (ports : List PortRef)
-          → FitsIn table u t ports
-          → Fitting (IsTaken table.placed) (Contains ports) u t
-      fits_here u t ports =
-          subst (λ (x : Datapath). FitsOver IsAway IsSame x (IsTaken table.placed) end (Contains ports) u t) b.has.path
+      fits_here : (n u t : ℕ) (ports : List PortRef)
+          → FitsIn n table u t ports
+          → Fitting n (IsTaken table.placed) (Contains ports) u t
+      fits_here n u t ports =
+          subst (λ (x : Datapath). FitsVia IsAway IsSame x (IsTaken table.placed) (Leads n) end (Contains ports) u t)
+          b.has.path
 
-      fits_there : (u t : ℕ) (ports : List PortRef)
-          → Fitting (IsTaken table.placed) (Contains ports) u t
-          → FitsIn table u t ports
-      fits_there u t ports =
-          subst (λ (x : Datapath). FitsOver IsAway IsSame x (IsTaken table.placed) end (Contains ports) u t)
+      fits_there : (n u t : ℕ) (ports : List PortRef)
+          → Fitting n (IsTaken table.placed) (Contains ports) u t
+          → FitsIn n table u t ports
+      fits_there n u t ports =
+          subst (λ (x : Datapath). FitsVia IsAway IsSame x (IsTaken table.placed) (Leads n) end (Contains ports) u t)
           (sym b.has.path)
 
-      buses_here : (u t : ℕ) (ports : List PortRef) (transfers : List Transfer)
-          → AreTransfersOver IsAway IsSame table u t ports transfers
-          → All (First (IsTaken table.placed) u (result_on d u t)) transfers
-      buses_here u t ports transfers are =
+      buses_here : (n u t : ℕ) (ports : List PortRef) (transfers : List Transfer)
+          → AreTransfersVia IsAway IsSame table (Leads n) u t ports transfers
+          → All (First n (IsTaken table.placed) u (result_on d u t)) transfers
+      buses_here n u t ports transfers are =
           subst
-          (λ (x : Datapath). All (IsFirstBusOver IsAway IsSame x (IsTaken table.placed) u (result_on x u t)) transfers)
+          (λ (x : Datapath). All (IsFirstBusVia IsAway IsSame x (IsTaken table.placed) (Leads n) u (result_on x u t))
+          transfers)
           b.has.path
           are.buses
 
@@ -242,18 +247,18 @@ module _ (IsAway : (gap t u : ℕ) → Type 0) (IsSame : (w x : ℕ) → Type 0)
               }
 
           route_from : (u w : ℕ) (port : PortRef) (c : ℕ)
-              → Free (IsTaken table.placed) u w port c
-              → Free (IsTakenBefore a z b.height v) u w port c
+              → Free v (IsTaken table.placed) u w port c
+              → Free v (IsTakenBefore a z b.height v) u w port c
           route_from u w port c f = record { route = f.route; free = λ x slot t. f.free x slot (taken x slot t) }
 
           route_to : (u w : ℕ) (port : PortRef) (c : ℕ)
-              → Free (IsTakenBefore a z b.height v) u w port c
-              → Free (IsTaken table.placed) u w port c
+              → Free v (IsTakenBefore a z b.height v) u w port c
+              → Free v (IsTaken table.placed) u w port c
           route_to u w port c f = record { route = f.route; free = λ x slot t. f.free x slot (taken_back x slot t) }
 
           bus_from : (u w : ℕ) (x : Transfer)
-              → First (IsTaken table.placed) u w x
-              → First (IsTakenBefore a z b.height v) u w x
+              → First v (IsTaken table.placed) u w x
+              → First v (IsTakenBefore a z b.height v) u w x
           bus_from u w x f = record {
             route = route_from u w x.port x.bus f.route;
             first = λ c less r. f.first c less (route_to u w x.port c r);
@@ -269,10 +274,10 @@ module _ (IsAway : (gap t u : ℕ) → Type 0) (IsSame : (w x : ℕ) → Type 0)
             in_dest port h = subst (IsDestination a v) h.2 (dests.read h.0 port h.1)
 
             fits_from : (u t : ℕ)
-                → FitsIn table u t ports
-                → Fitting (IsTakenBefore a z b.height v) (IsDestination a v) u t
+                → FitsIn v table u t ports
+                → Fitting v (IsTakenBefore a z b.height v) (IsDestination a v) u t
             fits_from u t here =
-                let f = fits_here u t ports here in
+                let f = fits_here v u t ports here in
                 record {
                   period = f.period;
                   unit = λ slot x. f.unit slot (taken u slot x);
@@ -282,9 +287,9 @@ module _ (IsAway : (gap t u : ℕ) → Type 0) (IsSame : (w x : ℕ) → Type 0)
                 }
 
             pub fits_to : (u t : ℕ)
-                → Fitting (IsTakenBefore a z b.height v) (IsDestination a v) u t
-                → FitsIn table u t ports
-            fits_to u t f = fits_there u t ports (record {
+                → Fitting v (IsTakenBefore a z b.height v) (IsDestination a v) u t
+                → FitsIn v table u t ports
+            fits_to u t f = fits_there v u t ports (record {
               period = f.period;
               unit = λ slot x. f.unit slot (taken_back u slot x);
               files = λ port h w slot x. f.files port (in_dest port h) w slot (taken_back w slot x);
@@ -316,7 +321,7 @@ module _ (IsAway : (gap t u : ℕ) → Type 0) (IsSame : (w x : ℕ) → Type 0)
                 (alike z (of_slots slots) b.height b.height b.heights b.heights v next_there
                 (λ x e. sym (agree x e)) t c.allows))
 
-        pub stopped : HasNoCycle v slots table → IsWithoutCycleOver IsAway IsSame end Allows d a v
+        pub stopped : HasNoCycle v slots table → IsWithoutCycleVia IsAway IsSame end Allows d a Leads v
         stopped none = record {
           height = b.height;
           heights = b.heights;
@@ -357,15 +362,16 @@ module _ (IsAway : (gap t u : ℕ) → Type 0) (IsSame : (w x : ℕ) → Type 0)
 
           t_small : places.slot.cycle ≤ last_cycle
           t_small =
-              let f = (fits_here (unit_in a.units v) places.slot.cycle places.ports places.cycle.is_open.fits).period in
+              let f =
+              (fits_here v (unit_in a.units v) places.slot.cycle places.ports places.cycle.is_open.fits).period in
               omega (arith, f, short)
 
           here : IsPlacedIn z b.height v
           here =
               let agree = agrees k (omega arith) in
               let u = unit_in a.units v in
-              let buses = buses_here u places.slot.cycle places.ports places.slot.transfers places.transfers in
-              placed_in_over IsAway IsSame end Allows d a z b.height v places.slot (sym slot_here) (record {
+              let buses = buses_here v u places.slot.cycle places.ports places.slot.transfers places.transfers in
+              placed_in_over IsAway IsSame end Allows d a Leads z b.height v places.slot (sym slot_here) (record {
                 can = can_from z agree places.ports places.destinations places.slot.cycle places.cycle.is_open;
                 least = λ t less c. cannot z agree places.ports places.destinations t (places.cycle.first t less) c;
                 destinations = subst (AreDestinations a v) (sym places.transfers.ports) places.destinations;
@@ -376,7 +382,7 @@ module _ (IsAway : (gap t u : ℕ) → Type 0) (IsSame : (w x : ℕ) → Type 0)
           each_more j less =
               ⊎_elim
               (λ (early : j < k).
-              placed_same_over IsAway IsSame end Allows d a (live_of d is.path) alike (operand_in d a is)
+              placed_same_over IsAway IsSame end Allows d a Leads (live_of d is.path) alike (operand_in d a is)
               (of_slots slots) z b.height b.heights
               (nth order j)
               (b.placing.there j (omega arith)) (agrees j less) (slot_else (nth order j) (index_else j early))
@@ -468,16 +474,17 @@ module _ (IsAway : (gap t u : ℕ) → Type 0) (IsSame : (w x : ℕ) → Type 0)
           one_placed order k slots table b inside_order new taken_in
           (subst (λ (rs : List ℕ). Places (its rs) slots table new taken_in) same h)
 
-      pub stops : HasNoCycle (nth items k) slots table → IsWithoutCycleOver IsAway IsSame end Allows d a (nth items k)
+      pub stops : HasNoCycle (nth items k) slots table
+          → IsWithoutCycleVia IsAway IsSame end Allows d a Leads (nth items k)
       stops none =
-          subst (λ (rs : List ℕ). IsWithoutCycleOver IsAway IsSame end Allows d a (its rs)) (sym same)
+          subst (λ (rs : List ℕ). IsWithoutCycleVia IsAway IsSame end Allows d a Leads (its rs)) (sym same)
           (stopped order k slots table b inside_order
           (subst (λ (rs : List ℕ). HasNoCycle (its rs) slots table) same none))
 
     pub all_placed : (order : List ℕ) (k : ℕ) (slots : List Slot) (table : Reservations)
         → length order ≤ k
         → ArePlaced order k slots table
-        → IsListScheduleOver IsAway IsSame end Allows d a (of_slots slots)
+        → IsListScheduleVia IsAway IsSame end Allows d a Leads (of_slots slots)
     all_placed order k slots table all b = record {
       height = b.height;
       heights = b.heights;

@@ -4,11 +4,11 @@ use Rattle.operations.specs.declared.units.PortRef.{PortRef}
 use Rattle.datapath.specs.declared.types.Datapath.{Datapath}
 use Rattle.plan_core.specs.Assigned.{unit_in}
 use Rattle.plan_core.specs.Heights.{ReadsNow, latency_of, AreHeights}
-use Rattle.plan_core.specs.ListSchedule.{no_slot, AreDestinations, IsPlacedOver}
+use Rattle.plan_core.specs.ListSchedule.{no_slot, AreDestinations, IsPlacedVia}
 use Rattle.plan_core.specs.declared.schedule.Assigned.{Assigned}
 use Rattle.plan_core.specs.declared.schedule.Slot.{Slot}
 use Rattle.plan_core.specs.declared.schedule.Schedule.{Schedule}
-use Rattle.bus_alloc.specs.Table.{Reservations, IsTaken, with_placed, FitsAtOver, AreTransfersOver}
+use Rattle.bus_alloc.specs.Table.{Reservations, IsTaken, with_placed, FitsAtVia, AreTransfersVia}
 use Rattle.schedule_priority.specs.Order.{nth, IsPlacingOrder}
 
 abbrev pub slot_at : List Slot → ℕ → Slot
@@ -37,21 +37,25 @@ pub record HasTableOf (d : Datapath) (a : Assigned) (slots : List Slot) (table :
   pub early : (v : ℕ) → (slot_at slots v).cycle ≤ last_cycle
   pub path : table.datapath ≡ d
 
--- The rules of the table, the cycle before which operations end, and what else a node asks of its cycle, where these
--- are the slots of the nodes that have theirs.
+-- The rules of the table, the cycle before which operations end, what else a node asks of its cycle, where these are
+-- the slots of the nodes that have theirs, and the buses that its result may take.
 module _ (IsAway : (gap t u : ℕ) → Type 0) (IsSame : (w x : ℕ) → Type 0) (end : ℕ)
-    (May : List Slot → (v t : ℕ) → Type 0) (d : Datapath) (a : Assigned) where
+    (May : List Slot → (v t : ℕ) → Type 0) (d : Datapath) (a : Assigned)
+    (Leads : (v : ℕ) → Datapath → (u : ℕ) → PortRef → (b : ℕ) → Type 0) where
   module _ (slots : List Slot) (table : Reservations) (v : ℕ) (ports : List PortRef) where
     -- node v, with its result going to these ports, can be issued at cycle t
     pub record IsOpenAtOver (t : ℕ) : Type 0 where
       pub ready : IsReadyAt d a slots v t
-      pub fits : FitsAtOver IsAway IsSame end table (unit_in a.units v) t ports
+      pub fits : FitsAtVia IsAway IsSame end table (Leads v) (unit_in a.units v) t ports
       pub may : May slots v t
 
     -- it cannot be issued at cycle t
     abbrev pub IsShutAtOver : ℕ → Type 0
     IsShutAtOver t =
-        IsReadyAt d a slots v t → FitsAtOver IsAway IsSame end table (unit_in a.units v) t ports → May slots v t → ⊥
+        IsReadyAt d a slots v t
+        → FitsAtVia IsAway IsSame end table (Leads v) (unit_in a.units v) t ports
+        → May slots v t
+        → ⊥
 
     pub record IsFirstOpenAtOver (t : ℕ) : Type 0 where
       pub is_open : IsOpenAtOver t
@@ -69,7 +73,8 @@ module _ (IsAway : (gap t u : ℕ) → Type 0) (IsSame : (w x : ℕ) → Type 0)
     pub destinations : AreDestinations a v ports
     pub slot : Slot
     pub cycle : IsFirstOpenAtOver slots table v ports slot.cycle
-    pub transfers : AreTransfersOver IsAway IsSame table (unit_in a.units v) slot.cycle ports slot.transfers
+    pub transfers :
+        AreTransfersVia IsAway IsSame table (Leads v) (unit_in a.units v) slot.cycle ports slot.transfers
     pub taken : taken_in ≡ with_placed table (unit_in a.units v) slot.cycle slot.transfers
     pub slots_are : new ≡ slice_set slots v slot
 
@@ -81,7 +86,8 @@ module _ (IsAway : (gap t u : ℕ) → Type 0) (IsSame : (w x : ℕ) → Type 0)
 
 -- the first k nodes of the order have their places, and the table has them and no others
 module _ (IsAway : (gap t u : ℕ) → Type 0) (IsSame : (w x : ℕ) → Type 0) (end : ℕ)
-    (Allows : Schedule → (height : ℕ → ℕ) → (v t : ℕ) → Type 0) (d : Datapath) (a : Assigned) where
+    (Allows : Schedule → (height : ℕ → ℕ) → (v t : ℕ) → Type 0) (d : Datapath) (a : Assigned)
+    (Leads : (v : ℕ) → Datapath → (u : ℕ) → PortRef → (b : ℕ) → Type 0) where
   pub record ArePlacedOver (order : List ℕ) (k : ℕ) (slots : List Slot) (table : Reservations) : Type 0 where
     pub height : ℕ → ℕ
     pub heights : AreHeights d a height
@@ -95,4 +101,4 @@ module _ (IsAway : (gap t u : ℕ) → Type 0) (IsSame : (w x : ℕ) → Type 0)
         → IsTaken table.placed (unit_in a.units (nth order j)) (slot_at slots (nth order j))
     pub each : (j : ℕ)
         → j < k
-        → IsPlacedOver IsAway IsSame end Allows d a (of_slots slots) height (nth order j)
+        → IsPlacedVia IsAway IsSame end Allows d a Leads (of_slots slots) height (nth order j)

@@ -2,7 +2,7 @@
 use Rattle.std.specs.Prelude.{ℕ, List, Option}
 use Rattle.operations.specs.declared.units.PortRef.{PortRef}
 use Rattle.datapath.specs.declared.types.Datapath.{Datapath}
-use Rattle.plan_core.specs.ListSchedule.{AnyCycle}
+use Rattle.plan_core.specs.ListSchedule.{AnyBus, AnyCycle}
 use Rattle.plan_core.specs.Reservations.{IsGapApart, IsOneCycle}
 use Rattle.plan_core.specs.declared.schedule.Assigned.{Assigned}
 use Rattle.plan_core.specs.declared.schedule.Slot.{Slot}
@@ -20,14 +20,14 @@ module _ (d : Datapath) (a : Assigned) where
 
   abbrev pub IsFirstOpen : List Slot → Reservations → (v : ℕ) → List PortRef → Option ℕ → Type 0
   IsFirstOpen slots table v ports answer =
-      IsFirstOpenOver IsGapApart IsOneCycle d.period AnySlots d a slots table v ports answer
+      IsFirstOpenOver IsGapApart IsOneCycle d.period AnySlots d a AnyBus slots table v ports answer
 
   abbrev pub Places : (v : ℕ) → (old new : Placing) → Type 0
   Places v old new =
-      PlacesOver IsGapApart IsOneCycle d.period AnySlots d a v old.slots old.table new.slots new.table
+      PlacesOver IsGapApart IsOneCycle d.period AnySlots d a AnyBus v old.slots old.table new.slots new.table
 
   abbrev pub HasNoCycle : (v : ℕ) → Placing → Type 0
-  HasNoCycle v p = HasNoCycleOver IsGapApart IsOneCycle d.period AnySlots d a v p.slots p.table
+  HasNoCycle v p = HasNoCycleOver IsGapApart IsOneCycle d.period AnySlots d a AnyBus v p.slots p.table
 
   abbrev pub ArePlaced : (order : List ℕ) (k : ℕ) → Placing → Type 0
-  ArePlaced order k p = ArePlacedOver IsGapApart IsOneCycle d.period AnyCycle d a order k p.slots p.table
+  ArePlaced order k p = ArePlacedOver IsGapApart IsOneCycle d.period AnyCycle d a AnyBus order k p.slots p.table

@@ -1,7 +1,0 @@
-use Rattle.list_schedule.proofs.Placings.{ports_known}
-use Rattle.placed_plan.proofs.placing.issue.Goals as goal
-
-pub take-requires-clause-ports : goal.take-requires-clause-ports
-take-requires-clause-ports c =
-    ports_known c.args.problem.now.datapath.now c.args.problem.now.assigned.now c.requires.problem c.args.v
-    c.requires.node c.args.ports.now c.requires.ports c.args.placing.now.slots c.args.placing.now.table c.requires.table
