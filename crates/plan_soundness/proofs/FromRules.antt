@@ -8,12 +8,12 @@ use Rattle.std.proofs.Math.Nat.{mul-le-mul_right}
 use Rattle.operations.specs.declared.units.PortRef.{PortRef}
 use Rattle.datapath.specs.declared.types.Datapath.{Datapath}
 use Rattle.datapath.specs.Allowed.{IsUnit}
-use Rattle.plan_core.specs.Hardware.{latency_on, gap_on, unit_of, no_unit, port_of}
+use Rattle.plan_core.specs.Hardware.{latency_on, gap_on, unit_of, no_unit, port_of, IsRoute}
 use Rattle.plan_core.specs.Operands.{Reads}
 use Rattle.plan_core.specs.Heights.{IsPlacedBefore}
-use Rattle.plan_core.specs.Reservations.{IsFirstBus, IsGapApart, IsOneCycle}
-use Rattle.plan_core.specs.ListSchedule.{slot_of, IsListScheduleOver, IsDestination, IsPortBefore, IsTakenBefore}
-use Rattle.plan_core.specs.ListSchedule.{IsPlacedOver}
+use Rattle.plan_core.specs.Reservations.{IsFirstBusVia, IsGapApart, IsOneCycle}
+use Rattle.plan_core.specs.ListSchedule.{slot_of, IsListScheduleVia, IsDestination, IsPortBefore, IsTakenBefore}
+use Rattle.plan_core.specs.ListSchedule.{IsPlacedVia}
 use Rattle.plan_core.specs.Arcs.{IsArcs, IsArc, IsArcBefore, IsCount, IsUnroll, ReadsArc, read_cycle}
 use Rattle.plan_core.specs.Circle.{AreApart}
 use Rattle.plan_core.specs.FirstFit.{IsFirstFit, IsCopyBefore}
@@ -147,14 +147,15 @@ count_of_unroll d p arcs unrolled =
     subst IsCount is.2 arc.count)
     unrolled.reached
 
-module _ {Allows : Schedule → (height : ℕ → ℕ) → (v t : ℕ) → Type 0} (d : Datapath) (p : Plan)
+module _ {Allows : Schedule → (height : ℕ → ℕ) → (v t : ℕ) → Type 0}
+    {Leads : (v : ℕ) → Datapath → (u : ℕ) → PortRef → (b : ℕ) → Type 0} (d : Datapath) (p : Plan)
     (lowered : IsSoundLowered d p) (gaps : (u : ℕ) → (0 < gap_on d u) × (gap_on d u ≤ latency_on d u))
     (assigned : AreOnRightUnits d p.assigned)
-    (schedule : IsListScheduleOver IsGapApart IsOneCycle d.period Allows d p.assigned p.schedule)
+    (schedule : IsListScheduleVia IsGapApart IsOneCycle d.period Allows d p.assigned Leads p.schedule)
     (arcs : IsArcs d p.assigned p.schedule p.arcs) (unrolled : IsUnroll p.arcs p.unroll) where
   placed : (v : ℕ)
       → v < length (nodes_of p)
-      → IsPlacedOver IsGapApart IsOneCycle d.period Allows d p.assigned p.schedule schedule.height v
+      → IsPlacedVia IsGapApart IsOneCycle d.period Allows d p.assigned Leads p.schedule schedule.height v
   placed v in-v = schedule.placed v in-v
 
   taken : (u v : ℕ)
@@ -202,6 +203,11 @@ module _ {Allows : Schedule → (height : ℕ → ℕ) → (v t : ℕ) → Type 
       other)
       (placed_order schedule.height u v)
 
+  abbrev First : (v : ℕ) → Transfer → Type 0
+  First v t =
+      IsFirstBusVia IsGapApart IsOneCycle d (IsTakenBefore p.assigned p.schedule schedule.height v) (Leads v)
+      (unit_at p v) (ends_at d p v) t
+
   bus_clash : (u v : ℕ) (s t : Transfer)
       → u < length (nodes_of p)
       → v < length (nodes_of p)
@@ -212,9 +218,8 @@ module _ {Allows : Schedule → (height : ℕ → ℕ) → (v t : ℕ) → Type 
       → s.bus ≡ t.bus
       → ⊥
   bus_clash u v s t in-u in-v before in-s in-t ends bus =
-      let first : IsFirstBus d (IsTakenBefore p.assigned p.schedule schedule.height v) (unit_at p v) (ends_at d p v) t =
-      all_at (IsFirstBus d (IsTakenBefore p.assigned p.schedule schedule.height v) (unit_at p v) (ends_at d p v))
-      (transfers_at p v) t (placed v in-v).buses in-t in
+      let first : First v t =
+      all_at (First v) (transfers_at p v) t (placed v in-v).buses in-t in
       all_at (λ (transfer : Transfer). transfer.bus ≢ t.bus) (transfers_at p u) s
       (first.route.free (unit_at p u) (slot_of p.schedule u) (taken u v in-u before) ends) in-s bus
 
@@ -484,22 +489,26 @@ module _ {Allows : Schedule → (height : ℕ → ℕ) → (v t : ℕ) → Type 
       other)
       (copy_order (arc_at p j).w (arc_at p k).w (arc_at p j).node (arc_at p k).node a b)
 
-  pub routed : IsRouted d p
-  routed v t in-v in-t =
-      let first : IsFirstBus d (IsTakenBefore p.assigned p.schedule schedule.height v) (unit_at p v) (ends_at d p v) t =
-      all_at (IsFirstBus d (IsTakenBefore p.assigned p.schedule schedule.height v) (unit_at p v) (ends_at d p v))
-      (transfers_at p v) t (placed v in-v).buses in-t in
-      first.route.route
+  -- what may be taken is a route
+  abbrev AreRoutes : Type 0
+  AreRoutes = (v u : ℕ) (port : PortRef) (b : ℕ) → Leads v d u port b → IsRoute d u port b
 
-  buses : (v : ℕ) (t : Transfer)
+  pub routed : AreRoutes → IsRouted d p
+  routed routes v t in-v in-t =
+      let first : First v t =
+      all_at (First v) (transfers_at p v) t (placed v in-v).buses in-t in
+      routes v (unit_at p v) t.port t.bus first.route.route
+
+  buses : AreRoutes
+      → (v : ℕ) (t : Transfer)
       → v < length (nodes_of p)
       → Contains (transfers_at p v) t
       → t.bus < length d.buses
-  buses v t in-v in-t = (routed v t in-v in-t).there
+  buses routes v t in-v in-t = (routed routes v t in-v in-t).there
 
   -- the rules give a feasible plan
-  pub feasible : 0 < d.period → AreSoundLines one_by_one d p → AreRegistersApart d p → IsFeasible d p
-  feasible period lines registers = record {
+  pub feasible : AreRoutes → 0 < d.period → AreSoundLines one_by_one d p → AreRegistersApart d p → IsFeasible d p
+  feasible routes period lines registers = record {
     period = period;
     stages = omega arith;
     first = omega arith;
@@ -510,7 +519,7 @@ module _ {Allows : Schedule → (height : ℕ → ℕ) → (v t : ℕ) → Type 
     edges = λ v q in-v in-q. let edge = lowered.edges v q in-v in-q in (edge.0, omega (arith, edge.1));
     outputs = lowered.outputs;
     units = units;
-    buses = buses;
+    buses = buses routes;
     fits = λ v in-v. omega (arith, ends_in_period v in-v);
     inputs = λ v in-v _. omega (arith, fits v in-v, gaps (unit_at p v));
     outputs_last = λ v in-v _. omega arith;

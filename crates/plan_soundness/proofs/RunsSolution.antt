@@ -77,7 +77,8 @@ module _ {Allows : Schedule → (height : ℕ → ℕ) → (v t : ℕ) → Type 
     lowered = plan.lowered;
     assigned = plan.assigned;
     feasible = feasible d p rules (gaps_of d machine.units) plan.assigned plan.schedule plan.arcs plan.unroll
-        (omega (arith, machine.period.0)) (sound_lines g d p sound plan.lowered plan.assigned one_by_one (omega arith))
+        (λ v u port b route. route) (omega (arith, machine.period.0))
+        (sound_lines g d p sound plan.lowered plan.assigned one_by_one (omega arith))
         (first_fit_apart d p rules (gaps_of d machine.units) plan.assigned plan.schedule plan.arcs plan.unroll
         plan.registers);
     unroll = count_of_unroll d p plan.arcs plan.unroll;
@@ -87,7 +88,9 @@ module _ {Allows : Schedule → (height : ℕ → ℕ) → (v t : ℕ) → Type 
   }
 
   pub placed_routed : IsRouted d p
-  placed_routed = routed d p rules (gaps_of d machine.units) plan.assigned plan.schedule plan.arcs plan.unroll
+  placed_routed =
+      routed d p rules (gaps_of d machine.units) plan.assigned plan.schedule plan.arcs plan.unroll
+      (λ v u port b route. route)
 
 -- a plan by the rules is such a plan
 pub placed_plan : {g : Graph} {d : Datapath} {p : Plan} → IsPlan g d p → IsPlacedPlan AnyCycle g d p
