@@ -14,6 +14,7 @@ use Rattle.plan_core.specs.Lowered.{IsLoweredOver}
 use Rattle.plan_core.specs.Assigned.{IsAssigned}
 use Rattle.plan_core.specs.Arcs.{IsUnroll}
 use Rattle.plan_core.specs.FirstFit.{IsFirstFit}
+use Rattle.plan_core.specs.ListSchedule.{AnyBus}
 use Rattle.plan_core.specs.Stages.{IsGapAround, IsSameAround, IsLoadOf, IsInStage, IsStageSchedule, IsWithoutStage}
 use Rattle.plan_core.specs.Stages.{AreStageArcs, written_around, read_around}
 use Rattle.plan_core.specs.Refusals.{NeedsLine}
@@ -133,7 +134,8 @@ module _ (g : Graph) (d : Datapath) (stages : ℕ) (allowed : IsDatapath d) (sou
         → s ≡ z
     same_schedule s z x y =
         one_schedule_over (IsGapAround d.period) (IsSameAround d.period) (stages * d.period) (Asks low.delays a) d a
-        (live_of d allowed) (stage_alike stages (IsLoadOf low.delays) d a (live_of d allowed)) (operand_in d a problem)
+        AnyBus (live_of d allowed) (stage_alike stages (IsLoadOf low.delays) d a (live_of d allowed))
+        (operand_in d a problem)
         s z x y
 
     -- a schedule of the same nodes, however it is told
@@ -159,12 +161,14 @@ module _ (g : Graph) (d : Datapath) (stages : ℕ) (allowed : IsDatapath d) (sou
         → IsStageSchedule stages low.delays d a s
         → ⊥
     scheduled_or_not v x s scheduled =
-        scheduled_not (IsGapAround d.period) (IsSameAround d.period) (stages * d.period) (Asks low.delays a) d a problem
+        scheduled_not (IsGapAround d.period) (IsSameAround d.period) (stages * d.period) (Asks low.delays a) d a AnyBus
+        problem
         (stage_alike stages (IsLoadOf low.delays) d a (live_of d allowed)) s scheduled v (without_cycle v x)
 
     same_node : (v u : ℕ) → HasUnplacedNode g d stages v → HasUnplacedNode g d stages u → v ≡ u
     same_node v u x y =
-        one_without (IsGapAround d.period) (IsSameAround d.period) (stages * d.period) (Asks low.delays a) d a problem
+        one_without (IsGapAround d.period) (IsSameAround d.period) (stages * d.period) (Asks low.delays a) d a AnyBus
+        problem
         (stage_alike stages (IsLoadOf low.delays) d a (live_of d allowed)) v u (without_cycle v x) (without_cycle u y)
 
     -- the lifetimes of the same nodes, however they are told

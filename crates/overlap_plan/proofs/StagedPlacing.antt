@@ -7,7 +7,7 @@ use Rattle.datapath.specs.declared.types.Datapath.{Datapath}
 use Rattle.plan_core.specs.Hardware.{latency_on, gap_on}
 use Rattle.plan_core.specs.Assigned.{unit_in}
 use Rattle.plan_core.specs.Heights.{latency_of, AreHeights, IsPlacedBefore}
-use Rattle.plan_core.specs.ListSchedule.{slot_of, IsEarlier}
+use Rattle.plan_core.specs.ListSchedule.{slot_of, IsEarlier, AnyBus}
 use Rattle.plan_core.specs.Stages.{IsGapAround, IsSameAround, IsInStage, IsStageScheduleOver, IsWithoutStageOver}
 use Rattle.plan_core.specs.declared.schedule.Assigned.{Assigned}
 use Rattle.plan_core.specs.declared.schedule.Transfer.{Transfer}
@@ -166,7 +166,7 @@ module _ (staged : Staged) (is : IsSoundStaged staged) where
         where
           over_table : Reservations → Option ℕ → Type 0
           over_table r answer = IsFirstOpenOver (IsGapAround d.period) (IsSameAround d.period) end
-              (MayInStage staged.stages d a) d a p.slots r v ports answer
+              (MayInStage staged.stages d a) d a AnyBus p.slots r v ports answer
 
           shut : (t : ℕ)
               → IsReadyAt d a p.slots v t
@@ -206,12 +206,14 @@ module _ (staged : Staged) (is : IsSoundStaged staged) where
     pub next_in : nth items k < length a.lowered.nodes
     next_in =
         over.next_in (IsGapAround d.period) (IsSameAround d.period) end (IsInStage staged.stages (Loads a) d a)
-        (MayInStage staged.stages d a) d a is.problem short alike allows_is order items same k p.slots p.table b within
+        (MayInStage staged.stages d a) d a AnyBus is.problem short alike allows_is order items same k p.slots p.table b
+        within
 
     pub goes_on : (new : Placing) → Places staged (nth items k) p new → ArePlaced staged order (k + 1) new
     goes_on new h =
         over.goes_on (IsGapAround d.period) (IsSameAround d.period) end (IsInStage staged.stages (Loads a) d a)
-        (MayInStage staged.stages d a) d a is.problem short alike allows_is order items same k p.slots p.table b within
+        (MayInStage staged.stages d a) d a AnyBus is.problem short alike allows_is order items same k p.slots p.table b
+        within
         new.slots new.table h
 
     pub stops : (fault : PeriodFault)
@@ -221,7 +223,8 @@ module _ (staged : Staged) (is : IsSoundStaged staged) where
     stops fault (inr h) =
         subst (IsFault staged) (sym h.0)
         (over.stops (IsGapAround d.period) (IsSameAround d.period) end (IsInStage staged.stages (Loads a) d a)
-        (MayInStage staged.stages d a) d a is.problem short alike allows_is order items same k p.slots p.table b within
+        (MayInStage staged.stages d a) d a AnyBus is.problem short alike allows_is order items same k p.slots p.table b
+        within
         h.1)
 
   pub all_placed : (order : List ℕ) (k : ℕ) (p : Placing)
@@ -230,4 +233,4 @@ module _ (staged : Staged) (is : IsSoundStaged staged) where
       → IsStageScheduleOver staged.stages (Loads a) d a (of_slots p.slots)
   all_placed order k p all b =
       over.all_placed (IsGapAround d.period) (IsSameAround d.period) end (IsInStage staged.stages (Loads a) d a)
-      (MayInStage staged.stages d a) d a is.problem short alike allows_is order k p.slots p.table all b
+      (MayInStage staged.stages d a) d a AnyBus is.problem short alike allows_is order k p.slots p.table all b

@@ -1,5 +1,5 @@
 -- A node that a fault of places names has a place.
-use Rattle.std.proofs.Common.{◌≡◌, ◌⊎◌, ⊎_elim, sym, subst, subst₂, arith, ℕ, ◌<◌, List, length}
+use Rattle.std.proofs.Common.{◌≡◌, ◌⊎◌, ⊎_elim, sym, subst, subst₂, arith, ℕ, ◌<◌, List, [], length}
 use Rattle.std.specs.Prelude.{IfSome}
 use Rattle.datapath.specs.Allowed.{IsDatapath}
 use Rattle.datapath.specs.declared.types.Datapath.{Datapath}
@@ -25,7 +25,7 @@ use Rattle.place_command.specs.Private.Endings.{HasItsLine}
 module _ (g : Graph) (d : Datapath) (places : List Place) (allowed : IsDatapath d) (sound : IsGraph g)
     (loopless : IsGraphLoopless g) where
   stopped : (Cause : Datapath → Assigned → Schedule → (height : ℕ → ℕ) → (v t : ℕ) → Type 0) (v : ℕ)
-      → HasUnplacedNode g d places Cause v
+      → HasUnplacedNode g d places [] Cause v
       → v < length places
   stopped Cause v h =
       let there = h.unplaced.there in
@@ -36,7 +36,7 @@ module _ (g : Graph) (d : Datapath) (places : List Place) (allowed : IsDatapath 
       let nodes = h.assigned.lowered.nodes in
       let arc = arc_of h.arcs h.none.k in
       let read = (h.are_arcs.each h.none.k no_arc h.none.there).read in
-      let its = problem g d places allowed sound loopless h.assigned h.is_lowered h.units in
+      let its = problem g d places [] allowed sound loopless h.assigned h.is_lowered h.units in
       let reads : Reads nodes read.0 arc.port.port arc.node = read.1.reads in
       subst₂ (λ (u n : ℕ). u < n) (sym h.none.node_is) (sym h.units.place_count)
       (subst (λ (x : ℕ). x < length nodes) reads.node

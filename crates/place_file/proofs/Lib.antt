@@ -6,5 +6,9 @@ pub mod Keys
 pub mod Words
 pub mod Numbers
 pub mod Told
+pub mod PortLines
+pub mod LineReading
 pub mod RegisterLines
 pub mod RegisterReading
+pub mod BusLines
+pub mod BusReading

@@ -93,3 +93,43 @@ impl<T: Drop> From<AllocFailed<T>> for RegistersFault {
         RegistersFault::Memory
     }
 }
+
+/// What is wrong with a line that begins with `bus`.
+#[derive(Debug, Clone, Copy, PartialEq, Eq, Error)]
+pub enum BusLineCause {
+    /// A word is not what stands in its place.
+    #[error("not bus NAME unit NAME port P node V")]
+    Form,
+    /// What stands in the place of a number is none: digits without a zero in front, for a node below 2^32, for a port
+    /// below 2^8.
+    #[error("no number")]
+    Number,
+    /// The datapath has no bus of that name.
+    #[error("unknown bus")]
+    Bus,
+    /// The datapath has no unit of that name.
+    #[error("unknown unit")]
+    Unit,
+}
+
+/// Why a text gives no buses.
+#[derive(Debug, Clone, Copy, PartialEq, Eq, Drop, Error)]
+pub enum BusesFault {
+    /// The first line that is wrong, from 1.
+    #[error("line {line}: {cause}")]
+    Line { line: u32, cause: BusLineCause },
+    /// Out of memory.
+    #[error("no memory")]
+    Memory,
+}
+
+impl<T: Drop> From<AllocFailed<T>> for BusesFault {
+    ghost use Rattle.std.specs.Prelude.{◌≡◌};
+    ghost use Rattle.place_file.specs.declared.fault.BusesFault.TheVariants.{Memory};
+
+    ghost from_gives = { λ _ fault. fault ≡ Memory };
+
+    fn from(_: AllocFailed<T>) -> BusesFault {
+        BusesFault::Memory
+    }
+}

@@ -26,7 +26,8 @@ use Rattle.plan_soundness.proofs.FromRules.{feasible, gaps_of, count_of_unroll, 
 use Rattle.plan_soundness.proofs.Machines.{machine_of}
 use Rattle.plan_soundness.proofs.SoundLowered.{IsSoundLowered}
 use Rattle.reg_alloc.specs.Allottable.{AreAllottable}
-use Rattle.given_registers.specs.Around.{given_at, CanBeHad, HasRegister, AreRegisters, AreAllottedAround}
+use Rattle.given_registers.specs.Around.{given_at as register_given, CanBeHad, HasRegister}
+use Rattle.given_registers.specs.Around.{AreAllottedAround}
 use Rattle.given_registers.specs.Faults.{IsRegisterFault}
 use Rattle.given_registers.specs.declared.given.GivenRegister.{GivenRegister}
 use Rattle.given_registers.specs.declared.fault.RegisterFault.{RegisterFault}
@@ -35,28 +36,34 @@ use Rattle.given_registers.proofs.Laws.{one_or_apart, in_file, ordinary as given
 use Rattle.given_registers.proofs.OneAnswer.{one_choice_of, allotted_or_not, one_fault as one_register_fault}
 use Rattle.given_registers.proofs.OneChoice.{one_given}
 use Rattle.planner.proofs.OnePlan.{plan_from}
-use Rattle.placed_plan.specs.Places.{place_of, CanBeOn, AreOnGivenUnits, IsScheduleAt, IsPlanAt, IsGiven, IsNarrow}
-use Rattle.placed_plan.specs.Faults.{IsPlaceFault, IsTimeFault}
-use Rattle.placed_plan.specs.GivenPlans.{HasRegisters, AreTimed, IsPlanGiven, HasRegisterFault, IsGivenPlanFault}
+use Rattle.placed_plan.specs.Places.{IsScheduleAt, IsPlanAt, IsGiven, IsNarrow}
+use Rattle.placed_plan.specs.Buses.{given_at}
+use Rattle.placed_plan.specs.GivenPlans.{HasBuses, HasRegisters, AreTimed, IsUntimed, IsPlanGiven, HasRegisterFault}
+use Rattle.placed_plan.specs.GivenPlans.{IsGivenPlanFault}
 use Rattle.placed_plan.specs.Private.Answers.{IsGivenAnswer}
-use Rattle.placed_plan.specs.Private.Errors.{of_place, of_registers}
+use Rattle.placed_plan.specs.Private.Errors.{of_registers}
+use Rattle.placed_plan.specs.declared.bus.GivenBus.{GivenBus}
 use Rattle.placed_plan.specs.declared.place.Place.{Place}
-use Rattle.placed_plan.specs.declared.fault.PlaceFault.{PlaceFault}
-use Rattle.placed_plan.specs.declared.fault.PlaceFault.TheVariants.{Line as Unstored, Missing, Surplus, TooWide}
-use Rattle.placed_plan.specs.declared.fault.PlaceFault.TheVariants.{WrongUnit, Late, Past, Busy, FileWritten}
-use Rattle.placed_plan.specs.declared.fault.PlaceFault.TheVariants.{NoBus, FileFull, Memory as PlaceMemory}
 use Rattle.placed_plan.specs.declared.fault.GivenPlanFault.{GivenPlanFault}
-use Rattle.placed_plan.specs.declared.fault.GivenPlanFault.TheVariants.{Place as OfPlaces, Registers as OfRegisters}
+use Rattle.placed_plan.specs.declared.fault.GivenPlanFault.TheVariants.{Place as OfPlaces, Bus}
+use Rattle.placed_plan.specs.declared.fault.GivenPlanFault.TheVariants.{Registers as OfRegisters}
 use Rattle.placed_plan.specs.declared.fault.GivenPlanFault.TheVariants.{Memory}
 use Rattle.placed_plan.proofs.GivenUnits.{on_right}
 use Rattle.placed_plan.proofs.OneFault.{same_assigned, same_schedule, same_arcs, allottable_at, timed_or_not}
-use Rattle.placed_plan.proofs.OneFault.{one_place_fault}
-use Rattle.placed_plan.proofs.PlansAt.{time_fault}
+use Rattle.placed_plan.proofs.OneFault.{problem, one_time_fault, no_bus_given}
+use Rattle.placed_plan.proofs.GivenBuses.{read_there, given_transfer}
 
 pub told_given : {A : Type 0} (r : Result A GivenPlanFault) (f : GivenPlanFault)
     → IsErrAnd r (λ (h : GivenPlanFault). h ≡ f)
     → r ≡ Err f
 told_given r f is = let x = err_from_is_err_and r is in x.1 ∙ ap (λ (h : GivenPlanFault). Err h) x.2
+
+-- an answer that is this fault has its cause
+pub with_given_cause : {A : Type 0} (P : GivenPlanFault → Type 0) (r : Result A GivenPlanFault) (f : GivenPlanFault)
+    → r ≡ Err f
+    → P f
+    → IfErr r P
+with_given_cause {A = A} P r f same why = subst (λ (x : Result A GivenPlanFault). IfErr x P) (sym same) why
 
 -- what a plan has, where there is one
 pub if_given : {P Q : Plan → Type 0} (r : Result Plan GivenPlanFault)
@@ -66,15 +73,17 @@ pub if_given : {P Q : Plan → Type 0} (r : Result Plan GivenPlanFault)
 if_given (Ok p) is then = then p is
 if_given (Err f) is then = tt
 
-module _ (g : Graph) (d : Datapath) (places : List Place) (given : List GivenRegister) (allowed : IsDatapath d)
-    (sound : IsGraph g) (loopless : IsGraphLoopless g) where
-  allottable_in : (a : Assigned) (s : Schedule) (arcs : List Arc) → AreTimed places g d a s arcs → AreAllottable d arcs
+module _ (g : Graph) (d : Datapath) (places : List Place) (buses : List GivenBus) (given : List GivenRegister)
+    (allowed : IsDatapath d) (sound : IsGraph g) (loopless : IsGraphLoopless g) where
+  allottable_in : (a : Assigned) (s : Schedule) (arcs : List Arc)
+      → AreTimed places buses g d a s arcs
+      → AreAllottable d arcs
   allottable_in a s arcs t =
-      allottable_at g d places allowed sound loopless a t.lowered t.units s arcs t.schedule t.arcs_are
+      allottable_at g d places buses allowed sound loopless a t.lowered t.units s arcs t.schedule t.arcs_are
 
   -- What holds of a plan with its places and its registers.
-  module _ (p : Plan) (is : IsPlanGiven places g d given p) where
-    t : AreTimed places g d p.assigned p.schedule p.arcs
+  module _ (p : Plan) (is : IsPlanGiven places buses g d given p) where
+    t : AreTimed places buses g d p.assigned p.schedule p.arcs
     t = is.timed
 
     allottable_of : AreAllottable d p.arcs
@@ -111,7 +120,7 @@ module _ (g : Graph) (d : Datapath) (places : List Place) (given : List GivenReg
       lowered = t.lowered;
       assigned = on_right places d p.assigned t.units;
       feasible = feasible d p rules (gaps_of d machine.units) (on_right places d p.assigned t.units) t.schedule
-          t.arcs_are is.unroll (omega (arith, machine.period.0))
+          t.arcs_are is.unroll (λ v u port b may. may.route) (omega (arith, machine.period.0))
           (sound_lines g d p sound t.lowered (on_right places d p.assigned t.units) one_by_one (omega arith)) apart;
       unroll = count_of_unroll d p t.arcs_are is.unroll;
       sizes = λ k i there copy. in_file d p.unroll given p.arcs allottable_of can p.registers.regs k i
@@ -123,7 +132,7 @@ module _ (g : Graph) (d : Datapath) (places : List Place) (given : List GivenReg
     pub given_routed : IsRouted d p
     given_routed =
         routed d p rules (gaps_of d machine.units) (on_right places d p.assigned t.units) t.schedule t.arcs_are
-        is.unroll
+        is.unroll (λ v u port b may. may.route)
 
     pub given_narrow : IsNarrow d p
     given_narrow v there = (t.units.can v there).width
@@ -135,15 +144,21 @@ module _ (g : Graph) (d : Datapath) (places : List Place) (given : List GivenReg
       cycle = λ v there. (t.schedule.placed v (omega (arith, there, t.units.place_count))).can.allows;
     }
 
+    pub given_buses : HasBuses buses p
+    given_buses n there =
+        given_transfer places buses d p.assigned p.schedule t.can t.schedule n there
+        (read_there d p.assigned (problem g d places buses allowed sound loopless p.assigned t.lowered t.units)
+        (given_at buses n).node (given_at buses n).port (t.can n there).transfer)
+
     pub given_registers : HasRegisters given p
     given_registers n there =
         let h = can n there in (h.0, h.1, h.2.its, by (has h.0 h.1 h.2.its.there h.2.its.copy))
       where
         by : HasRegister d p.unroll given p.arcs p.registers.regs (can n there).0 (can n there).1
-            → register_of p.registers.regs (can n there).0 (can n there).1 ≡ (given_at given n).register
+            → register_of p.registers.regs (can n there).0 (can n there).1 ≡ (register_given given n).register
         by (inl x) =
             x.2
-            ∙ ap (λ (m : ℕ). (given_at given m).register)
+            ∙ ap (λ (m : ℕ). (register_given given m).register)
             (one_given d p.unroll given p.arcs allottable_of.once can x.0 n (can n there).0 (can n there).1 x.1
             (record { number = there; its = (can n there).2.its }))
         by (inr x) = absurd (x.ungiven (n, record { number = there; its = (can n there).2.its }))
@@ -151,19 +166,22 @@ module _ (g : Graph) (d : Datapath) (places : List Place) (given : List GivenReg
   -- There is one at most.
 
   same_lifetimes : (a b : Assigned) (s z : Schedule) (arcs its : List Arc)
-      → AreTimed places g d a s arcs
-      → AreTimed places g d b z its
+      → AreTimed places buses g d a s arcs
+      → AreTimed places buses g d b z its
       → arcs ≡ its
   same_lifetimes a b s z arcs its x y =
-      same_arcs g d places allowed sound loopless b y.lowered y.units z y.schedule its y.arcs_are a s arcs
-      (same_assigned g d places allowed sound loopless b y.lowered y.units a x.lowered x.units) x.schedule x.arcs_are
+      same_arcs g d places buses allowed sound loopless b y.lowered y.units z y.schedule its y.arcs_are a s arcs
+      (same_assigned g d places buses allowed sound loopless b y.lowered y.units a x.lowered x.units) x.schedule
+      x.arcs_are
 
-  one_plan_given : (p q : Plan) → IsPlanGiven places g d given p → IsPlanGiven places g d given q → p ≡ q
+  one_plan_given : (p q : Plan) → IsPlanGiven places buses g d given p → IsPlanGiven places buses g d given q → p ≡ q
   one_plan_given p q x y =
-      let assigned = same_assigned g d places allowed sound loopless q.assigned y.timed.lowered y.timed.units p.assigned
+      let assigned =
+      same_assigned g d places buses allowed sound loopless q.assigned y.timed.lowered y.timed.units p.assigned
       x.timed.lowered x.timed.units in
-      let here = subst (λ (b : Assigned). IsScheduleAt places d b p.schedule) assigned x.timed.schedule in
-      let schedule = same_schedule g d places allowed sound loopless q.assigned y.timed.lowered y.timed.units p.schedule
+      let here = subst (λ (b : Assigned). IsScheduleAt places buses d b p.schedule) assigned x.timed.schedule in
+      let schedule =
+      same_schedule g d places buses allowed sound loopless q.assigned y.timed.lowered y.timed.units p.schedule
       q.schedule here y.timed.schedule in
       let arcs = same_lifetimes p.assigned q.assigned p.schedule q.schedule p.arcs q.arcs x.timed y.timed in
       let unroll = one_unroll q.arcs p.unroll q.unroll (subst (λ (xs : List Arc). IsUnroll xs p.unroll) arcs x.unroll)
@@ -175,50 +193,78 @@ module _ (g : Graph) (d : Datapath) (places : List Place) (given : List GivenReg
       (x.inputs ∙ sym y.inputs) (x.outs ∙ sym y.outs)
 
   untimed_not : (a : Assigned) (s : Schedule) (arcs : List Arc)
-      → AreTimed places g d a s arcs
-      → (f : PlaceFault)
-      → IsTimeFault g d places f
+      → AreTimed places buses g d a s arcs
+      → (f : GivenPlanFault)
+      → IsUntimed places buses g d f
       → ⊥
   untimed_not a s arcs t f h =
-      timed_or_not g d places allowed sound loopless a t.lowered t.units s t.schedule f h
+      timed_or_not g d places buses allowed sound loopless a t.lowered t.units t.can s t.schedule f h
 
-  given_or_not : (p : Plan)
-      → IsPlanGiven places g d given p
-      → (f : GivenPlanFault)
-      → IsGivenPlanFault places g d given f
+  -- a fault is one of the registers, or none of them
+  of_registers_or_not : (f : GivenPlanFault)
+      → IsGivenPlanFault places buses g d given f
+      → IsUntimed places buses g d f
+      ⊎ ((e : RegisterFault) × (f ≡ OfRegisters e) × HasRegisterFault places buses g d given e)
+  of_registers_or_not (OfPlaces f) h = inl h
+  of_registers_or_not (Bus n cause) h = inl h
+  of_registers_or_not (OfRegisters f) h = inr (f, refl, h)
+  of_registers_or_not Memory h = inl h
+
+  kept_not : (p : Plan)
+      → IsPlanGiven places buses g d given p
+      → (e : RegisterFault)
+      → HasRegisterFault places buses g d given e
       → ⊥
-  given_or_not p is (OfPlaces f) h = untimed_not p.assigned p.schedule p.arcs is.timed f h
-  given_or_not p is (OfRegisters f) h =
+  kept_not p is e h =
       let arcs = same_lifetimes h.assigned p.assigned h.schedule p.schedule h.arcs p.arcs h.timed is.timed in
       allotted_or_not d given p.arcs (allottable_in p.assigned p.schedule p.arcs is.timed) p.registers.regs is.registers
-      f
-      (subst (λ (xs : List Arc). IsRegisterFault d given xs f) arcs h.fault_is)
-  given_or_not p is Memory h = h
+      e
+      (subst (λ (xs : List Arc). IsRegisterFault d given xs e) arcs h.fault_is)
+
+  given_or_not : (p : Plan)
+      → IsPlanGiven places buses g d given p
+      → (f : GivenPlanFault)
+      → IsGivenPlanFault places buses g d given f
+      → ⊥
+  given_or_not p is f h =
+      ⊎_elim (λ (x : IsUntimed places buses g d f). untimed_not p.assigned p.schedule p.arcs is.timed f x)
+      (λ x. kept_not p is x.0 x.2) (of_registers_or_not f h)
+
+  one_of_registers : (e k : RegisterFault)
+      → HasRegisterFault places buses g d given e
+      → HasRegisterFault places buses g d given k
+      → e ≡ k
+  one_of_registers e k x y =
+      let arcs = same_lifetimes x.assigned y.assigned x.schedule y.schedule x.arcs y.arcs x.timed y.timed in
+      one_register_fault d given y.arcs (allottable_in y.assigned y.schedule y.arcs y.timed) e k
+      (subst (λ (xs : List Arc). IsRegisterFault d given xs e) arcs x.fault_is) y.fault_is
+
+  one_by : (f h : GivenPlanFault)
+      → IsUntimed places buses g d f
+      ⊎ ((e : RegisterFault) × (f ≡ OfRegisters e) × HasRegisterFault places buses g d given e)
+      → IsUntimed places buses g d h
+      ⊎ ((e : RegisterFault) × (h ≡ OfRegisters e) × HasRegisterFault places buses g d given e)
+      → f ≡ h
+  one_by f h (inl x) (inl y) = one_time_fault g d places buses allowed sound loopless f h x y
+  one_by f h (inl x) (inr y) =
+      absurd (untimed_not y.2.assigned y.2.schedule y.2.arcs y.2.timed f x)
+  one_by f h (inr x) (inl y) =
+      absurd (untimed_not x.2.assigned x.2.schedule x.2.arcs x.2.timed h y)
+  one_by f h (inr x) (inr y) =
+      x.1 ∙ ap (λ (e : RegisterFault). OfRegisters e) (one_of_registers x.0 y.0 x.2 y.2) ∙ sym y.1
 
   one_given_fault : (f h : GivenPlanFault)
-      → IsGivenPlanFault places g d given f
-      → IsGivenPlanFault places g d given h
+      → IsGivenPlanFault places buses g d given f
+      → IsGivenPlanFault places buses g d given h
       → f ≡ h
-  one_given_fault (OfPlaces f) (OfPlaces h) x y =
-      ap OfPlaces
-      (one_place_fault g d places allowed sound loopless f h (time_fault g d places f x) (time_fault g d places h y))
-  one_given_fault (OfPlaces f) (OfRegisters h) x y = absurd (untimed_not y.assigned y.schedule y.arcs y.timed f x)
-  one_given_fault (OfRegisters f) (OfPlaces h) x y = absurd (untimed_not x.assigned x.schedule x.arcs x.timed h y)
-  one_given_fault (OfRegisters f) (OfRegisters h) x y =
-      let arcs = same_lifetimes x.assigned y.assigned x.schedule y.schedule x.arcs y.arcs x.timed y.timed in
-      ap OfRegisters
-      (one_register_fault d given y.arcs (allottable_in y.assigned y.schedule y.arcs y.timed) f h
-      (subst (λ (xs : List Arc). IsRegisterFault d given xs f) arcs x.fault_is) y.fault_is)
-  one_given_fault Memory h x y = absurd x
-  one_given_fault (OfPlaces f) Memory x y = absurd y
-  one_given_fault (OfRegisters f) Memory x y = absurd y
+  one_given_fault f h x y = one_by f h (of_registers_or_not f x) (of_registers_or_not h y)
 
   -- What is answered.
 
   abbrev IsTold : Result Plan GivenPlanFault → Type 0
-  IsTold = IsGivenAnswer g d places given
+  IsTold = IsGivenAnswer g d places buses given
 
-  pub finds_given : (p : Plan) → IsPlanGiven places g d given p → IsTold (Ok p)
+  pub finds_given : (p : Plan) → IsPlanGiven places buses g d given p → IsTold (Ok p)
   finds_given p is = record {
     plan = is;
     fault = tt;
@@ -226,52 +272,47 @@ module _ (g : Graph) (d : Datapath) (places : List Place) (given : List GivenReg
     refused = λ f h. absurd (given_or_not p is f h);
   }
 
-  fails_given : (f : GivenPlanFault) → (f ≡ Memory) ⊎ IsGivenPlanFault places g d given f → IsTold (Err f)
+  fails_given : (f : GivenPlanFault) → (f ≡ Memory) ⊎ IsGivenPlanFault places buses g d given f → IsTold (Err f)
   fails_given f why = record {
     plan = tt;
     fault = why;
     found = λ p is.
         ⊎_elim (λ (e : f ≡ Memory). inr (ap (λ (x : GivenPlanFault). Err x) e))
-        (λ (h : IsGivenPlanFault places g d given f). absurd (given_or_not p is f h)) why;
+        (λ (h : IsGivenPlanFault places buses g d given f). absurd (given_or_not p is f h)) why;
     refused = λ k is.
         ⊎_elim (λ (e : f ≡ Memory). inr (ap (λ (x : GivenPlanFault). Err x) e))
-        (λ (h : IsGivenPlanFault places g d given f).
+        (λ (h : IsGivenPlanFault places buses g d given f).
         inl (ap (λ (x : GivenPlanFault). Err x) (one_given_fault f k h is))) why;
   }
 
   -- the same of an answer that is this fault
   pub answers_given : (r : Result Plan GivenPlanFault) (f : GivenPlanFault)
       → r ≡ Err f
-      → (f ≡ Memory) ⊎ IsGivenPlanFault places g d given f
+      → (f ≡ Memory) ⊎ IsGivenPlanFault places buses g d given f
       → IsTold r
   answers_given r f same why = subst IsTold (sym same) (fails_given f why)
 
   -- The faults of the passes.
 
-  pub place_fails : (f : PlaceFault)
-      → (f ≡ PlaceMemory) ⊎ IsTimeFault g d places f
-      → (of_place f ≡ Memory) ⊎ IsGivenPlanFault places g d given (of_place f)
-  place_fails f (inl e) = inl (ap of_place e)
-  place_fails (Unstored f) (inr h) = inr h
-  place_fails (Missing v) (inr h) = inr h
-  place_fails (Surplus v) (inr h) = inr h
-  place_fails (TooWide v) (inr h) = inr h
-  place_fails (WrongUnit v) (inr h) = inr h
-  place_fails (Late v x from) (inr h) = inr h
-  place_fails (Past v) (inr h) = inr h
-  place_fails (Busy v) (inr h) = inr h
-  place_fails (FileWritten unit port v) (inr h) = inr h
-  place_fails (NoBus unit port v) (inr h) = inr h
-  place_fails (FileFull unit port v) (inr h) = absurd h
-  place_fails PlaceMemory (inr h) = absurd h
+  untimed_given : (f : GivenPlanFault) → IsUntimed places buses g d f → IsGivenPlanFault places buses g d given f
+  untimed_given (OfPlaces f) h = h
+  untimed_given (Bus n cause) h = h
+  untimed_given (OfRegisters f) h = absurd h
+  untimed_given Memory h = h
 
-  module _ (a : Assigned) (s : Schedule) (arcs : List Arc) (t : AreTimed places g d a s arcs) where
-    caused : (f : RegisterFault) → IsRegisterFault d given arcs f → HasRegisterFault places g d given f
+  pub time_fails_given : (f : GivenPlanFault)
+      → (f ≡ Memory) ⊎ IsUntimed places buses g d f
+      → (f ≡ Memory) ⊎ IsGivenPlanFault places buses g d given f
+  time_fails_given f (inl e) = inl e
+  time_fails_given f (inr h) = inr (untimed_given f h)
+
+  module _ (a : Assigned) (s : Schedule) (arcs : List Arc) (t : AreTimed places buses g d a s arcs) where
+    caused : (f : RegisterFault) → IsRegisterFault d given arcs f → HasRegisterFault places buses g d given f
     caused f h = record { assigned = a; schedule = s; arcs = arcs; timed = t; fault_is = h }
 
     pub register_fails : (f : RegisterFault)
         → (f ≡ register.Memory) ⊎ IsRegisterFault d given arcs f
-        → (of_registers f ≡ Memory) ⊎ IsGivenPlanFault places g d given (of_registers f)
+        → (of_registers f ≡ Memory) ⊎ IsGivenPlanFault places buses g d given (of_registers f)
     register_fails f (inl e) = inl (ap of_registers e)
     register_fails (register.Given n cause) (inr h) = inr (caused (register.Given n cause) h)
     register_fails (register.Full unit port v) (inr h) = inr (caused (register.Full unit port v) h)
@@ -281,7 +322,7 @@ module _ (g : Graph) (d : Datapath) (places : List Place) (given : List GivenReg
         → IsUnroll arcs unroll
         → AreAllottedAround d given arcs registers.regs
         → inputs ≡ g.inputs
-        → IsPlanGiven places g d given
+        → IsPlanGiven places buses g d given
         (record {
           assigned = a;
           schedule = s;
@@ -294,15 +335,21 @@ module _ (g : Graph) (d : Datapath) (places : List Place) (given : List GivenReg
     whole_given unroll registers inputs turns all same =
         record { timed = t; unroll = turns; registers = all; inputs = same; outs = refl }
 
-  -- Where no register is given, the plan with its places is such a plan.
-  pub plan_at_given : given ≡ [] → (p : Plan) → IsPlanAt places g d p → IsPlanGiven places g d given p
-  plan_at_given none p is =
-      let timed : AreTimed places g d p.assigned p.schedule p.arcs = record {
+  -- Where no bus and no register is given, the plan with its places is such a plan.
+  pub plan_at_given : buses ≡ []
+      → given ≡ []
+      → (p : Plan)
+      → IsPlanAt places g d p
+      → IsPlanGiven places buses g d given p
+  plan_at_given no_bus none p is =
+      let timed : AreTimed places buses g d p.assigned p.schedule p.arcs =
+      subst (λ (bs : List GivenBus). AreTimed places bs g d p.assigned p.schedule p.arcs) (sym no_bus) (record {
         lowered = is.placed.lowered;
         units = is.units;
-        schedule = is.placed.schedule;
+        can = λ n less. absurd (omega (arith, less));
+        schedule = no_bus_given places d p.assigned p.schedule is.placed.schedule;
         arcs_are = is.placed.arcs;
-      } in
+      }) in
       record {
         timed = timed;
         unroll = is.placed.unroll;

@@ -1,13 +1,13 @@
 -- Tests of places: with these, a worked plan at its places, and why places have none, are checked by computing.
-use Rattle.std.proofs.Common.{◌≡◌, refl, subst, ℕ, ◌+◌, ◌<◌, ◌≤◌, List, length, true}
+use Rattle.std.proofs.Common.{◌≡◌, refl, subst, ℕ, ◌+◌, ◌<◌, ◌≤◌, List, [], length, true}
 use Rattle.datapath.specs.declared.types.Datapath.{Datapath}
 use Rattle.signal_graph.specs.declared.graph.Node.{Node}
 use Rattle.operations.specs.declared.units.PortRef.{PortRef}
-use Rattle.plan_core.specs.Hardware.{gap_on, port_of}
+use Rattle.plan_core.specs.Hardware.{gap_on, port_of, IsRoute}
 use Rattle.plan_core.specs.Operands.{node_of, delay_at, Reads}
 use Rattle.plan_core.specs.Assigned.{unit_in, IsRightUnit}
 use Rattle.plan_core.specs.Heights.{ReadsNow, latency_of, IsPlacedBefore}
-use Rattle.plan_core.specs.Reservations.{IsGapApart, IsUnitFreeOver, IsFileFreeOver, result_on}
+use Rattle.plan_core.specs.Reservations.{IsGapApart, IsUnitFreeOver, IsFileFreeOver, IsBusFreeOver, result_on}
 use Rattle.plan_core.specs.ListSchedule.{slot_of, cycle_of, AreOperandsThere, IsDestination, IsPortBefore}
 use Rattle.plan_core.specs.ListSchedule.{IsTakenBefore}
 use Rattle.plan_core.specs.declared.schedule.Assigned.{Assigned}
@@ -15,11 +15,13 @@ use Rattle.plan_core.specs.declared.schedule.Schedule.{Schedule}
 use Rattle.plan_core.specs.declared.schedule.Slot.{Slot}
 use Rattle.plan_core.specs.declared.schedule.Transfer.{Transfer}
 use Rattle.plan_core.proofs.Tests.{Test, passed, lt, le, eq, like, nay, both, either, implies, below, each_of}
-use Rattle.plan_core.proofs.OperandTests.{same_port, each_operand, each_consumer}
+use Rattle.plan_core.proofs.OperandTests.{same_port, is_route, each_operand, each_consumer}
 use Rattle.plan_core.proofs.AssignedTests.{is_right_unit}
-use Rattle.plan_core.proofs.ScheduleTests.{placed_before, port_before, are_heights, is_placed_over, taken_to, dest_to}
+use Rattle.plan_core.proofs.ScheduleTests.{placed_before, port_before, are_heights, is_placed_via, taken_to, dest_to}
 use Rattle.placed_plan.specs.Places.{place_of, CanBeOn, AreOnGivenUnits, AtPlace, IsPlacedAt}
+use Rattle.placed_plan.specs.Buses.{given_at, MayTake}
 use Rattle.placed_plan.specs.Faults.{IsFirstUnplaced}
+use Rattle.placed_plan.specs.declared.bus.GivenBus.{GivenBus}
 use Rattle.placed_plan.specs.declared.place.Place.{Place}
 
 abbrev pub can_be_on : (d : Datapath) (node : Node) (u : ℕ) → Test (CanBeOn d node u)
@@ -29,6 +31,41 @@ can_be_on d node u =
 
 abbrev pub gap_apart : (gap t u : ℕ) → Test (IsGapApart gap t u)
 gap_apart gap t u = either (le (t + gap) u) (le (u + gap) t)
+
+-- the buses that may be taken where these are given
+module _ (buses : List GivenBus) where
+  abbrev GivesBus : ℕ → PortRef → (b : ℕ) → Type 0
+  GivesBus v port b =
+      (n : ℕ)
+      → n < length buses
+      → (given_at buses n).node ≡ v
+      → (given_at buses n).port ≡ port
+      → (given_at buses n).bus ≡ b
+
+  pub may_of : (v : ℕ) (d : Datapath) (u : ℕ) (port : PortRef) (b : ℕ)
+      → IsRoute d u port b × GivesBus v port b
+      → MayTake buses v d u port b
+  may_of v d u port b h = record { route = h.0; given = λ n g. h.1 n g.there g.its.node g.its.port_is }
+
+  pub may_is : (v : ℕ) (d : Datapath) (u : ℕ) (port : PortRef) (b : ℕ)
+      → MayTake buses v d u port b
+      → IsRoute d u port b × GivesBus v port b
+  may_is v d u port b h = (
+    h.route,
+    λ n there node is. h.given n (record { there = there; its = record { node = node; port_is = is } }),
+  )
+
+  abbrev pub may_take : (v : ℕ) (d : Datapath) (u : ℕ) (port : PortRef) (b : ℕ) → Test (MayTake buses v d u port b)
+  may_take v d u port b =
+      like (may_of v d u port b) (may_is v d u port b)
+      (both (is_route d u port b)
+      (below (length buses) (λ n. implies (eq (given_at buses n).node v) (λ y.
+      implies (same_port (given_at buses n).port port) (λ z. eq (given_at buses n).bus b)))))
+
+  pub may_there : (v : ℕ) (d : Datapath) (u : ℕ) (port : PortRef) (b : ℕ)
+      → MayTake buses v d u port b
+      → b < length d.buses
+  may_there v d u port b h = h.route.there
 
 module _ (places : List Place) (d : Datapath) (a : Assigned) where
   abbrev Given : ℕ → Type 0
@@ -55,12 +92,12 @@ module _ (places : List Place) (d : Datapath) (a : Assigned) where
   abbrev pub at_cycle : (s : Schedule) (height : ℕ → ℕ) (v t : ℕ) → Test (AtPlace places s height v t)
   at_cycle s height v t = eq t (place_of places v).cycle
 
-  module _ (s : Schedule) (height : ℕ → ℕ) (v : ℕ) where
+  module _ (buses : List GivenBus) (s : Schedule) (height : ℕ → ℕ) (v : ℕ) where
     abbrev pub are_before :
-        Test ((x : ℕ) → x < length a.lowered.nodes → IsPlacedBefore height x v → IsPlacedAt places d a s height x)
+        Test ((x : ℕ) → x < length a.lowered.nodes → IsPlacedBefore height x v → IsPlacedAt places buses d a s height x)
     are_before =
         below (length a.lowered.nodes) (λ x. implies (placed_before height x v)
-        (λ z. is_placed_over gap_apart eq d.period at_cycle d a s height x))
+        (λ z. is_placed_via gap_apart eq d.period at_cycle (may_take buses) (may_there buses) d a s height x))
 
     -- node v is the first in order that cannot be issued in its cycle, where those before it can, by computing
     pub unplaced : (Cause : Datapath → Assigned → Schedule → (height : ℕ → ℕ) → (v t : ℕ) → Type 0)
@@ -68,7 +105,7 @@ module _ (places : List Place) (d : Datapath) (a : Assigned) where
         → v < length a.lowered.nodes
         → are_before.passes ≡ true
         → Cause d a s height v (place_of places v).cycle
-        → IsFirstUnplaced places d a Cause v
+        → IsFirstUnplaced places buses d a Cause v
     unplaced Cause high there e cause = record {
       height = height;
       heights = passed (are_heights d a height) high;
@@ -132,6 +169,11 @@ module _ (d : Datapath) (a : Assigned) (s : Schedule) where
     file_free w port =
         each_taken (λ u slot. implies (same (result_on d u slot.cycle) w) (λ z.
         each_of slot.transfers (λ (transfer : Transfer). nay (same_port transfer.port port))))
+
+    abbrev pub bus_free : (w b : ℕ) → Test (IsBusFreeOver IsAway IsSame d (IsTakenBefore a s height v) w b)
+    bus_free w b =
+        each_taken (λ u slot. implies (same (result_on d u slot.cycle) w) (λ z.
+        each_of slot.transfers (λ (transfer : Transfer). nay (eq transfer.bus b))))
 
   -- no port that reads node v comes before this one
   abbrev pub is_first_port : (v : ℕ) (port : PortRef)

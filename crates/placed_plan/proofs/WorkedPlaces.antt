@@ -22,6 +22,7 @@ use Rattle.plan_core.proofs.RegisterTests.{are_arcs, is_unroll, is_first_fit}
 use Rattle.plan_core.proofs.PlanTests.{are_in_files}
 use Rattle.plan_core.proofs.Rows.{plain_path, edge, at, over, life, heights, byte, input_node, constant_node, sum_node}
 use Rattle.plan_core.proofs.Rows.{output_node}
+use Rattle.placed_plan.specs.Buses.{CanBeTaken}
 use Rattle.placed_plan.specs.Places.{place_of, IsPlanAt, AreOnGivenUnits}
 use Rattle.placed_plan.specs.Causes.{IsLate, IsPast, IsBusy, IsFileWritten, IsBusless}
 use Rattle.placed_plan.specs.Faults.{IsPlaceFault}
@@ -55,10 +56,10 @@ abbrev pub passes_delays : List (List ℕ)
 passes_delays = [] ∷ [] ∷ [] ∷ [] ∷ [] ∷ [] ∷ []
 
 -- a datapath with words of so many bits
-abbrev path : (word : ℕ) → Datapath
+abbrev pub path : (word : ℕ) → Datapath
 path word = record (plain_path 0) { word = word }
 
-lowered : (word : ℕ) → IsLowered passes (path word) passes_assigned.lowered
+pub lowered : (word : ℕ) → IsLowered passes (path word) passes_assigned.lowered
 lowered word = record {
   delays = passes_delays;
   delay_count = refl;
@@ -125,13 +126,13 @@ slots input constant first second sum out = record {
       ∷ [];
 }
 
-abbrev p : Datapath
+abbrev pub p : Datapath
 p = path 16
 
-abbrev a : Assigned
+abbrev pub a : Assigned
 a = passes_assigned
 
-units : (input constant first second sum out : ℕ)
+pub units : (input constant first second sum out : ℕ)
     → AreOnGivenUnits (in_cycles input constant first second sum out) p a
 units input constant first second sum out =
     on_units (in_cycles input constant first second sum out) p a refl refl refl
@@ -212,14 +213,19 @@ wrong_unit = record {
   };
 }
 
+-- where no bus is given
+none_given : CanBeTaken p a [] 0
+none_given n less = absurd (omega (arith, less))
+
 -- the sum is to be issued in the cycle in which its second operand is
 late : IsPlaceFault passes p (in_cycles 0 1 2 3 3 5) (Late 4 3 4)
 late = record {
   assigned = a;
   is_lowered = lowered 16;
   units = units 0 1 2 3 3 5;
+  can = none_given;
   unplaced =
-      unplaced (in_cycles 0 1 2 3 3 5) p a (slots 0 1 2 3 3 5) its_heights 4 (IsLate 3 4) refl (omega arith) refl
+      unplaced (in_cycles 0 1 2 3 3 5) p a [] (slots 0 1 2 3 3 5) its_heights 4 (IsLate 3 4) refl (omega arith) refl
       (record {
         port = 1;
         reads = record { reads = passed (reads passes_nodes 4 1 3) refl; now = refl };
@@ -235,8 +241,9 @@ past = record {
   assigned = a;
   is_lowered = lowered 16;
   units = units 0 1 2 3 4 16;
+  can = none_given;
   unplaced =
-      unplaced (in_cycles 0 1 2 3 4 16) p a (slots 0 1 2 3 4 16) its_heights 5 IsPast refl (omega arith) refl
+      unplaced (in_cycles 0 1 2 3 4 16) p a [] (slots 0 1 2 3 4 16) its_heights 5 IsPast refl (omega arith) refl
       (record { operands = passed (operands_there p a (slots 0 1 2 3 4 16) 5 16) refl; past = omega arith });
 }
 
@@ -246,8 +253,9 @@ busy = record {
   assigned = a;
   is_lowered = lowered 16;
   units = units 0 1 2 2 4 5;
+  can = none_given;
   unplaced =
-      unplaced (in_cycles 0 1 2 2 4 5) p a (slots 0 1 2 2 4 5) its_heights 3 IsBusy refl (omega arith) refl
+      unplaced (in_cycles 0 1 2 2 4 5) p a [] (slots 0 1 2 2 4 5) its_heights 3 IsBusy refl (omega arith) refl
       (record {
         operands = passed (operands_there p a (slots 0 1 2 2 4 5) 3 2) refl;
         ends = omega arith;
@@ -261,8 +269,9 @@ file_written = record {
   assigned = a;
   is_lowered = lowered 16;
   units = units 0 0 2 3 4 5;
+  can = none_given;
   unplaced =
-      unplaced (in_cycles 0 0 2 3 4 5) p a (slots 0 0 2 3 4 5) its_heights 1 (IsFileWritten (port_of 2 0)) refl
+      unplaced (in_cycles 0 0 2 3 4 5) p a [] (slots 0 0 2 3 4 5) its_heights 1 (IsFileWritten [] (port_of 2 0)) refl
       (omega arith) refl
       (record {
         first = record {
@@ -276,10 +285,10 @@ file_written = record {
       });
 }
 
-abbrev crossing : Schedule
+abbrev pub crossing : Schedule
 crossing = slots 1 0 2 1 4 5
 
-input_taken : IsTakenBefore a crossing its_heights 3 0 (slot_of crossing 0)
+pub input_taken : IsTakenBefore a crossing its_heights 3 0 (slot_of crossing 0)
 input_taken = record {
   x = 0;
   earlier = record { node = omega arith; before = inl (omega arith) };
@@ -293,8 +302,10 @@ no_bus = record {
   assigned = a;
   is_lowered = lowered 16;
   units = units 1 0 2 1 4 5;
+  can = none_given;
   unplaced =
-      unplaced (in_cycles 1 0 2 1 4 5) p a crossing its_heights 3 (IsBusless (port_of 2 1)) refl (omega arith) refl
+      unplaced (in_cycles 1 0 2 1 4 5) p a [] crossing its_heights 3 (IsBusless [] (port_of 2 1)) refl (omega arith)
+      refl
       (record {
         first = record {
           operands = passed (operands_there p a crossing 3 1) refl;
@@ -304,8 +315,9 @@ no_bus = record {
           before = λ q to less. absurd (first_port p a crossing 3 (port_of 2 1) refl q to less);
         };
         file = passed (file_free p a crossing gap_apart eq its_heights 3 1 (port_of 2 1)) refl;
+        ungiven = λ n h. absurd (omega (arith, h.there));
         none = λ b bus.
-            let less : b < 1 = bus.route.there in
+            let less : b < 1 = bus.route.route.there in
             absurd
             ((bus.free 0 (slot_of crossing 0) input_taken refl) 0 (over 0 0 0) (omega arith) (omega (arith, less)));
       });

@@ -1,14 +1,17 @@
 -- Why a node cannot stand at its place.
-use Rattle.std.specs.Prelude.{◌≡◌, ℕ, ◌+◌, ◌<◌, ◌≤◌}
+use Rattle.std.specs.Prelude.{◌≡◌, ℕ, ◌+◌, ◌<◌, ◌≤◌, List}
 use Rattle.operations.specs.declared.units.PortRef.{PortRef}
 use Rattle.datapath.specs.declared.types.Datapath.{Datapath}
 use Rattle.signal_graph.specs.declared.graph.Node.{Node}
 use Rattle.plan_core.specs.Assigned.{unit_in, IsRightUnit}
 use Rattle.plan_core.specs.Heights.{ReadsNow, latency_of}
-use Rattle.plan_core.specs.Reservations.{result_on, IsUnitFree, IsFileFree, IsFreeRoute}
+use Rattle.plan_core.specs.Reservations.{result_on, IsUnitFree, IsFileFree, IsBusFree, IsFreeRouteVia, IsGapApart}
+use Rattle.plan_core.specs.Reservations.{IsOneCycle}
 use Rattle.plan_core.specs.ListSchedule.{cycle_of, IsDestination, IsPortBefore, IsTakenBefore, AreOperandsThere}
 use Rattle.plan_core.specs.declared.schedule.Assigned.{Assigned}
 use Rattle.plan_core.specs.declared.schedule.Schedule.{Schedule}
+use Rattle.placed_plan.specs.Buses.{given_at, IsGivenFor, IsUngiven, MayTake}
+use Rattle.placed_plan.specs.declared.bus.GivenBus.{GivenBus}
 
 -- On its unit.
 module _ (d : Datapath) (node : Node) (u : ℕ) where
@@ -50,35 +53,50 @@ module _ (d : Datapath) (a : Assigned) (s : Schedule) (height : ℕ → ℕ) (v 
   abbrev pub HasFile : PortRef → Type 0
   HasFile port = IsFileFree d (IsTakenBefore a s height v) (result_on d u t) port
 
-  -- this bus can take the result to the port
-  abbrev pub HasBus : PortRef → (b : ℕ) → Type 0
-  HasBus port b = IsFreeRoute d (IsTakenBefore a s height v) u (result_on d u t) port b
+  -- where these buses are given
+  module _ (buses : List GivenBus) where
+    -- this bus can take the result to the port
+    abbrev pub HasBus : PortRef → (b : ℕ) → Type 0
+    HasBus port b =
+        IsFreeRouteVia IsGapApart IsOneCycle d (IsTakenBefore a s height v) (MayTake buses v) u (result_on d u t) port b
 
-  -- its result can be transferred to the port: its register file is not written, and a bus to it is free
-  pub record HasTransfer (port : PortRef) : Type 0 where
-    pub file : HasFile port
-    pub bus : (b : ℕ) × HasBus port b
+    -- its result can be transferred to the port: its register file is not written, and a bus to it is free
+    pub record HasTransfer (port : PortRef) : Type 0 where
+      pub file : HasFile port
+      pub bus : (b : ℕ) × HasBus port b
 
-  -- its unit is free, and its result can be transferred to each port that reads it and comes before this one
-  pub record IsOpenUpTo (port : PortRef) : Type 0 where
-    pub operands : AreOperandsThere d a s v t
-    pub ends : t + latency_of d a v ≤ d.period
-    pub free : IsUnitFree d (IsTakenBefore a s height v) u t
-    pub reads : IsDestination a v port
-    pub before : (q : PortRef) → IsDestination a v q → IsPortBefore q port → HasTransfer q
+    -- its unit is free, and its result can be transferred to each port that reads it and comes before this one
+    pub record IsOpenUpTo (port : PortRef) : Type 0 where
+      pub operands : AreOperandsThere d a s v t
+      pub ends : t + latency_of d a v ≤ d.period
+      pub free : IsUnitFree d (IsTakenBefore a s height v) u t
+      pub reads : IsDestination a v port
+      pub before : (q : PortRef) → IsDestination a v q → IsPortBefore q port → HasTransfer q
 
 -- an operand of the same sample is not there
 abbrev pub IsLate : (x from : ℕ) → Datapath → Assigned → Schedule → (height : ℕ → ℕ) → (v t : ℕ) → Type 0
 IsLate x from d a s height v t = IsFirstLate x from d a s v t
 
-module _ (port : PortRef) (d : Datapath) (a : Assigned) (s : Schedule) (height : ℕ → ℕ) (v t : ℕ) where
-  -- the port is the first, by unit, then port, that cannot get its result: its register file is written
-  pub record IsFileWritten : Type 0 where
-    pub first : IsOpenUpTo d a s height v t port
-    pub written : HasFile d a s height v t port → ⊥
+module _ (buses : List GivenBus) where
+  module _ (port : PortRef) (d : Datapath) (a : Assigned) (s : Schedule) (height : ℕ → ℕ) (v t : ℕ) where
+    -- the port is the first, by unit, then port, that cannot get its result: its register file is written
+    pub record IsFileWritten : Type 0 where
+      pub first : IsOpenUpTo d a s height v t buses port
+      pub written : HasFile d a s height v t port → ⊥
 
-  -- so it is, but no bus is free
-  pub record IsBusless : Type 0 where
-    pub first : IsOpenUpTo d a s height v t port
-    pub file : HasFile d a s height v t port
-    pub none : (b : ℕ) → HasBus d a s height v t port b → ⊥
+    -- so it is, but no bus is given for the transfer, and none is free
+    pub record IsBusless : Type 0 where
+      pub first : IsOpenUpTo d a s height v t buses port
+      pub file : HasFile d a s height v t port
+      pub ungiven : IsUngiven buses v port
+      pub none : (b : ℕ) → HasBus d a s height v t buses port b → ⊥
+
+  -- so it is, and number n of the given buses, which is given for the transfer, is not free
+  pub record IsBusTaken (n : ℕ) (d : Datapath) (a : Assigned) (s : Schedule) (height : ℕ → ℕ) (v t : ℕ) : Type 0
+    where
+      pub port : PortRef
+      pub first : IsOpenUpTo d a s height v t buses port
+      pub file : HasFile d a s height v t port
+      pub given : IsGivenFor buses n v port
+      pub taken : IsBusFree d (IsTakenBefore a s height v) (result_on d (unit_in a.units v) t) (given_at buses n).bus
+          → ⊥

@@ -1,3 +1,4 @@
+pub mod Buses
 pub mod Places
 pub mod Causes
 pub mod Faults

@@ -6,12 +6,14 @@ use Rattle.signal_graph.specs.declared.graph.Node.{Node}
 use Rattle.plan_core.specs.Operands.{node_of}
 use Rattle.plan_core.specs.Assigned.{unit_in, IsRightUnit}
 use Rattle.plan_core.specs.Reservations.{IsGapApart, IsOneCycle}
-use Rattle.plan_core.specs.ListSchedule.{IsPlacedOver, IsListScheduleOver}
+use Rattle.plan_core.specs.ListSchedule.{IsPlacedVia, IsListScheduleVia}
 use Rattle.plan_core.specs.declared.schedule.Assigned.{Assigned}
 use Rattle.plan_core.specs.declared.schedule.Schedule.{Schedule}
 use Rattle.plan_core.specs.declared.plan.Plan.{Plan}
 use Rattle.plan_soundness.specs.Parts.{nodes_of, node_at, unit_at, cycle_at}
 use Rattle.plan_soundness.specs.Placed.{IsPlacedPlan}
+use Rattle.placed_plan.specs.Buses.{MayTake}
+use Rattle.placed_plan.specs.declared.bus.GivenBus.{GivenBus}
 use Rattle.placed_plan.specs.declared.place.Place.{Place}
 
 -- what stands in the place of a place that is not there
@@ -41,13 +43,16 @@ module _ (places : List Place) where
   abbrev pub AtPlace : Schedule → (height : ℕ → ℕ) → (v t : ℕ) → Type 0
   AtPlace s height v t = t ≡ (place_of places v).cycle
 
-  -- node v stands in the cycle of its place, beside the nodes that are placed before it
-  abbrev pub IsPlacedAt : Datapath → Assigned → Schedule → (height : ℕ → ℕ) → (v : ℕ) → Type 0
-  IsPlacedAt d a s height v = IsPlacedOver IsGapApart IsOneCycle d.period AtPlace d a s height v
+  module _ (buses : List GivenBus) where
+    -- Node v stands in the cycle of its place, beside the nodes that are placed before it, and its result goes over the
+    -- buses that are given for it, and else over the first ones that are free.
+    abbrev pub IsPlacedAt : Datapath → Assigned → Schedule → (height : ℕ → ℕ) → (v : ℕ) → Type 0
+    IsPlacedAt d a s height v =
+        IsPlacedVia IsGapApart IsOneCycle d.period AtPlace d a (MayTake buses) s height v
 
-  -- each node does
-  abbrev pub IsScheduleAt : Datapath → Assigned → Schedule → Type 0
-  IsScheduleAt d a s = IsListScheduleOver IsGapApart IsOneCycle d.period AtPlace d a s
+    -- each node does
+    abbrev pub IsScheduleAt : Datapath → Assigned → Schedule → Type 0
+    IsScheduleAt d a s = IsListScheduleVia IsGapApart IsOneCycle d.period AtPlace d a (MayTake buses) s
 
   -- the plan has each node on the unit and in the cycle that are given
   pub record IsGiven (p : Plan) : Type 0 where

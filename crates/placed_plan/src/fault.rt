@@ -77,17 +77,6 @@ impl From<AllocError> for PlaceFault {
     }
 }
 
-impl From<TableFault> for PlaceFault {
-    ghost use Rattle.std.specs.Prelude.{◌≡◌};
-    ghost use Rattle.placed_plan.specs.declared.fault.PlaceFault.TheVariants.{Memory};
-
-    ghost from_gives = { λ _ fault. fault ≡ Memory };
-
-    fn from(_: TableFault) -> PlaceFault {
-        PlaceFault::Memory
-    }
-}
-
 impl From<LineFault> for PlaceFault {
     ghost use Rattle.std.specs.Prelude.{◌≡◌};
     ghost use Rattle.placed_plan.specs.Private.Errors.{of_line};
@@ -99,17 +88,6 @@ impl From<LineFault> for PlaceFault {
             LineFault::Memory => PlaceFault::Memory,
             fault => PlaceFault::Line(fault),
         }
-    }
-}
-
-impl From<ArcFault> for PlaceFault {
-    ghost use Rattle.std.specs.Prelude.{◌≡◌};
-    ghost use Rattle.placed_plan.specs.declared.fault.PlaceFault.TheVariants.{Memory};
-
-    ghost from_gives = { λ _ fault. fault ≡ Memory };
-
-    fn from(_: ArcFault) -> PlaceFault {
-        PlaceFault::Memory
     }
 }
 
@@ -127,12 +105,33 @@ impl From<FileFault> for PlaceFault {
     }
 }
 
-/// Why there is no plan with these places and these registers.
+/// Why the result of a node cannot go over the bus that is given for it.
+#[derive(Debug, Clone, Copy, PartialEq, Eq, Drop, Error)]
+pub enum BusCause {
+    /// No node reads this one at the port.
+    #[error("no such transfer")]
+    NoTransfer,
+    /// The bus is not there, the unit of the node cannot drive it, or it does not lead to the port.
+    #[error("no such route")]
+    NoRoute,
+    /// A bus before it is given for the same transfer.
+    #[error("transfer twice")]
+    Twice,
+    /// The result of a node that is placed before takes it in the same cycle.
+    #[error("bus taken")]
+    Taken,
+}
+
+/// Why there is no plan with these places, these buses and these registers.
 #[derive(Debug, Clone, Copy, PartialEq, Eq, Drop, Error)]
 pub enum GivenPlanFault {
-    /// The places have none, whatever the registers are. `FileFull` and `Memory` never come in here.
+    /// The places have none with these buses, whatever the registers are. `FileFull` and `Memory` never come in here.
     #[error(transparent)]
     Place(PlaceFault),
+    /// The first of the given buses, by its number among them, over which its transfer cannot go. Where that is `Taken`,
+    /// as in `NoBus`: this bus is given for the transfer.
+    #[error("given bus {index}: {cause}")]
+    Bus { index: usize, cause: BusCause },
     /// Each node stands at its place, and the copies of lifetimes have no registers around those that are given. `Memory`
     /// never comes in here.
     #[error(transparent)]
@@ -149,6 +148,39 @@ impl From<AllocError> for GivenPlanFault {
     ghost from_gives = { λ _ fault. fault ≡ Memory };
 
     fn from(_: AllocError) -> GivenPlanFault {
+        GivenPlanFault::Memory
+    }
+}
+
+impl<T: Drop> From<AllocFailed<T>> for GivenPlanFault {
+    ghost use Rattle.std.specs.Prelude.{◌≡◌};
+    ghost use Rattle.placed_plan.specs.declared.fault.GivenPlanFault.TheVariants.{Memory};
+
+    ghost from_gives = { λ _ fault. fault ≡ Memory };
+
+    fn from(_: AllocFailed<T>) -> GivenPlanFault {
+        GivenPlanFault::Memory
+    }
+}
+
+impl From<TableFault> for GivenPlanFault {
+    ghost use Rattle.std.specs.Prelude.{◌≡◌};
+    ghost use Rattle.placed_plan.specs.declared.fault.GivenPlanFault.TheVariants.{Memory};
+
+    ghost from_gives = { λ _ fault. fault ≡ Memory };
+
+    fn from(_: TableFault) -> GivenPlanFault {
+        GivenPlanFault::Memory
+    }
+}
+
+impl From<ArcFault> for GivenPlanFault {
+    ghost use Rattle.std.specs.Prelude.{◌≡◌};
+    ghost use Rattle.placed_plan.specs.declared.fault.GivenPlanFault.TheVariants.{Memory};
+
+    ghost from_gives = { λ _ fault. fault ≡ Memory };
+
+    fn from(_: ArcFault) -> GivenPlanFault {
         GivenPlanFault::Memory
     }
 }

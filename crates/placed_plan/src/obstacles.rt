@@ -1,19 +1,24 @@
 //! What stands in the way of a node at a cycle.
 
-ghost use Rattle.std.specs.Prelude.{◌≡◌, ◌≢◌, ◌<◌, ◌≤◌, ℕ, [], false, length, All, IsTrue, IfErr, OnOk, MatchOption};
+ghost use Rattle.std.specs.Prelude.{◌≡◌, ◌<◌, ◌≤◌, ◌⊎◌, ℕ, length, All, IfOk, IfErr, MatchOption};
 ghost use Rattle.bus_alloc.specs.Table.{HasPort};
 ghost use Rattle.schedule_priority.specs.Parts.{nodes_of, IsSound};
 ghost use Rattle.list_schedule.specs.Placing.{slot_at, of_slots, last_cycle, IsReadyAt};
+ghost use Rattle.placed_plan.specs.Buses.{CanBeTaken};
 ghost use Rattle.placed_plan.specs.Causes.{IsFirstLate};
-ghost use Rattle.placed_plan.specs.Private.Placing.{HasTable, AreNodes, Fits, IsInTime, IsFileFreeOf, IsBlockade};
-ghost use Rattle.placed_plan.specs.Private.Placing.{IsShut};
+ghost use Rattle.placed_plan.specs.Private.Placing.{HasTable, IsInTime, IsItsBus, IsNoBus};
+ghost use Rattle.placed_plan.specs.Private.Placing.{GoesOver, IsBlockade, AreGoing, IsShut};
+ghost use Rattle.placed_plan.specs.declared.fault.GivenPlanFault.TheVariants.{Memory};
 
-use crate::fault::PlaceFault;
+use crate::bus::GivenBus;
+use crate::buses::given_for;
+use crate::fault::{BusCause, GivenPlanFault, PlaceFault};
 use crate::placing::Placing;
 use datapath::PortRef;
 use lists::List;
-use plan_core::{Slot, Transfers};
+use plan_core::{Slot, Transfer, Transfers};
 use schedule_priority::Problem;
+use std::alloc::Global;
 
 /// The first operand of node v of the same sample that is not there at the cycle, and the cycle from which it is there,
 /// where these are the slots of the nodes that are placed.
@@ -43,106 +48,106 @@ pub(crate) fn late_operand(
     None
 }
 
-/// Whether one of the transfers goes to the port.
-fn goes_to(transfers: &Transfers, port: PortRef) -> bool
-    ensures to { IsTrue result → All (λ transfer. transfer.port ≢ port) transfers.now → ⊥ }
-    ensures none { result ≡ false → All (λ transfer. transfer.port ≢ port) transfers.now }
-{
-    for transfer in transfers.as_slice() {
-        if transfer.port == port {
-            return true;
-        }
-    }
-    false
-}
-
-/// Whether a result of these nodes is written into the register file of the port in the cycle.
-fn is_written(
+/// The bus over which the result of node v, which is issued at the cycle, goes to the port, whose register file is not
+/// written: the one that is given, or else the first that is free.
+fn free_bus(
     problem: &Problem,
-    placed: &[u32],
-    slots: &List<Slot>,
-    cycle: u16,
-    port: PortRef,
-) -> bool
-    requires problem { IsSound problem.now }
-    requires placed { AreNodes problem.now.assigned.now placed.now }
-    requires count { length slots.now ≡ length (nodes_of problem.now) }
-    requires early { (x : ℕ) → (slot_at slots.now x).cycle ≤ last_cycle }
-    ensures written { IsTrue result → IsFileFreeOf problem.now.datapath.now problem.now.assigned.now slots.now
-        placed.now cycle port → ⊥ }
-    ensures free { result ≡ false → IsFileFreeOf problem.now.datapath.now problem.now.assigned.now slots.now
-        placed.now cycle port }
-{
-    for x in placed {
-        let node = *x as usize;
-        let slot = &slots[node];
-        let end = slot.cycle + u16::from(problem.latency(node)) - 1;
-        if end == cycle && goes_to(&slot.transfers, port) {
-            return true;
-        }
-    }
-    false
-}
-
-/// Why the result of node v, which is issued at the cycle, can't be transferred to the port.
-fn blockade(
-    problem: &Problem,
-    placed: &[u32],
+    buses: &[GivenBus],
     v: u32,
     cycle: u16,
     port: PortRef,
     placing: &Placing,
-) -> PlaceFault
+) -> Result<u8, GivenPlanFault>
     requires problem { IsSound problem.now }
-    requires placed { AreNodes problem.now.assigned.now placed.now }
+    requires can { CanBeTaken problem.now.datapath.now problem.now.assigned.now buses.now (length buses.now) }
     requires node { v < length (nodes_of problem.now) }
+    requires port { HasPort placing.now.table.datapath port }
     requires table { HasTable problem.now.datapath.now problem.now.assigned.now placing.now }
     requires in_time { IsInTime problem.now.datapath.now problem.now.assigned.now placing.now v cycle }
-    ensures { IsBlockade problem.now.datapath.now problem.now.assigned.now placing.now placed.now v cycle port result }
+    ensures bus { IfOk result (IsItsBus problem.now.datapath.now problem.now.assigned.now placing.now v cycle buses.now
+        port) }
+    ensures fault { IfErr result (IsNoBus problem.now.datapath.now problem.now.assigned.now placing.now v cycle
+        buses.now port) }
 {
     let end = cycle + u16::from(problem.latency(v as usize)) - 1;
-    if is_written(problem, placed, &placing.slots, end, port) {
-        PlaceFault::FileWritten {
-            unit: port.unit,
-            port: port.port,
-            node: v,
+    match given_for(buses, v, port) {
+        Some(index) => {
+            let bus = buses[index].bus;
+            if !placing.table.is_bus_free(bus, end) {
+                return Err(GivenPlanFault::Bus {
+                    index,
+                    cause: BusCause::Taken,
+                });
+            }
+            Ok(bus)
         }
-    } else {
-        PlaceFault::NoBus {
-            unit: port.unit,
-            port: port.port,
-            node: v,
-        }
+        None => match placing.table.first_bus(problem.unit(v as usize), port, end) {
+            Some(bus) => Ok(bus),
+            None => Err(GivenPlanFault::Place(PlaceFault::NoBus {
+                unit: port.unit,
+                port: port.port,
+                node: v,
+            })),
+        },
     }
 }
 
-/// Refuses ports to one of which the result of node v, which is issued at the cycle, can't be transferred. Its unit is
-/// free then.
-pub(crate) fn check_ports(
+/// The bus over which the result of node v, which is issued at the cycle, goes to the port.
+fn bus_for(
     problem: &Problem,
-    placed: &[u32],
+    buses: &[GivenBus],
+    v: u32,
+    cycle: u16,
+    port: PortRef,
+    placing: &Placing,
+) -> Result<u8, GivenPlanFault>
+    requires problem { IsSound problem.now }
+    requires can { CanBeTaken problem.now.datapath.now problem.now.assigned.now buses.now (length buses.now) }
+    requires node { v < length (nodes_of problem.now) }
+    requires port { HasPort placing.now.table.datapath port }
+    requires table { HasTable problem.now.datapath.now problem.now.assigned.now placing.now }
+    requires in_time { IsInTime problem.now.datapath.now problem.now.assigned.now placing.now v cycle }
+    ensures bus { IfOk result (GoesOver problem.now.datapath.now problem.now.assigned.now placing.now v cycle buses.now
+        port) }
+    ensures fault { IfErr result (IsBlockade problem.now.datapath.now problem.now.assigned.now placing.now v cycle
+        buses.now port) }
+{
+    let end = cycle + u16::from(problem.latency(v as usize)) - 1;
+    if !placing.table.is_file_free(port, end) {
+        return Err(GivenPlanFault::Place(PlaceFault::FileWritten {
+            unit: port.unit,
+            port: port.port,
+            node: v,
+        }));
+    }
+    free_bus(problem, buses, v, cycle, port, placing)
+}
+
+/// The transfers of the result of node v, which is issued at the cycle, to the ports.
+pub(crate) fn transfers_of(
+    alloc: Global,
+    problem: &Problem,
+    buses: &[GivenBus],
     v: u32,
     cycle: u16,
     ports: &[PortRef],
     placing: &Placing,
-) -> Result<(), PlaceFault>
+) -> Result<Transfers, GivenPlanFault>
     requires problem { IsSound problem.now }
-    requires placed { AreNodes problem.now.assigned.now placed.now }
+    requires can { CanBeTaken problem.now.datapath.now problem.now.assigned.now buses.now (length buses.now) }
     requires node { v < length (nodes_of problem.now) }
     requires ports { All (HasPort placing.now.table.datapath) ports.now }
     requires table { HasTable problem.now.datapath.now problem.now.assigned.now placing.now }
     requires in_time { IsInTime problem.now.datapath.now problem.now.assigned.now placing.now v cycle }
-    requires free { Fits problem.now.datapath.now problem.now.assigned.now placing.now v cycle [] }
-    ensures fits { OnOk result (Fits problem.now.datapath.now problem.now.assigned.now placing.now v cycle
-        ports.now) }
-    ensures fault { IfErr result (IsShut problem.now.datapath.now problem.now.assigned.now placing.now placed.now
-        v cycle ports.now) }
+    ensures transfers { IfOk result (AreGoing problem.now.datapath.now problem.now.assigned.now placing.now v cycle
+        buses.now ports.now) }
+    ensures fault { IfErr result (λ fault. (fault ≡ Memory)
+        ⊎ IsShut problem.now.datapath.now problem.now.assigned.now placing.now v cycle buses.now ports.now fault) }
 {
-    let unit = problem.unit(v as usize);
+    let mut transfers = Transfers::with_capacity(alloc, ports.len())?;
     for port in ports {
-        if !placing.table.fits(unit, cycle, &[*port]) {
-            return Err(blockade(problem, placed, v, cycle, *port, placing));
-        }
+        let bus = bus_for(problem, buses, v, cycle, *port, placing)?;
+        transfers.push(Transfer { port: *port, bus })?;
     }
-    Ok(())
+    Ok(transfers)
 }

@@ -11,18 +11,21 @@ ghost use Rattle.plan_core.specs.IsPlan.{IsPlan};
 ghost use Rattle.plan_core.specs.Lowered.{IsLowered};
 ghost use Rattle.plan_core.specs.Arcs.{IsUnroll};
 ghost use Rattle.placed_plan.specs.Places.{AreOnGivenUnits, IsPlanAt, IsGiven, IsNarrow};
-ghost use Rattle.placed_plan.specs.Faults.{IsPlaceFault};
+ghost use Rattle.placed_plan.specs.Faults.{IsTimeFault, IsPlaceFault};
 ghost use Rattle.placed_plan.specs.Private.Units.{IsMiscounted};
-ghost use Rattle.placed_plan.specs.GivenPlans.{HasRegisters, AreTimed, IsPlanGiven, IsGivenPlanFault};
-ghost use Rattle.placed_plan.specs.Private.Answers.{IsWhyUntimed, IsAnswer, IsWhyNoneGiven, IsGivenAnswer};
+ghost use Rattle.placed_plan.specs.GivenPlans.{HasBuses, HasRegisters, AreTimed, IsPlanGiven, IsGivenPlanFault};
+ghost use Rattle.placed_plan.specs.Private.Answers.{IsWhyUnassigned, IsWhyUntimed, IsAnswer, IsWhyNoneGiven};
+ghost use Rattle.placed_plan.specs.Private.Answers.{IsGivenAnswer};
+ghost use Rattle.placed_plan.specs.Private.Errors.{IsOfPlaces, IsPlaceOf};
 ghost use Rattle.placed_plan.specs.declared.fault.PlaceFault as of_fault;
 ghost use Rattle.placed_plan.specs.declared.fault.PlaceFault.TheVariants.{Memory};
 ghost use Rattle.placed_plan.specs.declared.fault.GivenPlanFault as of_given;
 ghost use Rattle.placed_plan.specs.declared.fault.GivenPlanFault.TheVariants.{Memory as GivenMemory};
 
+use crate::bus::GivenBus;
 use crate::fault::{GivenPlanFault, PlaceFault};
 use crate::place::Place;
-use crate::placing::schedule_at;
+use crate::placing::{Given, schedule_at};
 use crate::units::units_of;
 use cyclic_life::arcs;
 use datapath::Datapath;
@@ -61,7 +64,7 @@ fn assigned_at(
     requires sound { IsGraph graph }
     ensures lowered { IfOk result (λ assigned. IsLowered graph datapath.now assigned.lowered) }
     ensures units { IfOk result (AreOnGivenUnits places.now datapath.now) }
-    ensures fault { IfErr result (IsWhyUntimed graph datapath.now places.now) }
+    ensures fault { IfErr result (IsWhyUnassigned graph datapath.now places.now) }
 {
     let lowered = lower_owned(alloc, graph, datapath)?;
     check_count(lowered.nodes.len(), places.len())?;
@@ -79,27 +82,27 @@ pub(crate) struct Timed {
     pub unroll: u8,
 }
 
-/// The nodes of a graph at the places that are given, and their lifetimes.
+/// The nodes of a graph at the places and with the buses that are given, and their lifetimes.
 fn timed_at(
     alloc: Global,
     graph: Graph,
-    places: &[Place],
+    given: &Given,
     datapath: &Datapath,
-) -> Result<Timed, PlaceFault>
+) -> Result<Timed, GivenPlanFault>
     requires datapath { IsDatapath datapath.now }
     requires sound { IsGraph graph }
     requires loopless { IsGraphLoopless graph }
-    ensures timed { IfOk result (λ timed. AreTimed places.now graph datapath.now timed.assigned timed.schedule
-        timed.arcs) }
+    ensures timed { IfOk result (λ timed. AreTimed given.now.places.now given.now.buses.now graph datapath.now timed.assigned
+        timed.schedule timed.arcs) }
     ensures unroll { IfOk result (λ timed. IsUnroll timed.arcs timed.unroll) }
-    ensures fault { IfErr result (IsWhyUntimed graph datapath.now places.now) }
+    ensures fault { IfErr result (IsWhyUntimed graph datapath.now given.now.places.now given.now.buses.now) }
 {
-    let assigned = assigned_at(alloc, graph, places, datapath)?;
+    let assigned = assigned_at(alloc, graph, given.places, datapath)?;
     let problem = Problem {
         datapath,
         assigned: &assigned,
     };
-    let schedule = schedule_at(alloc, &problem, places)?;
+    let schedule = schedule_at(alloc, &problem, given)?;
     let arcs = arcs(alloc, &schedule, &assigned, datapath)?;
     let unroll = unroll(arcs.as_slice());
     Ok(Timed {
@@ -108,6 +111,40 @@ fn timed_at(
         arcs,
         unroll,
     })
+}
+
+/// The fault of places where no bus is given.
+fn place_fault(fault: GivenPlanFault) -> PlaceFault
+    requires { IsOfPlaces fault }
+    ensures { IsPlaceOf fault result }
+{
+    match fault {
+        GivenPlanFault::Place(fault) => fault,
+        GivenPlanFault::Memory => PlaceFault::Memory,
+        _ => unreachable!(),
+    }
+}
+
+/// The nodes of a graph at the places that are given, where no bus is.
+fn timed_alone(
+    alloc: Global,
+    graph: Graph,
+    places: &[Place],
+    datapath: &Datapath,
+) -> Result<Timed, PlaceFault>
+    requires datapath { IsDatapath datapath.now }
+    requires sound { IsGraph graph }
+    requires loopless { IsGraphLoopless graph }
+    ensures timed { IfOk result (λ timed. AreTimed places.now [] graph datapath.now timed.assigned timed.schedule
+        timed.arcs) }
+    ensures unroll { IfOk result (λ timed. IsUnroll timed.arcs timed.unroll) }
+    ensures fault { IfErr result (λ fault. (fault ≡ Memory) ⊎ IsTimeFault graph datapath.now places.now [] fault) }
+{
+    let given = Given { places, buses: &[] };
+    match timed_at(alloc, graph, &given, datapath) {
+        Ok(timed) => Ok(timed),
+        Err(fault) => Err(place_fault(fault)),
+    }
 }
 
 /// Plans a graph with the units and cycles that are given, pass by pass.
@@ -124,7 +161,7 @@ fn planned_at(
 {
     let inputs = List::from_slice(alloc, graph.inputs.as_slice())?;
     let outs = graph.outs;
-    let timed = timed_at(alloc, graph, places, datapath)?;
+    let timed = timed_alone(alloc, graph, places, datapath)?;
     let registers = allot(alloc, &timed.arcs, datapath)?;
     Ok(Plan {
         assigned: timed.assigned,
@@ -137,23 +174,23 @@ fn planned_at(
     })
 }
 
-/// The same with registers that are given.
+/// The same with buses and registers that are given.
 fn planned_given(
     alloc: Global,
     graph: Graph,
-    places: &[Place],
-    given: &[GivenRegister],
+    given: &Given,
+    registers: &[GivenRegister],
     datapath: &Datapath,
 ) -> Result<Plan, GivenPlanFault>
     requires datapath { IsDatapath datapath.now }
     requires sound { IsGraph graph }
     requires loopless { IsGraphLoopless graph }
-    ensures { IsGivenAnswer graph datapath.now places.now given.now result }
+    ensures { IsGivenAnswer graph datapath.now given.now.places.now given.now.buses.now registers.now result }
 {
     let inputs = List::from_slice(alloc, graph.inputs.as_slice())?;
     let outs = graph.outs;
-    let timed = timed_at(alloc, graph, places, datapath)?;
-    let registers = allot_around(alloc, &timed.arcs, given, datapath)?;
+    let timed = timed_at(alloc, graph, given, datapath)?;
+    let registers = allot_around(alloc, &timed.arcs, registers, datapath)?;
     Ok(Plan {
         assigned: timed.assigned,
         schedule: timed.schedule,
@@ -203,41 +240,47 @@ pub fn plan_at(
     planned_at(alloc, graph, places, datapath)
 }
 
-/// Plans a graph with the units and cycles that are given, as `plan_at` does, and with the registers that are given for
-/// copies of lifetimes. First fit finds the others around them. Page `docs/PLANNING.md`, "Plans from elsewhere".
+/// Plans a graph with the units and cycles that are given, as `plan_at` does, with the buses that are given for transfers
+/// of results, and with the registers that are given for copies of lifetimes. The other transfers go over the first buses
+/// that are free, and first fit finds the other registers. Page `docs/PLANNING.md`, "Plans from elsewhere".
 ///
 /// # Errors
 ///
-/// `Place` with what `plan_at` has but for `FileFull`; else `Registers` with the first given register, by its number, that
-/// its copy cannot have, or else with the first copy that is given none and finds none. `Memory` where no memory is left.
+/// `Place` with what `plan_at` has but for `FileFull`. `Bus` behind the faults of units with the first given bus, by its
+/// number, over which its transfer cannot go, whatever the cycles are; or in the place of `NoBus` where one is given for the
+/// transfer, and taken. Else `Registers` with the first given register, by its number, that its copy cannot have, or else
+/// with the first copy that is given none and finds none. `Memory` where no memory is left.
 pub fn plan_given(
     alloc: Global,
     graph: Graph,
     places: &[Place],
+    buses: &[GivenBus],
     registers: &[GivenRegister],
     datapath: &Datapath,
 ) -> Result<Plan, GivenPlanFault>
     requires datapath { IsDatapath datapath.now }
     requires sound { IsGraph graph }
     requires loopless { IsGraphLoopless graph }
-    ensures plan { IfOk result (IsPlanGiven places.now graph datapath.now registers.now) }
-    // It is feasible, whatever rule the places and the registers follow.
+    ensures plan { IfOk result (IsPlanGiven places.now buses.now graph datapath.now registers.now) }
+    // It is feasible, whatever rule the places, the buses and the registers follow.
     ensures feasible { IfOk result (IsFeasiblePlan graph datapath.now) }
     ensures routed { IfOk result (IsRouted datapath.now) }
     ensures narrow { IfOk result (IsNarrow datapath.now) }
     ensures given { IfOk result (IsGiven places.now) }
+    ensures buses { IfOk result (HasBuses buses.now) }
     ensures registers { IfOk result (HasRegisters registers.now) }
-    ensures fault { IfErr result (IsWhyNoneGiven graph datapath.now places.now registers.now) }
+    ensures fault { IfErr result (IsWhyNoneGiven graph datapath.now places.now buses.now registers.now) }
     // The one plan is always found, unless memory runs out.
-    ensures found { (p : of_plan.Plan) → IsPlanGiven places.now graph datapath.now registers.now p
+    ensures found { (p : of_plan.Plan) → IsPlanGiven places.now buses.now graph datapath.now registers.now p
         → (result ≡ Ok p) ⊎ (result ≡ Err GivenMemory) }
     // So is the first fault.
     ensures refused { (fault : of_given.GivenPlanFault)
-        → IsGivenPlanFault places.now graph datapath.now registers.now fault
+        → IsGivenPlanFault places.now buses.now graph datapath.now registers.now fault
         → (result ≡ Err fault) ⊎ (result ≡ Err GivenMemory) }
-    // Where no register is given, it is the plan that `plan_at` gives.
-    ensures ordinary { registers.now ≡ [] → (p : of_plan.Plan) → IsPlanAt places.now graph datapath.now p
-        → (result ≡ Ok p) ⊎ (result ≡ Err GivenMemory) }
+    // Where no bus and no register is given, it is the plan that `plan_at` gives.
+    ensures ordinary { buses.now ≡ [] → registers.now ≡ [] → (p : of_plan.Plan)
+        → IsPlanAt places.now graph datapath.now p → (result ≡ Ok p) ⊎ (result ≡ Err GivenMemory) }
 {
-    planned_given(alloc, graph, places, registers, datapath)
+    let given = Given { places, buses };
+    planned_given(alloc, graph, &given, registers, datapath)
 }

@@ -14,6 +14,7 @@ use Rattle.plan_core.specs.Operands.{node_of, Reads}
 use Rattle.plan_core.specs.Lowered.{IsLoweredOver}
 use Rattle.plan_core.specs.Heights.{latency_of}
 use Rattle.plan_core.specs.Stages.{IsGapAround, IsSameAround, IsLoadOf, AreStageArcs, written_around, read_around}
+use Rattle.plan_core.specs.ListSchedule.{AnyBus}
 use Rattle.plan_core.specs.ListSchedule.{slot_of, IsEarlier, AreOperandsThere, CanIssueOver}
 use Rattle.plan_core.specs.Arcs.{IsUnroll}
 use Rattle.plan_core.specs.FirstFit.{IsFirstFit}
@@ -106,7 +107,7 @@ module _ (g : Graph) (d : Datapath) (stages : ℕ) (places : List Place) (allowe
         → IsStageScheduleAt places stages d a z
         → s ≡ z
     same_schedule s z x y =
-        one_schedule_over IsAway IsSame end (AtPlaceAround places d a) d a (live_of d allowed) (alike a)
+        one_schedule_over IsAway IsSame end (AtPlaceAround places d a) d a AnyBus (live_of d allowed) (alike a)
         (operand_in d a problem) s z x y
 
     -- a node that is in its stages is so however its schedule is told
@@ -163,7 +164,7 @@ module _ (g : Graph) (d : Datapath) (stages : ℕ) (places : List Place) (allowe
         → IsStageScheduleAt places stages d a s
         → ⊥
     refuted Cause cannot v x s scheduled =
-        scheduled_not IsAway IsSame end (AtPlaceAround places d a) d a problem (alike a) s scheduled v
+        scheduled_not IsAway IsSame end (AtPlaceAround places d a) d a AnyBus problem (alike a) s scheduled v
         (without Cause cannot v x)
 
     late_not : (s : Schedule) (height : ℕ → ℕ) (v t : ℕ) → Can s height v t → IsLate stages d a s height v t → ⊥
@@ -566,7 +567,7 @@ module _ (g : Graph) (d : Datapath) (stages : ℕ) (places : List Place) (allowe
 
       agree : (u : ℕ) → IsEarlier a y.height v u → slot_of x.schedule u ≡ slot_of y.schedule u
       agree u r =
-          one_slot_over IsAway IsSame end (AtPlaceAround places d a) d a live (alike a) inside
+          one_slot_over IsAway IsSame end (AtPlaceAround places d a) d a AnyBus live (alike a) inside
           x.schedule y.schedule x.height y.height x.heights y.heights (IsEarlier a x.height v)
           (λ w z has e. earlier_trans a x.height v w z has e) (λ w there has. x.before w has)
           (λ w there has.
@@ -598,7 +599,7 @@ module _ (g : Graph) (d : Datapath) (stages : ℕ) (places : List Place) (allowe
         (v u : ℕ) (x : IsFirstUnplacedOver places stages d a C v) (y : IsFirstUnplacedOver places stages d a D u) where
       one_node : v ≡ u
       one_node =
-          one_without IsAway IsSame end (AtPlaceAround places d a) d a (problem a low on) (alike a) v u
+          one_without IsAway IsSame end (AtPlaceAround places d a) d a AnyBus (problem a low on) (alike a) v u
           (without a low on C no_c v x) (without a low on D no_d u y)
 
       at_one : IsFirstUnplacedOver places stages d a D v

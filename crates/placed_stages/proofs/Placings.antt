@@ -9,6 +9,7 @@ use Rattle.plan_core.specs.Assigned.{unit_in}
 use Rattle.plan_core.specs.Heights.{latency_of, AreHeights}
 use Rattle.plan_core.specs.Reservations.{FitsOver}
 use Rattle.plan_core.specs.Stages.{IsGapAround, IsSameAround}
+use Rattle.plan_core.specs.ListSchedule.{AnyBus}
 use Rattle.plan_core.specs.ListSchedule.{AreDestinations, IsDestination, IsEarlier, IsTakenBefore}
 use Rattle.plan_core.specs.declared.schedule.Assigned.{Assigned}
 use Rattle.plan_core.specs.declared.schedule.Schedule.{Schedule}
@@ -92,7 +93,7 @@ module _ (places : List Place) (staged : Staged) (is : IsSoundStaged staged) whe
     before : (x : ℕ) → IsEarlier a b.height v x → IsStagePlacedAt places staged.stages d a s b.height x
     before x e =
         let at =
-        over.earlier_index (IsGapAround d.period) (IsSameAround d.period) end Asks (MayAt places staged) d a
+        over.earlier_index (IsGapAround d.period) (IsSameAround d.period) end Asks (MayAt places staged) d a AnyBus
         is.problem short
         alike at_is order k p.slots p.table b k within x e in
         subst (IsStagePlacedAt places staged.stages d a s b.height) at.2 (b.each at.0 at.1)
@@ -122,6 +123,7 @@ module _ (places : List Place) (staged : Staged) (is : IsSoundStaged staged) whe
             unit = λ slot taken.
                 free.free slot
                 (over.taken_back (IsGapAround d.period) (IsSameAround d.period) end Asks (MayAt places staged) d a
+                 AnyBus
                 is.problem short alike at_is order k p.slots p.table b within s (λ x e. refl) u slot taken);
             files = λ port none. absurd (none_in port none);
             buses = λ port none. absurd (none_in port none);
@@ -137,7 +139,8 @@ module _ (places : List Place) (staged : Staged) (is : IsSoundStaged staged) whe
           FitsOver (IsGapAround d.period) (IsSameAround d.period) x (IsTaken p.table.placed) end (Contains []) u t)
           b.has.path free.fits in
           here.unit slot
-          (over.taken (IsGapAround d.period) (IsSameAround d.period) end Asks (MayAt places staged) d a is.problem short
+          (over.taken (IsGapAround d.period) (IsSameAround d.period) end Asks (MayAt places staged) d a AnyBus
+           is.problem short
           alike at_is order k p.slots p.table b within s (λ x e. refl) u slot before_it);
     }
 
@@ -148,7 +151,8 @@ module _ (places : List Place) (staged : Staged) (is : IsSoundStaged staged) whe
         → ((port : PortRef) → IsDestination a v port → HasTransferAround staged.stages d a s b.height v t port)
         → Fits staged p v t ports
     fits_all ports dests ends free all =
-        over.fits_to (IsGapAround d.period) (IsSameAround d.period) end Asks (MayAt places staged) d a is.problem short
+        over.fits_to (IsGapAround d.period) (IsSameAround d.period) end Asks (MayAt places staged) d a AnyBus is.problem
+        short
         alike at_is order k p.slots p.table b within s (λ x e. refl) ports dests u t (record {
           period = ends;
           unit = free.free;
@@ -209,7 +213,8 @@ module _ (places : List Place) (staged : Staged) (is : IsSoundStaged staged) whe
       (within : k < length items) where
     pub goes_on : (new : Placing) → Places places staged (nth items k) p new → ArePlaced places staged order (k + 1) new
     goes_on new h =
-        over.goes_on (IsGapAround d.period) (IsSameAround d.period) end Asks (MayAt places staged) d a is.problem short
+        over.goes_on (IsGapAround d.period) (IsSameAround d.period) end Asks (MayAt places staged) d a AnyBus is.problem
+        short
         alike at_is order items same k p.slots p.table b within new.slots new.table h
 
   pub all_placed : (order : List ℕ) (k : ℕ) (p : Placing)
@@ -217,5 +222,6 @@ module _ (places : List Place) (staged : Staged) (is : IsSoundStaged staged) whe
       → ArePlaced places staged order k p
       → IsStageScheduleAt places staged.stages d a (of_slots p.slots)
   all_placed order k p all b =
-      over.all_placed (IsGapAround d.period) (IsSameAround d.period) end Asks (MayAt places staged) d a is.problem short
+      over.all_placed (IsGapAround d.period) (IsSameAround d.period) end Asks (MayAt places staged) d a AnyBus
+      is.problem short
       alike at_is order k p.slots p.table all b

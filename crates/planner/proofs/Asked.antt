@@ -1,5 +1,6 @@
 -- What the passes ask of the lowered list of a sound graph without a delay-free loop.
 use Rattle.std.proofs.Common.{ℕ, ◌≤◌, List, arith}
+use Rattle.operations.specs.declared.units.PortRef.{PortRef}
 use Rattle.datapath.specs.Allowed.{IsDatapath}
 use Rattle.datapath.specs.declared.types.Datapath.{Datapath}
 use Rattle.signal_graph.specs.GraphSolves.{IsGraphLoopless}
@@ -7,7 +8,7 @@ use Rattle.signal_graph.specs.GraphRules.{IsGraph}
 use Rattle.signal_graph.specs.declared.graph.Graph.{Graph}
 use Rattle.plan_core.specs.Lowered.{IsLoweredOver}
 use Rattle.plan_core.specs.Reservations.{IsGapApart, IsOneCycle}
-use Rattle.plan_core.specs.ListSchedule.{IsListScheduleOver}
+use Rattle.plan_core.specs.ListSchedule.{IsListScheduleVia}
 use Rattle.plan_core.specs.Arcs.{IsArcs}
 use Rattle.plan_core.specs.declared.registers.Arc.{Arc}
 use Rattle.plan_core.specs.declared.schedule.Schedule.{Schedule}
@@ -57,11 +58,13 @@ module _ (g : Graph) (d : Datapath) (sound : IsGraph g) {hold spare : ℕ} where
       units = λ v there. (bound.right v there).kind.there;
     }
 
-    pub allottable : {Allows : Schedule → (height : ℕ → ℕ) → (v t : ℕ) → Type 0}
+    pub allottable :
+        {Allows : Schedule → (height : ℕ → ℕ) → (v t : ℕ) → Type 0}
+        {Leads : (v : ℕ) → Datapath → (u : ℕ) → PortRef → (b : ℕ) → Type 0}
         → IsDatapath d
         → AreOnRightUnits d a
         → (s : Schedule)
-        → IsListScheduleOver IsGapApart IsOneCycle d.period Allows d a s
+        → IsListScheduleVia IsGapApart IsOneCycle d.period Allows d a Leads s
         → (arcs : List Arc)
         → IsArcs d a s arcs
         → AreAllottable d arcs

@@ -9,6 +9,7 @@ use Rattle.std.proofs.Math.Nat.{mod-lt, mul-le-mul_right}
 use Rattle.operations.proofs.Ports.{enough_ports}
 use Rattle.operations.specs.Operations.{operands}
 use Rattle.operations.specs.Units.{ports}
+use Rattle.operations.specs.declared.units.PortRef.{PortRef}
 use Rattle.datapath.specs.Allowed.{IsDatapath, IsPort}
 use Rattle.datapath.specs.declared.types.Unit.{Unit as FunctionalUnit}
 use Rattle.datapath.specs.declared.types.Datapath.{Datapath}
@@ -20,7 +21,7 @@ use Rattle.plan_core.specs.Operands.{node_of, delay_at, Reads}
 use Rattle.plan_core.specs.Assigned.{unit_in, IsRightUnit}
 use Rattle.plan_core.specs.Heights.{latency_of}
 use Rattle.plan_core.specs.Reservations.{IsGapApart, IsOneCycle}
-use Rattle.plan_core.specs.ListSchedule.{ends, IsListScheduleOver}
+use Rattle.plan_core.specs.ListSchedule.{ends, IsListScheduleVia}
 use Rattle.plan_core.specs.Stages.{IsStageSchedule, written_around, read_around, AreStageArcs}
 use Rattle.plan_core.specs.Arcs.{read_cycle, IsArcOver, IsWrittenBefore, IsArcBefore, IsArcsOver, IsArcs}
 use Rattle.plan_core.specs.declared.registers.Arc.{Arc}
@@ -116,7 +117,8 @@ module _ (d : Datapath) (a : Assigned) (s : Schedule) (is : IsDatapath d)
 
   -- where one sample is in flight at a time, whatever else is asked of a cycle
   module _ {Allows : Schedule → (height : ℕ → ℕ) → (v t : ℕ) → Type 0}
-      (schedule : IsListScheduleOver IsGapApart IsOneCycle d.period Allows d a s) where
+      {Leads : (v : ℕ) → Datapath → (u : ℕ) → PortRef → (b : ℕ) → Type 0}
+      (schedule : IsListScheduleVia IsGapApart IsOneCycle d.period Allows d a Leads s) where
     written_in : (v : ℕ) → v < length a.lowered.nodes → ends d a s v < d.period
     written_in v there =
         let some = live v in

@@ -2,6 +2,7 @@
 use Rattle.std.specs.Prelude.{ℕ, ◌*◌, List, Option}
 use Rattle.operations.specs.declared.units.PortRef.{PortRef}
 use Rattle.datapath.specs.declared.types.Datapath.{Datapath}
+use Rattle.plan_core.specs.ListSchedule.{AnyBus}
 use Rattle.plan_core.specs.Stages.{IsGapAround, IsSameAround, IsInStage, IsWithoutStageOver}
 use Rattle.plan_core.specs.declared.schedule.Assigned.{Assigned}
 use Rattle.plan_core.specs.declared.schedule.Slot.{Slot}
@@ -30,22 +31,22 @@ module _ (staged : Staged) where
   abbrev pub IsFirstOpen : Placing → (v : ℕ) → List PortRef → Option ℕ → Type 0
   IsFirstOpen p v ports answer =
       IsFirstOpenOver (IsGapAround d.period) (IsSameAround d.period) (staged.stages * d.period)
-      (MayInStage staged.stages d a) d a p.slots p.table v ports answer
+      (MayInStage staged.stages d a) d a AnyBus p.slots p.table v ports answer
 
   abbrev pub Places : (v : ℕ) → (old new : Placing) → Type 0
   Places v old new =
       PlacesOver (IsGapAround d.period) (IsSameAround d.period) (staged.stages * d.period)
-      (MayInStage staged.stages d a) d a v old.slots old.table new.slots new.table
+      (MayInStage staged.stages d a) d a AnyBus v old.slots old.table new.slots new.table
 
   abbrev pub HasNoCycle : (v : ℕ) → Placing → Type 0
   HasNoCycle v p =
       HasNoCycleOver (IsGapAround d.period) (IsSameAround d.period) (staged.stages * d.period)
-      (MayInStage staged.stages d a) d a v p.slots p.table
+      (MayInStage staged.stages d a) d a AnyBus v p.slots p.table
 
   abbrev pub ArePlaced : (order : List ℕ) (k : ℕ) → Placing → Type 0
   ArePlaced order k p =
       ArePlacedOver (IsGapAround d.period) (IsSameAround d.period) (staged.stages * d.period)
-      (IsInStage staged.stages (Loads a) d a) d a order k p.slots p.table
+      (IsInStage staged.stages (Loads a) d a) d a AnyBus order k p.slots p.table
 
 -- the node of the fault is the first without a cycle; memory may run out at any time
 abbrev pub IsFault : Staged → PeriodFault → Type 0

@@ -1,4 +1,5 @@
 -- The fault of places that the fault of a pass comes to.
+use Rattle.std.specs.Prelude.{◌≡◌}
 use Rattle.delay_memory.specs.declared.fault.LineFault.{LineFault}
 use Rattle.delay_memory.specs.declared.fault.LineFault.TheVariants as line
 use Rattle.reg_alloc.specs.declared.fault.FileFault.{FileFault}
@@ -25,3 +26,15 @@ of_place fault = given.Place fault
 abbrev pub of_registers : RegisterFault → GivenPlanFault
 of_registers register.Memory = given.Memory
 of_registers fault = given.Registers fault
+
+-- a fault of the places, or out of memory
+abbrev pub IsOfPlaces : GivenPlanFault → Type 0
+IsOfPlaces (given.Place fault) = Unit {0}
+IsOfPlaces given.Memory = Unit {0}
+IsOfPlaces _ = ⊥
+
+-- it comes to this one
+abbrev pub IsPlaceOf : GivenPlanFault → PlaceFault → Type 0
+IsPlaceOf (given.Place fault) told = told ≡ fault
+IsPlaceOf given.Memory told = told ≡ Memory
+IsPlaceOf _ told = ⊥

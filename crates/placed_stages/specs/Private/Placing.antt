@@ -6,7 +6,7 @@ use Rattle.plan_core.specs.Hardware.{gap_on}
 use Rattle.plan_core.specs.Assigned.{unit_in}
 use Rattle.plan_core.specs.Heights.{latency_of}
 use Rattle.plan_core.specs.Stages.{IsGapAround, IsSameAround}
-use Rattle.plan_core.specs.ListSchedule.{AreDestinations}
+use Rattle.plan_core.specs.ListSchedule.{AreDestinations, AnyBus}
 use Rattle.plan_core.specs.declared.schedule.Assigned.{Assigned}
 use Rattle.plan_core.specs.declared.schedule.Slot.{Slot}
 use Rattle.bus_alloc.specs.Table.{FitsAtOver}
@@ -86,12 +86,13 @@ module _ (places : List Place) (staged : Staged) where
   abbrev pub Places : (v : ℕ) → (old new : Placing) → Type 0
   Places v old new =
       PlacesOver (IsGapAround (path_of staged).period) (IsSameAround (path_of staged).period) (end staged) MayAt
-      (path_of staged) (nodes_on staged) v old.slots old.table new.slots new.table
+      (path_of staged) (nodes_on staged) AnyBus v old.slots old.table new.slots new.table
 
   abbrev pub ArePlaced : (order : List ℕ) (k : ℕ) → Placing → Type 0
   ArePlaced order k p =
       ArePlacedOver (IsGapAround (path_of staged).period) (IsSameAround (path_of staged).period) (end staged)
-      (AtPlaceAround places (path_of staged) (nodes_on staged)) (path_of staged) (nodes_on staged) order k p.slots
+      (AtPlaceAround places (path_of staged) (nodes_on staged)) (path_of staged) (nodes_on staged) AnyBus order k
+      p.slots
       p.table
 
   -- node v cannot be issued in the cycle of its place

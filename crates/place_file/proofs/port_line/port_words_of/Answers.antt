@@ -1,10 +1,10 @@
-use Rattle.std.proofs.Common.{◌≡◌, refl, List, ℕ, drop}
+use Rattle.std.proofs.Common.{◌≡◌, drop}
 use Rattle.microcode_asm.specs.OperationText.{blank}
 use Rattle.place_file.specs.Lines.{parts_of, word_at}
-use Rattle.place_file.specs.Registers.{words_by}
+use Rattle.place_file.specs.PortLines.{words_by}
 use Rattle.place_file.specs.Private.Words.{words_left}
-use Rattle.place_file.proofs.RegisterLines.{next_left, word_left, same_words}
-use Rattle.place_file.proofs.register_line.register_words_of.Goals as goal
+use Rattle.place_file.proofs.PortLines.{next_left, word_left, same_words}
+use Rattle.place_file.proofs.port_line.port_words_of.Goals as goal
 
 pub returns : goal.returns
 returns c =
@@ -12,7 +12,7 @@ returns c =
     let ws = parts_of blank line in
     let head : c.next_word.result.0.now ≡ word_at line 0 = c.next_word.ensures.word in
     let left1 : words_left c.next_word.result.1 ≡ drop 1 ws = c.next_word.ensures.rest in
-    let register : c.next_word-2.result.0.now ≡ word_at line 1 =
+    let told : c.next_word-2.result.0.now ≡ word_at line 1 =
     word_left ws (words_left c.next_word.result.1) 1 left1 c.next_word-2.result.0.now c.next_word-2.ensures.word in
     let left2 : words_left c.next_word-2.result.1 ≡ drop 2 ws =
     next_left ws (words_left c.next_word.result.1) 1 left1 (words_left c.next_word-2.result.1)
@@ -54,4 +54,4 @@ returns c =
     c.next_word-9.ensures.rest in
     let copy : c.next_word-10.result.0.now ≡ word_at line 9 =
     word_left ws (words_left c.next_word-9.result.1) 9 left9 c.next_word-10.result.0.now c.next_word-10.ensures.word in
-    same_words _ (words_by line) head register unit_label unit port_label port node_label node copy_label copy
+    same_words _ (words_by line) head told unit_label unit port_label port node_label node copy_label copy

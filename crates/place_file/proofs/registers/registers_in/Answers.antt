@@ -1,6 +1,7 @@
 use Rattle.std.proofs.Common.{◌≡◌, ◌⊎◌, ◌∙◌, ◌+◌, inl, inr, ap, sym, subst₂, arith, rules, Ok, Err, ℕ, List}
 use Rattle.place_file.specs.Lines.{lines_of}
-use Rattle.place_file.specs.Registers.{words_by, IsRegistersFault}
+use Rattle.place_file.specs.PortLines.{words_by}
+use Rattle.place_file.specs.Registers.{IsRegistersFault}
 use Rattle.place_file.specs.Private.Words.{lines_left}
 use Rattle.place_file.specs.declared.registers.GivenRegisters.{GivenRegisters}
 use Rattle.place_file.specs.declared.fault.RegistersFault.TheVariants.{Memory}

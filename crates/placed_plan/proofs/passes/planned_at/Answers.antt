@@ -1,4 +1,4 @@
-use Rattle.std.proofs.Common.{◌∙◌, rules}
+use Rattle.std.proofs.Common.{◌∙◌, rules, []}
 use Rattle.placed_plan.specs.Private.Errors.{of_file}
 use Rattle.placed_plan.proofs.OneFault.{allottable_at}
 use Rattle.placed_plan.proofs.PlansAt.{told, answers, finds, whole, time_fails, file_fails}
@@ -8,7 +8,7 @@ pub allot-requires-clause-allottable : goal.allot-requires-clause-allottable
 allot-requires-clause-allottable c =
     let timed = c.in_ok-timed.timed in
     let are = c.in_ok-timed.ensures.timed in
-    allottable_at c.args.graph c.args.datapath.now c.args.places.now c.requires.datapath c.requires.sound
+    allottable_at c.args.graph c.args.datapath.now c.args.places.now [] c.requires.datapath c.requires.sound
     c.requires.loopless timed.assigned are.lowered are.units timed.schedule timed.arcs are.schedule are.arcs_are
 
 pub returns-in_err-timed : goal.returns-in_err-timed

@@ -1,0 +1,1 @@
+use Rattle.placed_plan.proofs.obstacles.transfers_of.Goals as goal
