@@ -1,1 +1,0 @@
-use Rattle.placed_plan.proofs.obstacles.transfers_of.Goals as goal
