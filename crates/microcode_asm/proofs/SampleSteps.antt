@@ -36,15 +36,12 @@ use Rattle.microcode_asm.specs.Private.Words.{AreTakesTo, IsIssued, IsEnded, IsW
 use Rattle.bucket_sort.specs.declared.Buckets.{Buckets}
 use Rattle.microcode_asm.proofs.Dealt.{AreThings}
 use Rattle.bucket_sort.proofs.Linked.{next_after}
+use Rattle.plan_soundness.proofs.SomeWord.{in_mapped}
+use Rattle.plan_soundness.proofs.Accumulator.{one_pair}
 use Rattle.microcode_asm.proofs.Linked.{first_reached, next_reached, all_reached}
 use Rattle.microcode_asm.proofs.BusSteps.{drives_rise}
 use Rattle.microcode_asm.proofs.IssueSteps.{read_at, arc_is, unit_is, register_is, register_room}
-use Rattle.microcode_asm.proofs.OrderSteps.{one_rises}
 use Rattle.microcode_asm.proofs.PlanFacts.{at_index, latency_some}
-
-pub in_mapped : {A B : Type 0} (f : A → B) (xs : List A) (x : A) → Contains xs x → Contains (map f xs) (f x)
-in_mapped f xs x (k, below, is) =
-    (k, omega (arith, below, length-map xs f), get_or-map f xs k x (f x) below ∙ ap f is)
 
 pub from_mapped : {A B : Type 0} (f : A → B) (xs : List A) (y : B) (default : A)
     → Contains (map f xs) y
@@ -159,7 +156,7 @@ module _ {o : Overlap} {hold spare : ℕ} (d : Datapath) (p : Plan) (ready : IsR
           (next_after cycle_in d.period (length order) by links m next below after) (record {
             has = (issue, Contains-append_right issues (issue ∷ []) issue (in_head issue []), is-m);
             of = λ a among. subst (IsIssue m) (is_one issue a among) is-m;
-            rise = one_rises IssueBefore issue;
+            rise = one_pair IssueBefore issue;
           }) to
         where
           is-m : IsIssue m issue
@@ -461,7 +458,7 @@ module _ {o : Overlap} {hold spare : ℕ} (d : Datapath) (p : Plan) (ready : IsR
               subst (Contains (takes ++ take ∷ [])) (one_take m take transfer is of)
               (Contains-append_right takes (take ∷ []) take (in_head take []));
           of = λ a among. subst (λ take. IsTakeFor p m n take) (is_one take a among) is;
-          rise = one_rises TakeBefore take;
+          rise = one_pair TakeBefore take;
         }) to
       where
         things : AreThings written_in TakesIn (λ k take. IsTakeFor p k n take) TakeBefore m

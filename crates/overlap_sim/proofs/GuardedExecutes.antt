@@ -10,7 +10,7 @@ use Rattle.std.specs.Prelude.{pos, ◌-ℤ◌, ◌+ℤ◌}
 use Rattle.std.proofs.lemmas.Bool.{cases_lt, eq-eqb, le-leb, leb-true}
 use Rattle.std.proofs.lemmas.Nat.{div-mul-add}
 use Rattle.std.proofs.lemmas.Int.{ints}
-use Rattle.std.proofs.Math.Nat.{mod-lt, mod-zero, mod-mod, mod-add-mod, mul-add-mod_self_right, mod-eq_of_lt, add-mul}
+use Rattle.std.proofs.Math.Nat.{mod-lt, mod-zero, mod-mod, mod-add-mod, mod-eq_of_lt, add-mul}
 use Rattle.std.proofs.Math.Nat.{mod-mod_of_dvd, dvd_of_mod-eq-zero, add-mul-mod_self_right, mul-le-mul_left}
 use Rattle.fix_word.specs.declared.operation.Op.{Op}
 use Rattle.fix_word.specs.declared.operation.Op.TheVariants as op
@@ -35,10 +35,9 @@ use Rattle.plan_soundness.specs.Feasible.{IsFeasibleOver}
 use Rattle.plan_soundness.specs.Executes.{ExecutesOver, IsIssueIn, IsTakeIn, IsEnableOf}
 use Rattle.plan_soundness.specs.Private.Cells.{cell_in}
 use Rattle.plan_soundness.proofs.Elements.{Contains-from_In, nth_past, found, find_among}
-use Rattle.plan_soundness.proofs.FromImage.{is_number, in_word}
+use Rattle.plan_soundness.proofs.FromImage.{is_number, pairs_then, enables_differ, takes_differ, word_number}
 use Rattle.plan_soundness.proofs.Lines.{cancel, addr-cell}
 use Rattle.plan_soundness.proofs.Samples.{split}
-use Rattle.plan_soundness.proofs.Spans.{sample_start}
 use Rattle.plan_soundness.proofs.Writes.{in_turn}
 use Rattle.overlap_sim.specs.declared.guarded.Guarded.{Guarded}
 use Rattle.overlap_sim.specs.declared.guarded.GuardedWord.{GuardedWord}
@@ -104,16 +103,6 @@ module _ {A : Type 0} (sample : ℕ) where
   is_due (y ∷ xs) part in' = due_by y xs part (nat_le y.stage sample) refl (is_due xs part) in'
 
 -- Numbers.
-
--- cycle c of sample n obeys the word of cycle c of sample n mod unroll
-word_number : (n c q u : ℕ) → 0 < u → c < q → (n * q + c) % (u * q) ≡ n % u * q + c
-word_number n c q u some below =
-    ap (λ m. m % (u * q)) (join (sample_start n u q))
-    ∙ mul-add-mod_self_right (n / u) (u * q) (n % u * q + c)
-    ∙ mod-eq_of_lt (in_word n c q u some below)
-  where
-    join : n * q ≡ n / u * (u * q) + n % u * q → n * q + c ≡ n / u * (u * q) + (n % u * q + c)
-    join e = omega arith
 
 -- samples that are so many words apart use one copy
 turn_of : (n shift unroll copies : ℕ) → unroll % copies ≡ 0 → (n % unroll + shift) % copies ≡ (n + shift) % copies
@@ -196,19 +185,6 @@ pub arg_address : (o : Op) (d : Datapath) (p : Plan) (v : ℕ)
     ≡ int_rem_euclid ((node_at p v).arg +ℤ pos (stage_of d (cycle_at p v)))
     (pos (cells_on d (tie_of d (unit_at p v))))
 arg_address o d p v is = ap (λ o. arg_by o d p v) is
-
-pairs_then : {A : Type 0} {R S : A → A → Type 0} (xs : List A)
-    → ((x y : A) → R x y → S x y)
-    → AllPairs R xs
-    → AllPairs S xs
-pairs_then xs f pairs j k default less below = f _ _ (pairs j k default less below)
-
-enables_differ : (a b : Enable) → EnableBefore a b → a.unit ≡ b.unit → a.bus ≡ b.bus → ⊥
-enables_differ a b before unit bus = omega (arith, before, unit, bus)
-
-takes_differ : (a b : Take) → TakeBefore a b → a.port ≡ b.port → a.bus ≡ b.bus → a.reg ≡ b.reg → ⊥
-takes_differ a b before port bus reg =
-    omega (arith, before, ap (λ port. port.unit) port, ap (λ port. port.port) port, bus, reg)
 
 -- the offsets of addresses are natural numbers
 abbrev pub HasOffsets : Plan → Type 0

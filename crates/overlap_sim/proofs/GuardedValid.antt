@@ -1,15 +1,12 @@
 -- The guarded image of a plan is a valid image without its stages.
-use Rattle.std.proofs.Common.{◌≡◌, ℕ, ◌+◌, ◌-◌, ◌*◌, ◌/◌, ◌%◌, ◌^◌, ◌<◌, ◌≤◌, ◌==◌, ◌⊎◌, inl, inr, ⊎_elim}
-use Rattle.std.proofs.Common.{refl, sym, ap, ◌∙◌, subst, arith, Bool, true, false, List, [], length}
-use Rattle.std.proofs.Common.{slice_index_or, map, All, Option, Some, None, ℤ, pos}
-use Rattle.std.specs.Prelude.{slice_get, find, IsSomeAnd, neg_ℤ, ◌≤ℤ◌, ◌<ℤ◌, int_le, int_lt}
-use Rattle.std.proofs.lemmas.Int.{ints}
+use Rattle.std.proofs.Common.{◌≡◌, ℕ, ◌+◌, ◌-◌, ◌*◌, ◌/◌, ◌%◌, ◌<◌, ◌≤◌, ⊎_elim}
+use Rattle.std.proofs.Common.{sym, ap, ◌∙◌, subst, arith, Bool, List, [], length}
+use Rattle.std.proofs.Common.{slice_index_or, map, ℤ, pos}
+use Rattle.std.specs.Prelude.{slice_get, IsSomeAnd}
 use Rattle.std.proofs.lemmas.List.{get_or-map, length-map, nil_from_length}
 use Rattle.std.proofs.lemmas.Option.{slice_get-get_or}
 use Rattle.std.proofs.Math.Nat.{mod-lt}
-use Rattle.fix_word.specs.Words.{IsWord, IsMachineWord}
-use Rattle.fix_word.proofs.Wraps.{word_wider}
-use Rattle.fix_word.specs.declared.types.SigType.{SigType}
+use Rattle.fix_word.specs.Words.{IsMachineWord}
 use Rattle.fix_word.specs.declared.types.SigType.TheVariants as sig
 use Rattle.operations.specs.declared.units.Kind.TheVariants as kind
 use Rattle.operations.specs.declared.units.PortRef.{PortRef}
@@ -18,77 +15,27 @@ use Rattle.datapath.specs.declared.types.Datapath.{Datapath}
 use Rattle.datapath.specs.declared.types.Unit as of_unit
 use Rattle.datapath.proofs.DescribedKeys.{some_at}
 use Rattle.signal_graph.specs.GraphRules.{IsGraph}
-use Rattle.signal_graph.specs.Rules.{IsType, word_before, word_or_zero}
-use Rattle.signal_graph.specs.declared.graph.Node.{Node}
 use Rattle.signal_graph.specs.declared.graph.Graph.{Graph}
-use Rattle.signal_graph.proofs.Members.{found_member}
 use Rattle.plan_core.specs.Arcs.{IsCount}
 use Rattle.plan_core.specs.Hardware.{unit_of, no_unit, port_of}
-use Rattle.plan_core.specs.Lowered.{Origin, own, address, store, load, IsNumber, IsOwnOver, IsAddress, IsStore, IsLoad}
-use Rattle.plan_core.specs.Operands.{node_of}
 use Rattle.plan_core.specs.declared.plan.Plan.{Plan}
 use Rattle.micro_image.specs.declared.image.UnitDesc.{UnitDesc}
 use Rattle.micro_image.specs.Fields.{nth, no_unit as no_desc}
 use Rattle.micro_image.specs.Log.{Register, Cell, initial}
 use Rattle.micro_image.specs.Valid as valid
-use Rattle.plan_soundness.specs.Parts.{nodes_of, node_at, line_at}
+use Rattle.plan_soundness.specs.Parts.{line_at}
 use Rattle.plan_soundness.specs.Machine.{IsMachine}
 use Rattle.plan_soundness.specs.ImageOf.{IsUnitOf, IsPreloadOfOver, IsCellPreload, width_of}
 use Rattle.plan_soundness.specs.Feasible.{IsFeasibleOver, IsFeasiblePlanOver}
 use Rattle.plan_soundness.proofs.Elements.{default_any}
-use Rattle.plan_soundness.proofs.FromLowered.{made_at, made_as, own_below, graph_node}
-use Rattle.plan_soundness.proofs.FromRules.{all_at}
 use Rattle.plan_soundness.proofs.Samples.{below_count, split}
+use Rattle.plan_soundness.proofs.Valid.{zero_word, word_cases, width_small, word_of_node}
 use Rattle.overlap_sim.specs.declared.guarded.Guarded.{Guarded}
 use Rattle.overlap_sim.specs.Guarded.{no_guarded, of_guarded, unguarded, unguarded_word}
 use Rattle.overlap_sim.specs.GuardedOf.{overlap_of, IsStagedWordOf, IsGuardedOf}
 use Rattle.overlap_sim.proofs.GuardedValidWords.{valid_word, file_count, file_length, inputs_are, outs_are}
 
 -- Words.
-
-zero_word : IsMachineWord (pos 0)
-zero_word = record { low = omega (arith, ints); high = omega (arith, ints) }
-
-low_cases : (m z : ℤ) → (m ≤ℤ z) ⊎ (m ≤ℤ z → ⊥)
-low_cases m z = by (int_le m z) refl
-  where
-    by : (b : Bool) → int_le m z ≡ b → (m ≤ℤ z) ⊎ (m ≤ℤ z → ⊥)
-    by true e = inl (grind (arith, ints, e))
-    by false e = inr (λ le. grind (arith, ints, e, le))
-
-high_cases : (z m : ℤ) → (z <ℤ m) ⊎ (z <ℤ m → ⊥)
-high_cases z m = by (int_lt z m) refl
-  where
-    by : (b : Bool) → int_lt z m ≡ b → (z <ℤ m) ⊎ (z <ℤ m → ⊥)
-    by true e = inl (grind (arith, ints, e))
-    by false e = inr (λ less. grind (arith, ints, e, less))
-
--- a number is a word of a register or not
-word_cases : (z : ℤ) → IsMachineWord z ⊎ (IsMachineWord z → ⊥)
-word_cases z =
-    ⊎_elim
-    (λ low.
-    ⊎_elim (λ high. inl (record { low = low; high = high })) (λ never. inr (λ is. never is.high))
-    (high_cases z (pos (2 ^ 39))))
-    (λ never. inr (λ is. never is.low))
-    (low_cases (neg_ℤ (pos (2 ^ 39))) z)
-
--- initial values are words
-init_word : (inits : List (ℕ × ℤ)) (w k : ℕ)
-    → w ≤ 40
-    → All (λ (i : ℕ × ℤ). IsWord w i.1) inits
-    → IsMachineWord (word_before inits k)
-init_word inits w k most all = by (find (λ (i : ℕ × ℤ). i.0 == k) inits) refl
-  where
-    by : (o : Option (ℕ × ℤ)) → find (λ (i : ℕ × ℤ). i.0 == k) inits ≡ o → IsMachineWord (word_or_zero o)
-    by None e = zero_word
-    by (Some i) e =
-        word_wider w 40 i.1 most
-        (all_at (λ (i : ℕ × ℤ). IsWord w i.1) inits i all (found_member (λ (i : ℕ × ℤ). i.0 == k) inits i e))
-
-width_small : (t : SigType) → IsType t → width_of t ≤ 40
-width_small (sig.Fix t) is = is.width.widest
-width_small sig.Bool is = omega arith
 
 module _ (stages : ℕ) (g : Graph) (d : Datapath) (p : Plan) (sound : IsGraph g) (machine : IsMachine d)
     (plan : IsFeasiblePlanOver (overlap_of stages) 0 stages g d p) (guarded : Guarded)
@@ -98,34 +45,6 @@ module _ (stages : ℕ) (g : Graph) (d : Datapath) (p : Plan) (sound : IsGraph g
 
   abbrev described : ℕ → UnitDesc
   described u = nth guarded.units u no_desc
-
-  no_inits : (inits : List (ℕ × ℤ)) (k : ℕ) → inits ≡ [] → IsMachineWord (word_before inits k)
-  no_inits inits k e = subst (λ inits. IsMachineWord (word_before inits k)) (sym e) zero_word
-
-  word_of_node : (i k : ℕ) → i < length (nodes_of p) → IsMachineWord (word_before (node_at p i).inits k)
-  word_of_node i k in-i =
-      let at = made_at g d p sound plan.lowered plan.assigned i in-i in by at.origin at.number
-    where
-      by : (o : Origin) → IsNumber plan.lowered.delays o i → IsMachineWord (word_before (node_at p i).inits k)
-      by (own v) number =
-          let made : IsOwnOver g d p.assigned.lowered plan.lowered.delays 0 v (node_at p i) =
-          made_as g d p sound plan.lowered plan.assigned (own v) i number in
-          let node = graph_node g d p sound plan.lowered plan.assigned v
-          (own_below g d p sound plan.lowered plan.assigned v i number) in
-          subst (λ inits. IsMachineWord (word_before inits k)) (sym (ap (λ (node : Node). node.inits) made.rest))
-          (init_word (node_of g.nodes v).inits (node_of g.nodes v).width k node.width.widest node.inits.words)
-      by (address v ago) number =
-          let made : IsAddress g d p.assigned.lowered plan.lowered.delays v ago (node_at p i) =
-          made_as g d p sound plan.lowered plan.assigned (address v ago) i number in
-          no_inits _ k (ap (λ (node : Node). node.inits) made.is)
-      by (store v) number =
-          let made : IsStore g d p.assigned.lowered plan.lowered.delays v (node_at p i) =
-          made_as g d p sound plan.lowered plan.assigned (store v) i number in
-          no_inits _ k (ap (λ (node : Node). node.inits) made.is)
-      by (load v ago) number =
-          let made : IsLoad g d p.assigned.lowered plan.lowered.delays v ago (node_at p i) =
-          made_as g d p sound plan.lowered plan.assigned (load v ago) i number in
-          no_inits _ k (ap (λ (node : Node). node.inits) made.is)
 
   -- a register keeps no word of before sample 0
   no_preload : (port : PortRef) (reg k i ago : ℕ) → IsPreloadOfOver (overlap_of stages) d p port reg k i ago → ⊥
@@ -148,7 +67,7 @@ module _ (stages : ℕ) (g : Graph) (d : Datapath) (p : Plan) (sound : IsGraph g
       absurd (never (subst IsMachineWord
       (sym (is.starts.other_cell ram cell (λ l ago (of : IsCellPreload p ram cell l ago).
       never (subst IsMachineWord (sym (is.starts.cell ram cell l ago of))
-      (word_of_node (line_at p l).node ago (feasible.memory.lines l of.there).node)))))
+      (word_of_node g d p sound plan.lowered plan.assigned (line_at p l).node ago (feasible.memory.lines l of.there).node)))))
       zero_word)))
       (word_cases (initial (of_guarded guarded) (Cell ram cell)))
 

@@ -1,26 +1,22 @@
 -- The guarded words of a plan are valid without their stages.
-use Rattle.std.proofs.Common.{◌≡◌, ℕ, zero, suc, ◌+◌, ◌-◌, ◌*◌, ◌%◌, ◌<◌, ◌≤◌, inl, inr, ⊎_elim, refl, sym, ap, ap₂}
-use Rattle.std.proofs.Common.{◌∙◌, subst, arith, List, [], ◌∷◌, length, slice_index_or, map, All, Contains, ℤ, pos}
-use Rattle.std.specs.Prelude.{slice_get, IsSomeAnd, ◌+ℤ◌}
+use Rattle.std.proofs.Common.{◌≡◌, ℕ, ◌+◌, ◌-◌, ◌*◌, ◌%◌, ◌<◌, ◌≤◌, ⊎_elim, refl, sym, ap}
+use Rattle.std.proofs.Common.{◌∙◌, subst, arith, List, [], ◌∷◌, length, slice_index_or, Contains, ℤ, pos}
+use Rattle.std.specs.Prelude.{◌+ℤ◌}
 use Rattle.std.specs.Int.{int_rem_euclid}
-use Rattle.std.specs.List.{AllPairs}
-use Rattle.std.specs.List.Sorted.{IsStrictlyIncreasing}
 use Rattle.std.proofs.lemmas.Bool.{cases_lt}
 use Rattle.std.proofs.lemmas.List.{get_or-map, length-map}
-use Rattle.std.proofs.lemmas.Option.{slice_get-get_or}
 use Rattle.std.proofs.Math.Nat.{mod-lt}
 use Rattle.operations.proofs.Ports.{few_ports}
-use Rattle.fix_word.specs.declared.types.Format.{Format}
 use Rattle.fix_word.specs.declared.operation.Op.{Op}
 use Rattle.fix_word.specs.declared.operation.Op.TheVariants as op
 use Rattle.operations.specs.declared.units.PortRef.{PortRef}
 use Rattle.datapath.specs.Allowed as path
 use Rattle.datapath.specs.declared.types.Datapath.{Datapath}
-use Rattle.signal_graph.specs.GraphRules.{IsGraph, IsNodeFormat, IsArgument as IsNodeArgument}
+use Rattle.signal_graph.specs.GraphRules.{IsGraph}
 use Rattle.signal_graph.specs.Operations.{IsOfGraphs, class_of}
 use Rattle.signal_graph.specs.declared.graph.Node.{Node}
 use Rattle.signal_graph.specs.declared.graph.Graph.{Graph}
-use Rattle.plan_core.specs.Hardware.{unit_of, no_unit, file_size, cells_on, tie_of, port_of}
+use Rattle.plan_core.specs.Hardware.{unit_of, no_unit, file_size, cells_on, tie_of}
 use Rattle.plan_core.specs.Operands.{node_of}
 use Rattle.plan_core.specs.Lowered.{Origin, own, address, store, load, IsNumber, IsOwnOver, IsAddress, IsStore, IsLoad}
 use Rattle.plan_core.specs.declared.schedule.Transfer.{Transfer}
@@ -41,7 +37,9 @@ use Rattle.plan_soundness.specs.Overlap.{shift_of}
 use Rattle.plan_soundness.specs.Feasible.{IsFeasibleOver, IsFeasiblePlanOver}
 use Rattle.plan_soundness.proofs.Elements.{default_any, nth_past}
 use Rattle.plan_soundness.proofs.FromLowered.{made_at, made_as, own_below, graph_node}
-use Rattle.plan_soundness.proofs.ValidWords.{most_takes}
+use Rattle.plan_soundness.proofs.ValidWords.{most_takes, few, rising_units, some_at, argument_for, adjacent}
+use Rattle.plan_soundness.proofs.ValidWords.{format_by, argument_by, enable_number, take_number, in_file, some_register}
+use Rattle.plan_soundness.proofs.ValidWords.{made_format}
 use Rattle.microcode_asm.proofs.IssueSteps.{copy_in_turn}
 use Rattle.microcode_asm.proofs.SampleSteps.{from_mapped}
 use Rattle.overlap_sim.specs.declared.guarded.Guarded.{Guarded}
@@ -50,7 +48,6 @@ use Rattle.overlap_sim.specs.declared.guarded.Staged.{Staged}
 use Rattle.overlap_sim.specs.Guarded.{unguarded, unguarded_word, whole}
 use Rattle.overlap_sim.specs.GuardedOf.{overlap_of, stage_of, arg_by, IsStagedIssueOf, IsStagedWordOf, IsGuardedOf}
 use Rattle.overlap_sim.proofs.GuardedExecutes.{arg_other, arg_address}
-use Rattle.overlap_sim.proofs.ObeyedWords.{neighbours}
 use Rattle.overlap_sim.proofs.StageFacts.{tied}
 
 -- the staged part that a part is of
@@ -62,97 +59,10 @@ part_of {A = A} (x ∷ xs) part among = from_mapped (λ (s : Staged A). s.part) 
 
 -- Lists that rise.
 
-rises_past : {A : Type 0} (f : A → ℕ) (xs : List A) (default : A)
-    → AllPairs (λ a b. f a < f b) xs
-    → (k : ℕ)
-    → k < length xs
-    → k ≤ f (slice_index_or xs k default)
-rises_past f xs default rise zero below = omega arith
-rises_past f xs default rise (suc k) below =
-    let step = rise k (suc k) default (omega arith) below in
-    omega (arith, step, rises_past f xs default rise k (omega (arith, below)))
-
--- as many numbers below n as rise are at most n
-few : {A : Type 0} (f : A → ℕ) (n : ℕ) (xs : List A)
-    → AllPairs (λ a b. f a < f b) xs
-    → All (λ a. f a < n) xs
-    → length xs ≤ n
-few f n [] rise below = omega arith
-few f n (x ∷ xs) rise below =
-    let last : f (slice_index_or (x ∷ xs) (length xs) x) < n = below (length xs) x (omega arith) in
-    omega (arith, last, rises_past f (x ∷ xs) x rise (length xs) (omega arith))
-
 abbrev number : Issue → ℕ
 number issue = issue.unit
 
-rising_units : (issues : List Issue)
-    → AllPairs (λ (a b : Issue). a.unit < b.unit) issues
-    → IsStrictlyIncreasing (map (λ issue. issue.unit) issues)
-rising_units [] rise k below = absurd (omega (arith, below))
-rising_units (first ∷ issues) rise k below =
-    let count : length (map number (first ∷ issues)) ≡ length (first ∷ issues) = length-map (first ∷ issues) number in
-    let step = rise k (k + 1) first (omega arith) (omega (arith, below, count)) in
-    let here = get_or-map number (first ∷ issues) k first 0 (omega (arith, below, count)) in
-    let next = get_or-map number (first ∷ issues) (k + 1) first 0 (omega (arith, below, count)) in
-    let rises : slice_index_or (map number (first ∷ issues)) k 0
-    < slice_index_or (map number (first ∷ issues)) (k + 1) 0 = omega (arith, step, here, next) in
-    rises
-
--- what holds of the element at an index holds of what is there
-some_at : {A : Type 0} (P : A → Type 0) (xs : List A) (k : ℕ) (default : A)
-    → k < length xs
-    → P (slice_index_or xs k default)
-    → IsSomeAnd (slice_get xs k) P
-some_at P xs k default below is = subst (λ o. IsSomeAnd o P) (sym (slice_get-get_or xs k default below)) is
-
 -- The fields of issues.
-
-format_for : (o : Op) (fmt : Format) → IsOfGraphs (class_of o) → IsNodeFormat (class_of o) fmt → valid.IsFormatFor o fmt
-format_for op.Load fmt of is = absurd of
-format_for op.Store fmt of is = absurd of
-format_for op.Addr fmt of is = absurd of
-format_for op.Add fmt of is = is
-format_for _ fmt of is = is
-
-argument_for : (g : Graph) (o : Op) (arg : ℤ)
-    → IsOfGraphs (class_of o)
-    → IsNodeArgument g (class_of o) arg
-    → valid.IsArgument o (length g.inputs) g.outs arg
-argument_for g op.Load arg of is = absurd of
-argument_for g op.Store arg of is = absurd of
-argument_for g op.Addr arg of is = absurd of
-argument_for g op.Input arg of is = is
-argument_for g _ arg of is = is
-
-format_by : (o made : Op) (fmt given : Format)
-    → o ≡ made
-    → fmt ≡ given
-    → valid.IsFormatFor made given
-    → valid.IsFormatFor o fmt
-format_by o made fmt given e f is =
-    subst (λ o. valid.IsFormatFor o fmt) (sym e) (subst (valid.IsFormatFor made) (sym f) is)
-
-argument_by : (o made : Op) (inputs outs : ℕ) (arg given : ℤ)
-    → o ≡ made
-    → arg ≡ given
-    → valid.IsArgument made inputs outs given
-    → valid.IsArgument o inputs outs arg
-argument_by o made inputs outs arg given e f is =
-    subst (λ o. valid.IsArgument o inputs outs arg) (sym e) (subst (valid.IsArgument made inputs outs) (sym f) is)
-
-enable_number : (a b : Enable) → valid.EnableBefore a b → a.bus < 32 → 32 * a.unit + a.bus < 32 * b.unit + b.bus
-enable_number a b before small = omega (arith, before, small)
-
-take_number : (a b : Take)
-    → valid.TakeBefore a b
-    → a.port.port < 3
-    → (a.port ≡ b.port → (a.bus ≡ b.bus) × (a.reg ≡ b.reg))
-    → 3 * a.port.unit + a.port.port < 3 * b.port.unit + b.port.port
-take_number a b (inl less) small once = omega (arith, less, small)
-take_number a b (inr (unit, inl less)) small once = omega (arith, unit, less)
-take_number a b (inr (unit, inr (port, rest))) small once =
-    let same = once (ap₂ (λ u q. port_of u q) unit port) in
-    absurd (omega (arith, rest, same.0, same.1))
 
 store_other : op.Store ≡ op.Addr → ⊥
 store_other e = absurd (cc)
@@ -187,32 +97,6 @@ module _ (stages : ℕ) (g : Graph) (d : Datapath) (p : Plan) (sound : IsGraph g
 
   pub outs_are : guarded.outs ≡ g.outs
   outs_are = is.outs ∙ plan.outs
-
-  made_format : (v : ℕ) → v < length (nodes_of p) → valid.IsFormatFor (node_at p v).op (node_at p v).fmt
-  made_format i in-i =
-      let at = made_at g d p sound plan.lowered plan.assigned i in-i in by at.origin at.number
-    where
-      by : (o : Origin) → IsNumber plan.lowered.delays o i → valid.IsFormatFor (node_at p i).op (node_at p i).fmt
-      by (own v) number =
-          let made : IsOwnOver g d p.assigned.lowered plan.lowered.delays 0 v (node_at p i) =
-          made_as g d p sound plan.lowered plan.assigned (own v) i number in
-          let node = graph_node g d p sound plan.lowered plan.assigned v
-          (own_below g d p sound plan.lowered plan.assigned v i number) in
-          format_by _ (node_of g.nodes v).op _ (node_of g.nodes v).fmt (ap (λ (node : Node). node.op) made.rest)
-          (ap (λ (node : Node). node.fmt) made.rest)
-          (format_for (node_of g.nodes v).op (node_of g.nodes v).fmt node.operation node.fmt)
-      by (address v ago) number =
-          let made : IsAddress g d p.assigned.lowered plan.lowered.delays v ago (node_at p i) =
-          made_as g d p sound plan.lowered plan.assigned (address v ago) i number in
-          format_by _ op.Addr _ _ (ap (λ (node : Node). node.op) made.is) (ap (λ (node : Node). node.fmt) made.is) refl
-      by (store v) number =
-          let made : IsStore g d p.assigned.lowered plan.lowered.delays v (node_at p i) =
-          made_as g d p sound plan.lowered plan.assigned (store v) i number in
-          format_by _ op.Store _ _ (ap (λ (node : Node). node.op) made.is) (ap (λ (node : Node). node.fmt) made.is) refl
-      by (load v ago) number =
-          let made : IsLoad g d p.assigned.lowered plan.lowered.delays v ago (node_at p i) =
-          made_as g d p sound plan.lowered plan.assigned (load v ago) i number in
-          format_by _ op.Load _ _ (ap (λ (node : Node). node.op) made.is) (ap (λ (node : Node). node.fmt) made.is) refl
 
   -- an argument of the graph that no address has
   plain_argument : (i : ℕ) (made : Op) (given : ℤ)
@@ -283,24 +167,6 @@ module _ (stages : ℕ) (g : Graph) (d : Datapath) (p : Plan) (sound : IsGraph g
       sym (get_or-map length (described u).files q [] 0 in-q)
       ∙ ap (λ files. slice_index_or files q 0) (its_unit u below).files
 
-  -- each register of a lifetime is in its file
-  in_file : (k i u q : ℕ)
-      → k < length p.arcs
-      → i < (arc_at p k).copies
-      → (arc_at p k).port ≡ port_of u q
-      → register_at p k i < slice_index_or (unit_of d u).files q 0
-  in_file k i u q in-k in-i port =
-      subst (λ (port : PortRef). register_at p k i < file_size d port) port (plan.sizes k i in-k in-i)
-
-  some_register : (u q : ℕ)
-      → u < length d.units
-      → q < length (unit_of d u).files
-      → 0 < slice_index_or (unit_of d u).files q 0
-  some_register u q below in-q =
-      let unit : path.IsUnit d.units (unit_of d u) = machine.units u no_unit below in
-      let size = unit.files q 0 in-q in
-      omega (arith, size.0)
-
   valid_issue : (v m : ℕ) (staged : Staged Issue)
       → v < length (nodes_of p)
       → IsStagedIssueOf d p v m staged
@@ -315,7 +181,7 @@ module _ (stages : ℕ) (g : Graph) (d : Datapath) (p : Plan) (sound : IsGraph g
         does = ap kind_of of.op
             ∙ sym ((plan.assigned.right v in-v).kind.kind)
             ∙ sym (its_unit u below).kind;
-        fmt = format_by issue.op (node_at p v).op issue.fmt (node_at p v).fmt of.op of.fmt (made_format v in-v);
+        fmt = format_by issue.op (node_at p v).op issue.fmt (node_at p v).fmt of.op of.fmt (made_format g d p sound plan.lowered plan.assigned v in-v);
         arg = subst (λ outs. valid.IsArgument issue.op (length guarded.inputs) outs issue.arg) (sym outs_are)
             (subst (λ inputs. valid.IsArgument issue.op inputs g.outs issue.arg) (sym inputs_are)
             (argument_by issue.op (node_at p v).op (length g.inputs) g.outs issue.arg (arg_by (node_at p v).op d p v)
@@ -350,12 +216,12 @@ module _ (stages : ℕ) (g : Graph) (d : Datapath) (p : Plan) (sound : IsGraph g
           copy_in_turn copies (m + shift_of d p k) ago life.some in
           let reg : nth staged.part.regs q 0 ≡ register_at p k i = of.read q k i through.1 copy in
           let small : register_at p k i < slice_index_or (unit_of d u).files q 0 =
-          in_file k i u q through.1.there copy.there through.1.port in
+          in_file g d p plan k i u q through.1.there copy.there through.1.port in
           omega (arith, reg, small, size))
           (λ (unread : length (node_at p v).edges ≤ q).
           let none : nth staged.part.regs q 0 ≡ 0 = of.unread q unread in
           let some : 0 < slice_index_or (unit_of d u).files q 0 =
-          some_register u q below (omega (arith, in-q, file_count u below)) in
+          some_register d machine u q below (omega (arith, in-q, file_count u below)) in
           omega (arith, none, some, size))
           (cases_lt q (length (node_at p v).edges))
 
@@ -384,10 +250,10 @@ module _ (stages : ℕ) (g : Graph) (d : Datapath) (p : Plan) (sound : IsGraph g
           bus =
               omega (arith, ap (λ (e : Enable). e.bus) only.4, feasible.buses only.0 only.1 only.2 only.3, is.buses);
         };
-    enables_rise = neighbours valid.EnableBefore (whole word.enables) of.enables_rise;
+    enables_rise = adjacent valid.EnableBefore (whole word.enables) of.enables_rise;
     take_count = omega (arith, few_takes);
     takes = λ k default below. valid_take k default below;
-    takes_rise = neighbours valid.TakeBefore (whole word.takes) of.takes_rise;
+    takes_rise = adjacent valid.TakeBefore (whole word.takes) of.takes_rise;
   }
     where
       -- the drive at an index, with its node and its transfer
@@ -544,7 +410,7 @@ module _ (stages : ℕ) (g : Graph) (d : Datapath) (p : Plan) (sound : IsGraph g
           let q : ℕ = (arc_at p j).port.port in
           let i : ℕ = m % (arc_at p j).copies in
           let small : register_at p j i < slice_index_or (unit_of d u).files q 0 =
-          in_file j i u q at.2.there (mod-lt m (feasible.arcs j at.2.there).lifetime.some) refl in
+          in_file g d p plan j i u q at.2.there (mod-lt m (feasible.arcs j at.2.there).lifetime.some) refl in
           let in-q : q < length (described u).files = omega (arith, there.1, file_count u there.0) in
           record {
             register = subst (λ (port : PortRef). valid.IsRegister image port take.reg) (sym (port_is k default below))

@@ -6,7 +6,6 @@ pub mod GuardedExecutes
 pub mod GuardedRuns
 mod WorkedGuards
 pub mod Rounds
-pub mod AnyRules
 pub mod Placed
 pub mod StageFeasible
 pub mod StageFacts

@@ -16,6 +16,8 @@ use Rattle.micro_image.specs.declared.image.Take.{Take}
 use Rattle.micro_image.specs.declared.image.Word.{Word}
 use Rattle.micro_image.specs.Fields.{nth, word_at}
 use Rattle.micro_image.specs.Valid.{IsValid, IsWordOf, IsIssue, IsEnable, IsTake, EnableBefore, TakeBefore, LexBelow}
+use Rattle.plan_soundness.proofs.SomeWord.{takes_through}
+use Rattle.plan_soundness.proofs.ValidWords.{adjacent}
 use Rattle.cycle_sim.specs.Microcode.{code_of}
 use Rattle.cycle_sim.proofs.Initial.{nth-map}
 use Rattle.cycle_sim.proofs.ValidImage.{nth-beyond, image_sound, in_words}
@@ -51,9 +53,6 @@ all_pairs R xs trans near i (suc j) d less below =
     step =
         subst (λ k. R (slice_index_or xs j d) (slice_index_or xs k d)) next (near j d (omega (arith, below)))
 
-pub neighbours : {A : Type 0} (R : A → A → Type 0) (xs : List A) → AllPairs R xs → AllAdjacentBelow R xs (length xs)
-neighbours R xs pairs k d below = pairs k (k + 1) d (omega arith) below
-
 AllPairs-map : {A B : Type 0} (f : A → B) (R : B → B → Type 0) (xs : List A)
     → AllPairs (λ a b. R (f a) (f b)) xs
     → AllPairs R (map f xs)
@@ -80,12 +79,6 @@ lex_trans l m n P Q R rest (inr a) (inr b) = inr (a.0 ∙ b.0, rest a.1 b.1)
 less_trans : (l m n : ℕ) → l < m → m < n → l < n
 less_trans l m n a b = omega (arith, a, b)
 
-take_trans : (a b c : Take) → TakeBefore a b → TakeBefore b c → TakeBefore a c
-take_trans a b c =
-    lex_trans a.port.unit b.port.unit c.port.unit _ _ _
-    (lex_trans a.port.port b.port.port c.port.port _ _ _
-    (lex_trans a.bus b.bus c.bus _ _ _ (less_trans a.reg b.reg c.reg)))
-
 -- What is due of a valid word is a valid word.
 
 rising : (sample : ℕ) (issues : List (Staged Issue))
@@ -106,14 +99,14 @@ obeyed_valid image sample word valid = record {
   issues_rise = rising sample word.issues valid.issues_rise;
   enable_count = omega (arith, length-due sample word.enables, valid.enable_count);
   enables = All-due sample (IsEnable image) word.enables valid.enables;
-  enables_rise = neighbours EnableBefore (due sample word.enables)
+  enables_rise = adjacent EnableBefore (due sample word.enables)
       (AllPairs-due sample EnableBefore word.enables
       (all_pairs EnableBefore (whole word.enables) before_through valid.enables_rise));
   take_count = omega (arith, length-due sample word.takes, valid.take_count);
   takes = All-due sample (IsTake image) word.takes valid.takes;
-  takes_rise = neighbours TakeBefore (due sample word.takes)
+  takes_rise = adjacent TakeBefore (due sample word.takes)
       (AllPairs-due sample TakeBefore word.takes
-      (all_pairs TakeBefore (whole word.takes) take_trans valid.takes_rise));
+      (all_pairs TakeBefore (whole word.takes) takes_through valid.takes_rise));
 }
 
 -- Whole words.

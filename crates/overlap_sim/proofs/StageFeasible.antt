@@ -24,14 +24,13 @@ use Rattle.plan_soundness.specs.Parts.{ends_at}
 use Rattle.plan_soundness.specs.Parts.{ReadsThrough, transfers_at}
 use Rattle.plan_soundness.specs.Machine.{IsMachine}
 use Rattle.plan_soundness.specs.Memory.{LoadsFrom, store_of}
-use Rattle.plan_soundness.specs.Samples.{past}
 use Rattle.plan_soundness.specs.Overlap.{shift_of}
 use Rattle.plan_soundness.specs.Lifetimes.{IsLifetime}
 use Rattle.plan_soundness.specs.Units.{AreOnRightUnits}
 use Rattle.plan_soundness.specs.Feasible.{IsFeasibleOver, IsFeasiblePlanOver, IsFeasibleArc}
 use Rattle.plan_soundness.proofs.FromLowered.{sound_lowered, sound_lines, edges_held, load_of, loads_from, line_for}
 use Rattle.plan_soundness.proofs.FromLowered.{number_below}
-use Rattle.plan_soundness.proofs.FromRules.{gaps_of}
+use Rattle.plan_soundness.proofs.FromRules.{gaps_of, divides, divides_past}
 use Rattle.plan_soundness.proofs.Origins.{own_once, store_number}
 use Rattle.plan_soundness.proofs.Samples.{split, one_more}
 use Rattle.plan_soundness.proofs.SoundLowered.{IsSoundLowered, AreSoundLines}
@@ -39,15 +38,8 @@ use Rattle.overlap_plan.specs.IsStagePlan.{plan_of}
 use Rattle.overlap_sim.specs.Placed.{IsPlacedStagePlan}
 use Rattle.overlap_plan.specs.declared.plan.StagePlan.{StagePlan}
 use Rattle.overlap_sim.specs.GuardedOf.{overlap_of}
-use Rattle.overlap_sim.proofs.AnyRules as rules
+use Rattle.plan_soundness.proofs.AnyRules as rules
 use Rattle.overlap_sim.proofs.Rounds.{apart_on, apart_back}
-
--- 1, 2 and 4 divide each other in order
-divides : (copies unroll : ℕ) → IsCount copies → IsCount unroll → copies ≤ unroll → unroll % copies ≡ 0
-divides copies unroll h k le = grind (arith, h, k, le)
-
-divides_past : (unroll : ℕ) → IsCount unroll → past % unroll ≡ 0
-divides_past unroll h = grind (arith, h)
 
 same_own : (u v : ℕ) → Some (own u) ≡ Some (own v) → u ≡ v
 same_own u v e = cc

@@ -34,7 +34,7 @@ use Rattle.plan_soundness.specs.ImageOf.{take_of}
 use Rattle.plan_soundness.specs.Overlap.{shift_of}
 use Rattle.plan_soundness.specs.Feasible.{IsFeasibleOver}
 use Rattle.plan_soundness.proofs.Elements.{nth_past}
-use Rattle.plan_soundness.proofs.SomeWord.{copy_once}
+use Rattle.plan_soundness.proofs.SomeWord.{copy_once, in_mapped}
 use Rattle.bucket_sort.specs.Linked.{IsNext}
 use Rattle.bucket_sort.specs.declared.Buckets.{Buckets}
 use Rattle.bucket_sort.proofs.Linked.{next_after}
@@ -45,12 +45,12 @@ use Rattle.microcode_asm.specs.Private.Words.{node_in, IsTakeFor as IsPlainTakeF
 use Rattle.microcode_asm.proofs.Dealt.{AreThings}
 use Rattle.microcode_asm.proofs.Linked.{first_reached, next_reached, all_reached}
 use Rattle.microcode_asm.proofs.IssueSteps.{read_at, arc_is, register_is, register_room}
-use Rattle.microcode_asm.proofs.OrderSteps.{one_rises}
 use Rattle.microcode_asm.proofs.PlanFacts.{one_through}
-use Rattle.microcode_asm.proofs.SampleSteps.{in_mapped, from_mapped, slot_is, node_there, node_is, in_nodes}
+use Rattle.microcode_asm.proofs.SampleSteps.{from_mapped, slot_is, node_there, node_is, in_nodes}
 use Rattle.microcode_asm.proofs.SampleSteps.{unit_before}
 use Rattle.microcode_asm.proofs.SampleSteps.{one_take, port_before}
 use Rattle.bit_sets.proofs.Taking.{pairs_map}
+use Rattle.plan_soundness.proofs.Accumulator.{one_pair}
 use Rattle.overlap_plan.specs.IsStagePlan.{plan_of}
 use Rattle.overlap_plan.specs.declared.plan.StagePlan.{StagePlan}
 use Rattle.overlap_sim.specs.declared.guarded.Staged.{Staged}
@@ -123,7 +123,7 @@ module _ (d : Datapath) (sp : StagePlan) (ready : IsStageReady d sp) where
           (next_after (issued_in d p order) d.period (length order) by links k next below after) (record {
             has = (issue, Contains-append_right issues (issue ∷ []) issue (in_head issue []), is-k);
             of = λ a among. subst (IsIssue k) (is_one issue a among) is-k;
-            rise = one_rises IssueBefore issue;
+            rise = one_pair IssueBefore issue;
           }) to
         where
           is-k : IsIssue k issue
@@ -321,7 +321,7 @@ module _ (d : Datapath) (sp : StagePlan) (ready : IsStageReady d sp) where
               subst (Contains (takes ++ take ∷ [])) (same_take k take transfer is of)
               (Contains-append_right takes (take ∷ []) take (in_head take []));
           of = λ a among. subst (λ take. IsTakeFor d p k m take) (is_one take a among) is;
-          rise = one_rises WriteBefore take;
+          rise = one_pair WriteBefore take;
         }) to
       where
         things : AreThings (written_in d p) TakesIn (λ k take. IsTakeFor d p k m take) WriteBefore k

@@ -4,6 +4,7 @@ use Rattle.std.proofs.Common.{length}
 use Rattle.std.proofs.Common.{Result, Ok, Err}
 use Rattle.std.specs.Prelude.{IsErrAnd}
 use Rattle.std.proofs.lemmas.Result.{err_from_is_err_and}
+use Rattle.std.proofs.lemmas.List.Elements.{All-contains}
 use Rattle.fix_word.specs.declared.types.SigType.{SigType}
 use Rattle.datapath.specs.Allowed.{IsDatapath}
 use Rattle.datapath.specs.declared.types.Datapath.{Datapath}
@@ -26,7 +27,6 @@ use Rattle.plan_core.proofs.OneArcs.{one_unroll}
 use Rattle.plan_core.proofs.OneLowered.{one_delays}
 use Rattle.plan_soundness.specs.Feasible.{IsFeasiblePlanOver}
 use Rattle.plan_soundness.specs.Units.{IsRouted}
-use Rattle.plan_soundness.proofs.FromRules.{all_at}
 use Rattle.plan_soundness.proofs.Machines.{machine_of}
 use Rattle.delay_memory.specs.Faults.{IsLineFaultOver}
 use Rattle.delay_memory.specs.declared.fault.LineFault.{LineFault}
@@ -79,7 +79,7 @@ module _ (g : Graph) (d : Datapath) (stages : ℕ) (places : List Place) (allowe
 
   pub at_routed : IsRouted d (plan_of p)
   at_routed v t there among =
-      (all_at
+      (All-contains
       (IsFirstBusOver (IsGapAround d.period) (IsSameAround d.period) d
       (IsTakenBefore p.assigned p.schedule is.placed.schedule.height v) (unit_in p.assigned.units v)
       (ends d p.assigned p.schedule v))

@@ -131,7 +131,7 @@ one_in x = (0, omega arith, refl)
 no_pairs : {A : Type 0} (R : A → A → Type 0) → AllPairs R []
 no_pairs R j k default less below = absurd (omega (arith, below))
 
-one_pair : {A : Type 0} (R : A → A → Type 0) (x : A) → AllPairs R (x ∷ [])
+pub one_pair : {A : Type 0} (R : A → A → Type 0) (x : A) → AllPairs R (x ∷ [])
 one_pair R x j k default less below = absurd (omega (arith, less, below))
 
 three : (P : ℕ → Type 0) (k : ℕ) → k < 3 → P 0 → P 1 → P 2 → P k

@@ -3,6 +3,7 @@
 use Rattle.std.proofs.Common.{◌≡◌, ap, arith, ℕ, ◌+◌, ◌-◌, ◌*◌, ◌%◌, ◌<◌, ◌≤◌, ◌⊎◌, ⊎_elim}
 use Rattle.std.proofs.Common.{length, slice_index_or, All, Contains, true}
 use Rattle.std.proofs.lemmas.Bool.{cases_lt}
+use Rattle.std.proofs.lemmas.List.Elements.{All-contains}
 use Rattle.fix_word.specs.declared.operation.Op.TheVariants as op
 use Rattle.operations.specs.Ranges.{to_nat}
 use Rattle.datapath.specs.declared.types.Datapath.{Datapath}
@@ -28,7 +29,6 @@ use Rattle.plan_soundness.specs.Memory.{store_of, LoadsFrom}
 use Rattle.plan_soundness.specs.Feasible.{IsFeasibleOver}
 use Rattle.plan_soundness.proofs.Around.{apart_around, own_apart, same_around}
 use Rattle.plan_soundness.proofs.Elements.{nth_past, default_any}
-use Rattle.plan_soundness.proofs.FromRules.{all_at}
 use Rattle.plan_soundness.proofs.SoundLowered.{IsSoundLowered, AreSoundLines}
 
 -- each unit has a gap, no longer than its latency
@@ -288,7 +288,7 @@ module _ (o : Overlap) (d : Datapath) (p : Plan) where
           → Contains (transfers_at p v) t
           → (t.bus < length d.buses) × (gives (node_at p v).op ≡ true)
       transfer_at v t in-v in-t =
-          all_at (λ (t : Transfer). (t.bus < length d.buses) × (gives (node_at p v).op ≡ true)) (transfers_at p v) t
+          All-contains (λ (t : Transfer). (t.bus < length d.buses) × (gives (node_at p v).op ≡ true)) (transfers_at p v) t
           (passed are_nodes nodes v in-v).1.1.1.1.1.1 in-t
 
       units_free : (u v s n : ℕ)
@@ -321,8 +321,8 @@ module _ (o : Overlap) (d : Datapath) (p : Plan) where
           → s.bus ≡ t.bus
           → u ≡ v
       buses_free u v m n s t in-u in-v in-s in-t e bus =
-          all_at (λ (t : Transfer). s.bus ≡ t.bus → u ≡ v) (transfers_at p v) t
-          (all_at (λ (s : Transfer). All (λ (t : Transfer). s.bus ≡ t.bus → u ≡ v) (transfers_at p v))
+          All-contains (λ (t : Transfer). s.bus ≡ t.bus → u ≡ v) (transfers_at p v) t
+          (All-contains (λ (s : Transfer). All (λ (t : Transfer). s.bus ≡ t.bus → u ≡ v) (transfers_at p v))
           (transfers_at p u) s
           (passed are_buses_free buses u in-u v in-v (same_around (ends_at d p u) (ends_at d p v) m n d.period e)) in-s)
           in-t bus
@@ -334,8 +334,8 @@ module _ (o : Overlap) (d : Datapath) (p : Plan) where
           → s.port ≡ t.port
           → s.bus ≡ t.bus
       transfer_once v s t in-v in-s in-t port =
-          all_at (λ (t : Transfer). s.port ≡ t.port → s.bus ≡ t.bus) (transfers_at p v) t
-          (all_at (λ (s : Transfer). All (λ (t : Transfer). s.port ≡ t.port → s.bus ≡ t.bus) (transfers_at p v))
+          All-contains (λ (t : Transfer). s.port ≡ t.port → s.bus ≡ t.bus) (transfers_at p v) t
+          (All-contains (λ (s : Transfer). All (λ (t : Transfer). s.port ≡ t.port → s.bus ≡ t.bus) (transfers_at p v))
           (transfers_at p v) s (passed are_transfers_once once v in-v) in-s) in-t port
 
       transfer_to : (k : ℕ)

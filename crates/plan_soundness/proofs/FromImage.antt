@@ -46,16 +46,16 @@ same_number n = grind arith
 pub is_number : (n m : ℕ) → (n == m) ≡ true → n ≡ m
 is_number n m h = grind (arith, h)
 
-pairs_then : {A : Type 0} {R S : A → A → Type 0} (xs : List A)
+pub pairs_then : {A : Type 0} {R S : A → A → Type 0} (xs : List A)
     → ((x y : A) → R x y → S x y)
     → AllPairs R xs
     → AllPairs S xs
 pairs_then xs f pairs j k default less below = f _ _ (pairs j k default less below)
 
-enables_differ : (a b : Enable) → EnableBefore a b → a.unit ≡ b.unit → a.bus ≡ b.bus → ⊥
+pub enables_differ : (a b : Enable) → EnableBefore a b → a.unit ≡ b.unit → a.bus ≡ b.bus → ⊥
 enables_differ a b before unit bus = omega (arith, before, unit, bus)
 
-takes_differ : (a b : Take) → TakeBefore a b → a.port ≡ b.port → a.bus ≡ b.bus → a.reg ≡ b.reg → ⊥
+pub takes_differ : (a b : Take) → TakeBefore a b → a.port ≡ b.port → a.bus ≡ b.bus → a.reg ≡ b.reg → ⊥
 takes_differ a b before port bus reg =
     omega (arith, before, ap (λ port. port.unit) port, ap (λ port. port.port) port, bus, reg)
 
@@ -67,7 +67,7 @@ in_word n c q u some below =
     omega arith
 
 -- cycle c of sample n obeys the word of cycle c of sample n mod unroll
-word_number : (n c q u : ℕ) → 0 < u → c < q → (n * q + c) % (u * q) ≡ n % u * q + c
+pub word_number : (n c q u : ℕ) → 0 < u → c < q → (n * q + c) % (u * q) ≡ n % u * q + c
 word_number n c q u some below =
     ap (λ m. m % (u * q)) (join (sample_start n u q))
     ∙ mul-add-mod_self_right (n / u) (u * q) (n % u * q + c)

@@ -7,6 +7,7 @@ use Rattle.std.specs.List.{enumerate_from, AllZip}
 use Rattle.std.proofs.lemmas.Bool.{cases_lt, cases_order}
 use Rattle.std.proofs.lemmas.Option.{slice_get_within, slice_get-get_or, get_or_from_slice_get, same_Some, none-some}
 use Rattle.std.proofs.lemmas.List.Sums.{sum_by-cons}
+use Rattle.std.proofs.lemmas.List.Elements.{All-contains}
 use Rattle.lists.proofs.Places.{contains_at}
 use Rattle.signal_graph.proofs.Members.{from_enumerate, from_filter, zip_length, zip_at}
 use Rattle.fix_word.specs.declared.operation.Op.{Op}
@@ -35,7 +36,6 @@ use Rattle.plan_soundness.specs.Memory.{store_of, HasAddress, LoadsFrom, StoresT
 use Rattle.plan_soundness.specs.Units.{AreOnRightUnits}
 use Rattle.plan_soundness.specs.Feasible.{IsFeasibleLine}
 use Rattle.plan_soundness.proofs.Elements.{nth_past, default_any}
-use Rattle.plan_soundness.proofs.FromRules.{all_at}
 use Rattle.plan_soundness.proofs.Origins.{IsNumbered, first_of, numbered, own_once, store_number, store_once}
 use Rattle.plan_soundness.proofs.SoundLowered.{IsSoundLowered, AreSoundLines}
 
@@ -413,7 +413,7 @@ module _ {hold spare : ℕ} (g : Graph) (d : Datapath) (p : Plan) (sound : IsGra
   line_result : (l : ℕ) → (is : IsLineFor l) → gives (node_at p (line_at p l).node).op ≡ true
   line_result l is =
       let long = are_long is.v is.long is.delays_are in
-      let reads = all_at (λ k. IsReadAgo g is.v k) is.long (line_at p l).depth long.read is.next.depth in
+      let reads = All-contains (λ k. IsReadAgo g is.v k) is.long (line_at p l).depth long.read is.next.depth in
       own_result is.v (line_at p l).node is.next.node
       (subst (λ v. (node_of g.nodes v).op ≢ op.Output) reads.reads.node
       (edge_node reads.consumer reads.port (graph_reader g reads.consumer reads.port reads.reads.port)
@@ -554,7 +554,7 @@ module _ {hold spare : ℕ} (g : Graph) (d : Datapath) (p : Plan) (sound : IsGra
       not_before : (v < first_output g) ⊎ (first_output g ≤ v) → first_output g ≤ v
       not_before (inr le) = le
       not_before (inl less) =
-          absurd (all_at NoOutput (take (first_output g) g.nodes) (node_of g.nodes v) sound.others
+          absurd (All-contains NoOutput (take (first_output g) g.nodes) (node_of g.nodes v) sound.others
           (in_take g.nodes (first_output g) v _ less in-v) is)
 
   outputs : (i j : ℕ)
@@ -689,9 +689,9 @@ module _ {hold spare : ℕ} (g : Graph) (d : Datapath) (p : Plan) (sound : IsGra
       let for = line_for l in-l in
       let long = are_long for.v for.long for.delays_are in
       let depth = for.next.depth in
-      let reads = all_at (λ k. IsReadAgo g for.v k) for.long (line_at p l).depth long.read depth in
+      let reads = All-contains (λ k. IsReadAgo g for.v k) for.long (line_at p l).depth long.read depth in
       let above : hold < (line_at p l).depth =
-      all_at (λ k. hold < k) for.long (line_at p l).depth long.long depth in
+      All-contains (λ k. hold < k) for.long (line_at p l).depth long.long depth in
       let c : ℕ = reads.consumer in
       let in-c : c < length g.nodes = graph_reader g c reads.port reads.reads.port in
       let number = stored_node l in-l for in
@@ -754,12 +754,12 @@ module _ {hold spare : ℕ} (g : Graph) (d : Datapath) (p : Plan) (sound : IsGra
       (sym at.delays_are ∙ ap (slice_get lowered.delays) (sym node ∙ sym its) ∙ for.delays_are) in
       let among : Contains for.long ago = subst (λ long. Contains long ago) long at.belongs.is_in in
       let above : hold < ago =
-      all_at (λ k. hold < k) for.long ago (are_long for.v for.long for.delays_are).long among in (
+      All-contains (λ k. hold < k) for.long ago (are_long for.v for.long for.delays_are).long among in (
         l,
         record {
           there = is.1;
           before = omega (arith, above);
-          depth = all_at (λ k. k ≤ (line_at p l).depth) for.long ago for.next.longest among;
+          depth = All-contains (λ k. k ≤ (line_at p l).depth) for.long ago for.next.longest among;
           unit = ram_by i made.line.ram op.Load (number_below (load v ago) i number) (load_op v ago i number)
               (ap (λ (node : Node). node.ram) made.is)
               ∙ ap (λ (line : Line). line.ram) (sym is.2);

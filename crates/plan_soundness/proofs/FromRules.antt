@@ -1,10 +1,10 @@
 -- A plan whose nodes are placed one beside another is feasible, whatever else is asked of their cycles.
 use Rattle.std.proofs.Common.{◌≡◌, ◌≢◌, ℕ, ◌+◌, ◌*◌, ◌%◌, ◌<◌, ◌≤◌, refl, sym, ap, ◌∙◌, arith, ⊎_elim, ◌⊎◌, inl, inr}
-use Rattle.std.proofs.Common.{List, length, slice_index_or, map, All, Contains, true, subst}
-use Rattle.std.specs.List.{AllPairs}
+use Rattle.std.proofs.Common.{length, slice_index_or, map, All, Contains, subst}
 use Rattle.std.proofs.lemmas.Bool.{cases_eq, cases_lt, cases_order}
 use Rattle.std.proofs.lemmas.List.{get_or-map, length-map}
 use Rattle.std.proofs.Math.Nat.{mul-le-mul_right}
+use Rattle.std.proofs.lemmas.List.Elements.{All-contains}
 use Rattle.operations.specs.declared.units.PortRef.{PortRef}
 use Rattle.datapath.specs.declared.types.Datapath.{Datapath}
 use Rattle.datapath.specs.Allowed.{IsUnit}
@@ -12,17 +12,14 @@ use Rattle.plan_core.specs.Hardware.{latency_on, gap_on, unit_of, no_unit, port_
 use Rattle.plan_core.specs.Operands.{Reads}
 use Rattle.plan_core.specs.Heights.{IsPlacedBefore}
 use Rattle.plan_core.specs.Reservations.{IsFirstBus, IsGapApart, IsOneCycle}
-use Rattle.plan_core.specs.ListSchedule.{slot_of, IsListScheduleOver, IsDestination, IsPortBefore, IsTakenBefore}
+use Rattle.plan_core.specs.ListSchedule.{slot_of, IsListScheduleOver, IsDestination, IsTakenBefore}
 use Rattle.plan_core.specs.ListSchedule.{IsPlacedOver}
-use Rattle.plan_core.specs.Arcs.{IsArcs, IsArc, IsArcBefore, IsCount, IsUnroll, ReadsArc, read_cycle}
-use Rattle.plan_core.specs.Circle.{AreApart}
+use Rattle.plan_core.specs.Arcs.{IsArcs, IsArc, IsCount, IsUnroll, ReadsArc, read_cycle}
 use Rattle.plan_core.specs.FirstFit.{IsFirstFit, IsCopyBefore}
 use Rattle.plan_core.specs.declared.schedule.Transfer.{Transfer}
 use Rattle.plan_core.specs.declared.schedule.Schedule.{Schedule}
-use Rattle.plan_core.specs.declared.registers.Arc.{Arc}
 use Rattle.plan_core.specs.declared.plan.Plan.{Plan}
 use Rattle.plan_core.proofs.Readers.{operands_few, reader_there}
-use Rattle.micro_image.specs.Operations.{gives}
 use Rattle.plan_soundness.specs.Parts.{nodes_of, node_at, edge_at, unit_at, cycle_at, transfers_at, arc_at}
 use Rattle.plan_soundness.specs.Parts.{ReadsThrough}
 use Rattle.plan_soundness.specs.Parts.{IsTransferOf, ends_at}
@@ -31,95 +28,21 @@ use Rattle.plan_soundness.specs.Overlap.{one_by_one}
 use Rattle.plan_soundness.specs.Lifetimes.{IsLifetime}
 use Rattle.plan_soundness.specs.Units.{AreOnRightUnits, IsRouted}
 use Rattle.plan_soundness.specs.Feasible.{IsFeasible, IsFeasibleArc, AreRegistersApart}
-use Rattle.plan_soundness.proofs.Elements.{nth_past, default_any}
+use Rattle.plan_soundness.proofs.Elements.{nth_past}
 use Rattle.plan_soundness.proofs.Ordinary.{no_shift, end_below, unit_free_in_all, ends_same, ends_early, ends_before}
 use Rattle.plan_soundness.proofs.SoundLowered.{IsSoundLowered, AreSoundLines}
+use Rattle.plan_soundness.proofs.AnyRules as rules
+use Rattle.plan_soundness.proofs.AnyRules.{placed_order, copy_order, in_map, AreApart-turned, arcs_differ}
 
 -- 1, 2 and 4 divide each other in order
-divides : (copies unroll : ℕ) → IsCount copies → IsCount unroll → copies ≤ unroll → unroll % copies ≡ 0
+pub divides : (copies unroll : ℕ) → IsCount copies → IsCount unroll → copies ≤ unroll → unroll % copies ≡ 0
 divides copies unroll h k le = grind (arith, h, k, le)
 
-divides_past : (unroll : ℕ) → IsCount unroll → past % unroll ≡ 0
+pub divides_past : (unroll : ℕ) → IsCount unroll → past % unroll ≡ 0
 divides_past unroll h = grind (arith, h)
 
 some_count : (n : ℕ) → IsCount n → 0 < n
 some_count n h = omega (arith, h)
-
-AreApart-turned : {period unroll : ℕ} {a b : Arc} {i j : ℕ}
-    → AreApart period unroll a i b j
-    → AreApart period unroll b j a i
-AreApart-turned apart = record { none = λ x f g. apart.none x g f }
-
--- of two nodes, one is placed before the other
-placed_order : (height : ℕ → ℕ) (u v : ℕ)
-    → (u ≡ v) ⊎ (IsPlacedBefore height u v ⊎ IsPlacedBefore height v u)
-placed_order height u v = grind arith
-
-copy_order : (w v n m i j : ℕ)
-    → (((w < v) ⊎ ((w ≡ v) × (n < m))) ⊎ ((w ≡ v) × (n ≡ m) × (i < j)))
-    ⊎ ((((v < w) ⊎ ((v ≡ w) × (m < n))) ⊎ ((v ≡ w) × (m ≡ n) × (j < i))) ⊎ ((w ≡ v) × (n ≡ m) × (i ≡ j)))
-copy_order w v n m i j = grind arith
-
--- what holds of each element holds of one
-pub all_at : {A : Type 0} (P : A → Type 0) (xs : List A) (x : A) → All P xs → Contains xs x → P x
-all_at P xs x all at = subst P at.2 (all at.0 x at.1)
-
--- what stands in a list of images is the image of an element
-pub in_map : {A B : Type 0} (f : A → B) (xs : List A) (y : B) (default : A)
-    → Contains (map f xs) y
-    → (x : A) × Contains xs x × (f x ≡ y)
-in_map f xs y default (k, below, is) =
-    let in' : k < length xs = omega (arith, below, length-map xs f) in (
-      slice_index_or xs k default,
-      (k, in', same xs k default in'),
-      sym (get_or-map f xs k default y in') ∙ is,
-    )
-  where
-    same : {A : Type 0} (xs : List A) (k : ℕ) (default : A)
-        → k < length xs
-        → slice_index_or xs k (slice_index_or xs k default) ≡ slice_index_or xs k default
-    same xs k default in' = default_any xs k (slice_index_or xs k default) default in'
-
--- where images rise, elements with one image are one
-map_once : {A B : Type 0} (f : A → B) (R : B → B → Type 0) (xs : List A) (x y : A)
-    → ((a b : B) → R a b → a ≡ b → ⊥)
-    → AllPairs R (map f xs)
-    → Contains xs x
-    → Contains xs y
-    → f x ≡ f y
-    → x ≡ y
-map_once f R xs x y differ pairs (j, below, is) (k, below', is') e =
-    ⊎_elim
-    (λ (same : j ≡ k). sym is ∙ ap (λ i. slice_index_or xs i x) same ∙ default_any xs k x y below' ∙ is')
-    (λ other.
-    ⊎_elim
-    (λ (less : j < k). absurd (clash f R xs j k x y differ pairs less below below' is is' e))
-    (λ (less : k < j). absurd (clash f R xs k j y x differ pairs less below' below is' is (sym e)))
-    other)
-    (cases_order j k)
-  where
-    clash : {A B : Type 0} (f : A → B) (R : B → B → Type 0) (xs : List A) (j k : ℕ) (x y : A)
-        → ((a b : B) → R a b → a ≡ b → ⊥)
-        → AllPairs R (map f xs)
-        → j < k
-        → j < length xs
-        → k < length xs
-        → slice_index_or xs j x ≡ x
-        → slice_index_or xs k y ≡ y
-        → f x ≡ f y
-        → ⊥
-    clash f R xs j k x y differ pairs less below below' is is' e =
-        differ _ _ (pairs j k (f x) less (omega (arith, below', length-map xs f)))
-        (get_or-map f xs j x (f x) below ∙ ap f is ∙ e
-        ∙ sym (get_or-map f xs k y (f x) below' ∙ ap f is'))
-
-ports_differ : (a b : PortRef) → IsPortBefore a b → a ≡ b → ⊥
-ports_differ a b before e =
-    omega (arith, before, ap (λ (port : PortRef). port.unit) e, ap (λ (port : PortRef). port.port) e)
-
-arcs_differ : (a b : Arc) → IsArcBefore a b → a.port ≡ b.port → a.w ≡ b.w → a.node ≡ b.node → ⊥
-arcs_differ a b before port w node =
-    omega (arith, before, ap (λ (port : PortRef). port.unit) port, ap (λ (port : PortRef). port.port) port, w, node)
 
 pub gaps_of : (d : Datapath) → All (IsUnit d.units) d.units
     → (u : ℕ) → (0 < gap_on d u) × (gap_on d u ≤ latency_on d u)
@@ -213,9 +136,9 @@ module _ {Allows : Schedule → (height : ℕ → ℕ) → (v t : ℕ) → Type 
       → ⊥
   bus_clash u v s t in-u in-v before in-s in-t ends bus =
       let first : IsFirstBus d (IsTakenBefore p.assigned p.schedule schedule.height v) (unit_at p v) (ends_at d p v) t =
-      all_at (IsFirstBus d (IsTakenBefore p.assigned p.schedule schedule.height v) (unit_at p v) (ends_at d p v))
+      All-contains (IsFirstBus d (IsTakenBefore p.assigned p.schedule schedule.height v) (unit_at p v) (ends_at d p v))
       (transfers_at p v) t (placed v in-v).buses in-t in
-      all_at (λ (transfer : Transfer). transfer.bus ≢ t.bus) (transfers_at p u) s
+      All-contains (λ (transfer : Transfer). transfer.bus ≢ t.bus) (transfers_at p u) s
       (first.route.free (unit_at p u) (slot_of p.schedule u) (taken u v in-u before) ends) in-s bus
 
   bus_free : (u v : ℕ) (s t : Transfer)
@@ -238,17 +161,6 @@ module _ {Allows : Schedule → (height : ℕ → ℕ) → (v t : ℕ) → Type 
       other)
       (placed_order schedule.height u v)
 
-  transfer_once : (v : ℕ) (s t : Transfer)
-      → v < length (nodes_of p)
-      → Contains (transfers_at p v) s
-      → Contains (transfers_at p v) t
-      → s.port ≡ t.port
-      → s.bus ≡ t.bus
-  transfer_once v s t in-v in-s in-t port =
-      ap (λ (transfer : Transfer). transfer.bus)
-      (map_once (λ (transfer : Transfer). transfer.port) IsPortBefore (transfers_at p v) s t ports_differ
-      (placed v in-v).destinations.order in-s in-t port)
-
   -- a transfer goes to a port that reads its node
   destination : (v : ℕ) (t : Transfer)
       → v < length (nodes_of p)
@@ -261,14 +173,6 @@ module _ {Allows : Schedule → (height : ℕ → ℕ) → (v t : ℕ) → Type 
       subst (IsDestination p.assigned v) port
       ((placed v in-v).destinations.read k t.port
       (omega (arith, below, length-map (transfers_at p v) (λ (transfer : Transfer). transfer.port))))
-
-  transfers : (v : ℕ) (t : Transfer)
-      → v < length (nodes_of p)
-      → Contains (transfers_at p v) t
-      → gives (node_at p v).op ≡ true
-  transfers v t in-v in-t =
-      let to = destination v t in-v in-t in
-      lowered.result to.consumer t.port.port v (reader_there (nodes_of p) to.consumer t.port.port v to.reads) to.reads
 
   arc : (k : ℕ) → k < length p.arcs → IsArc d p.assigned p.schedule (arc_at p k)
   arc k in-k = arcs.each k _ in-k
@@ -309,7 +213,7 @@ module _ {Allows : Schedule → (height : ℕ → ℕ) → (v t : ℕ) → Type 
       → s.port ≡ t.port
       → ⊥
   file_clash u v s t in-u in-v before in-s in-t ends port =
-      all_at (λ (transfer : Transfer). transfer.port ≢ t.port) (transfers_at p u) s
+      All-contains (λ (transfer : Transfer). transfer.port ≢ t.port) (transfers_at p u) s
       ((placed v in-v).can.fits.files t.port (destination v t in-v in-t) (unit_at p u) (slot_of p.schedule u)
       (taken u v in-u before) ends)
       in-s port
@@ -371,20 +275,6 @@ module _ {Allows : Schedule → (height : ℕ → ℕ) → (v t : ℕ) → Type 
       let by = reader k in-k in
       let port : (arc_at p k).port.port < length (node_at p by.0).edges = by.2.reads.port in
       omega (arith, port, lowered.operand_count by.0 by.1, operands_few (node_at p by.0).op)
-
-  read : (v q : ℕ)
-      → v < length (nodes_of p)
-      → q < length (node_at p v).edges
-      → (k : ℕ) × ReadsThrough p v q k
-  read v q in-v in-q =
-      let by = arcs.every v q (edge_at p v q).node (record { port = in-q; node = refl }) in (
-        by.0,
-        record {
-          there = by.1;
-          port = by.2.port_is;
-          reads = record { port = in-q; node = sym by.2.node };
-        },
-      )
 
   ends_in_period : (v : ℕ) → v < length (nodes_of p) → ends_at d p v < d.period
   ends_in_period = end_below d p gaps fits
@@ -487,7 +377,7 @@ module _ {Allows : Schedule → (height : ℕ → ℕ) → (v t : ℕ) → Type 
   pub routed : IsRouted d p
   routed v t in-v in-t =
       let first : IsFirstBus d (IsTakenBefore p.assigned p.schedule schedule.height v) (unit_at p v) (ends_at d p v) t =
-      all_at (IsFirstBus d (IsTakenBefore p.assigned p.schedule schedule.height v) (unit_at p v) (ends_at d p v))
+      All-contains (IsFirstBus d (IsTakenBefore p.assigned p.schedule schedule.height v) (unit_at p v) (ends_at d p v))
       (transfers_at p v) t (placed v in-v).buses in-t in
       first.route.route
 
@@ -517,13 +407,13 @@ module _ {Allows : Schedule → (height : ℕ → ℕ) → (v t : ℕ) → Type 
     unit_free = unit_free_in_all d p gaps fits unit_free;
     bus_free = λ u v m n s t in-u in-v in-s in-t ends bus.
         bus_free u v s t in-u in-v in-s in-t (ends_same d p gaps fits u v m n in-u in-v ends) bus;
-    transfer_once = transfer_once;
-    transfers = transfers;
+    transfer_once = rules.transfer_once d p lowered assigned schedule arcs;
+    transfers = rules.transfers d p lowered assigned schedule arcs;
     arcs = feasible_arc;
     early = λ k s in-k _ early. ends_early d p gaps fits (arc_at p k).node s (arc_node k in-k) early;
     file_free = file_free;
     ports = ports;
-    read = read;
+    read = rules.read d p lowered assigned schedule arcs;
     read_in = λ v q k in-v through. (
       omega (arith, behind v q k in-v through, (arc k through.there).written),
       omega (arith, upto v q k through),

@@ -13,6 +13,7 @@ pub mod FromImage
 pub mod Whole
 pub mod Ordinary
 pub mod SoundLowered
+pub mod AnyRules
 pub mod FromRules
 pub mod Machines
 pub mod Units

@@ -44,7 +44,7 @@ use Rattle.plan_soundness.proofs.Origins.{first_of, own_number}
 use Rattle.plan_soundness.proofs.Whole.{IsOutputNode, put_in, put_first, put_late, counted_out, runs_out}
 
 -- the words that come late
-word_first : (late : ℕ) (words : Words) (v n : ℕ) → n < late → late_words late words v (pos n) ≡ pos 0
+pub word_first : (late : ℕ) (words : Words) (v n : ℕ) → n < late → late_words late words v (pos n) ≡ pos 0
 word_first late words v n early = grind (arith, ints, early)
 
 word_late : (late : ℕ) (words : Words) (v n : ℕ)

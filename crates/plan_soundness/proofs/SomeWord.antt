@@ -34,7 +34,7 @@ use Rattle.plan_soundness.proofs.Ordinary.{unit_free, written, delay_in}
 use Rattle.plan_soundness.proofs.Choices.{choose, gather, in_order}
 use Rattle.plan_soundness.proofs.Elements.{nth_past}
 use Rattle.plan_soundness.proofs.FromImage.{copy_read}
-use Rattle.plan_soundness.proofs.FromRules.{in_map}
+use Rattle.plan_soundness.proofs.AnyRules.{in_map}
 use Rattle.plan_soundness.proofs.Lines.{cancel}
 use Rattle.plan_soundness.proofs.LiveWords.{port_eq}
 
@@ -54,7 +54,7 @@ port_is a b h = port_eq a b (grind (arith, h)) (grind (arith, h))
 one_port : (a b : PortRef) → a ≡ b → is_port a b ≡ true
 one_port a b e = grind (arith, ap (λ (port : PortRef). port.unit) e, ap (λ (port : PortRef). port.port) e)
 
-in_mapped : {A B : Type 0} (f : A → B) (xs : List A) (x : A) → Contains xs x → Contains (map f xs) (f x)
+pub in_mapped : {A B : Type 0} (f : A → B) (xs : List A) (x : A) → Contains xs x → Contains (map f xs) (f x)
 in_mapped f xs x (k, below, is) =
     (k, omega (arith, below, length-map xs f), get_or-map f xs k x (f x) below ∙ ap f is)
 
@@ -64,7 +64,7 @@ units_through a b c less more = omega (arith, less, more)
 enables_through : (a b c : Enable) → EnableBefore a b → EnableBefore b c → EnableBefore a c
 enables_through a b c before later = grind (arith, before, later)
 
-takes_through : (a b c : Take) → TakeBefore a b → TakeBefore b c → TakeBefore a c
+pub takes_through : (a b c : Take) → TakeBefore a b → TakeBefore b c → TakeBefore a c
 takes_through a b c before later = grind (arith, before, later)
 
 abbrev enable : ℕ → ℕ → Enable

@@ -7,6 +7,7 @@ use Rattle.std.proofs.lemmas.Int.{ints}
 use Rattle.std.proofs.lemmas.List.{get_or-map, nil_from_length}
 use Rattle.std.proofs.lemmas.Option.{slice_get-get_or}
 use Rattle.std.proofs.Math.Nat.{mod-lt}
+use Rattle.std.proofs.lemmas.List.Elements.{All-contains}
 use Rattle.fix_word.specs.Words.{IsWord, IsMachineWord}
 use Rattle.fix_word.proofs.Wraps.{word_wider}
 use Rattle.fix_word.specs.declared.types.SigType.{SigType}
@@ -24,7 +25,7 @@ use Rattle.signal_graph.proofs.Members.{found_member}
 use Rattle.plan_core.specs.Arcs.{IsCount}
 use Rattle.plan_core.specs.Hardware.{unit_of, no_unit, port_of}
 use Rattle.plan_core.specs.IsPlan.{IsPlan}
-use Rattle.plan_core.specs.Lowered.{Origin, own, address, store, load, IsNumber, IsOwn, IsAddress, IsStore, IsLoad}
+use Rattle.plan_core.specs.Lowered.{Origin, own, address, store, load, IsNumber, IsOwnOver, IsLoweredOver, IsAddress, IsStore, IsLoad}
 use Rattle.plan_core.specs.Operands.{node_of}
 use Rattle.plan_core.specs.declared.plan.Plan.{Plan}
 use Rattle.micro_image.specs.declared.image.UnitDesc.{UnitDesc}
@@ -40,18 +41,18 @@ use Rattle.micro_image.proofs.Length.{packed_within}
 use Rattle.plan_soundness.specs.Parts.{nodes_of, node_at, arc_at, line_at}
 use Rattle.plan_soundness.specs.Machine.{IsMachine}
 use Rattle.plan_soundness.specs.ImageOf.{IsUnitOf, IsWordOf, IsImageOf, IsPreloadOf, IsCellPreload, width_of}
+use Rattle.plan_soundness.specs.Units.{AreOnRightUnits}
 use Rattle.plan_soundness.specs.Feasible.{IsFeasible, IsFeasiblePlan}
 use Rattle.plan_soundness.proofs.Elements.{default_any}
 use Rattle.plan_soundness.proofs.FromImage.{described}
 use Rattle.plan_soundness.proofs.FromLowered.{made_at, made_as, own_below, graph_node}
-use Rattle.plan_soundness.proofs.FromRules.{all_at}
 use Rattle.plan_soundness.proofs.RunsSolution.{plan_feasible}
 use Rattle.plan_soundness.proofs.Samples.{below_count, split}
 use Rattle.plan_soundness.proofs.ValidWords.{most_takes, valid_word, file_count, file_length, inputs_are, outs_are}
 
 -- Words.
 
-zero_word : IsMachineWord (pos 0)
+pub zero_word : IsMachineWord (pos 0)
 zero_word = record { low = omega (arith, ints); high = omega (arith, ints) }
 
 low_cases : (m z : ℤ) → (m ≤ℤ z) ⊎ (m ≤ℤ z → ⊥)
@@ -69,7 +70,7 @@ high_cases z m = by (int_lt z m) refl
     by false e = inr (λ less. grind (arith, ints, e, less))
 
 -- a number is a word of a register or not
-word_cases : (z : ℤ) → IsMachineWord z ⊎ (IsMachineWord z → ⊥)
+pub word_cases : (z : ℤ) → IsMachineWord z ⊎ (IsMachineWord z → ⊥)
 word_cases z =
     ⊎_elim
     (λ low.
@@ -79,7 +80,7 @@ word_cases z =
     (low_cases (neg_ℤ (pos (2 ^ 39))) z)
 
 -- initial values are words
-init_word : (inits : List (ℕ × ℤ)) (w k : ℕ)
+pub init_word : (inits : List (ℕ × ℤ)) (w k : ℕ)
     → w ≤ 40
     → All (λ (i : ℕ × ℤ). IsWord w i.1) inits
     → IsMachineWord (word_before inits k)
@@ -89,11 +90,42 @@ init_word inits w k most all = by (find (λ (i : ℕ × ℤ). i.0 == k) inits) r
     by None e = zero_word
     by (Some i) e =
         word_wider w 40 i.1 most
-        (all_at (λ (i : ℕ × ℤ). IsWord w i.1) inits i all (found_member (λ (i : ℕ × ℤ). i.0 == k) inits i e))
+        (All-contains (λ (i : ℕ × ℤ). IsWord w i.1) inits i all (found_member (λ (i : ℕ × ℤ). i.0 == k) inits i e))
 
-width_small : (t : SigType) → IsType t → width_of t ≤ 40
+pub width_small : (t : SigType) → IsType t → width_of t ≤ 40
 width_small (sig.Fix t) is = is.width.widest
 width_small sig.Bool is = omega arith
+
+-- the nodes of a lowered list start with words
+module _ {hold spare : ℕ} (g : Graph) (d : Datapath) (p : Plan) (sound : IsGraph g)
+    (lowered : IsLoweredOver hold spare g d p.assigned.lowered) (assigned : AreOnRightUnits d p.assigned) where
+  no_inits : (inits : List (ℕ × ℤ)) (k : ℕ) → inits ≡ [] → IsMachineWord (word_before inits k)
+  no_inits inits k e = subst (λ inits. IsMachineWord (word_before inits k)) (sym e) zero_word
+
+  pub word_of_node : (i k : ℕ) → i < length (nodes_of p) → IsMachineWord (word_before (node_at p i).inits k)
+  word_of_node i k in-i =
+      let at = made_at g d p sound lowered assigned i in-i in by at.origin at.number
+    where
+      by : (o : Origin) → IsNumber lowered.delays o i → IsMachineWord (word_before (node_at p i).inits k)
+      by (own v) number =
+          let made : IsOwnOver g d p.assigned.lowered lowered.delays hold v (node_at p i) =
+          made_as g d p sound lowered assigned (own v) i number in
+          let node = graph_node g d p sound lowered assigned v
+          (own_below g d p sound lowered assigned v i number) in
+          subst (λ inits. IsMachineWord (word_before inits k)) (sym (ap (λ (node : Node). node.inits) made.rest))
+          (init_word (node_of g.nodes v).inits (node_of g.nodes v).width k node.width.widest node.inits.words)
+      by (address v ago) number =
+          let made : IsAddress g d p.assigned.lowered lowered.delays v ago (node_at p i) =
+          made_as g d p sound lowered assigned (address v ago) i number in
+          no_inits _ k (ap (λ (node : Node). node.inits) made.is)
+      by (store v) number =
+          let made : IsStore g d p.assigned.lowered lowered.delays v (node_at p i) =
+          made_as g d p sound lowered assigned (store v) i number in
+          no_inits _ k (ap (λ (node : Node). node.inits) made.is)
+      by (load v ago) number =
+          let made : IsLoad g d p.assigned.lowered lowered.delays v ago (node_at p i) =
+          made_as g d p sound lowered assigned (load v ago) i number in
+          no_inits _ k (ap (λ (node : Node). node.inits) made.is)
 
 some_is_at : {A : Type 0} (P : A → Type 0) (xs : List A) (k : ℕ) (default : A)
     → IsSomeAnd (slice_get xs k) P
@@ -108,34 +140,6 @@ module _ (g : Graph) (d : Datapath) (p : Plan) (sound : IsGraph g) (machine : Is
   feasible : IsFeasible d p
   feasible = plan.feasible
 
-  no_inits : (inits : List (ℕ × ℤ)) (k : ℕ) → inits ≡ [] → IsMachineWord (word_before inits k)
-  no_inits inits k e = subst (λ inits. IsMachineWord (word_before inits k)) (sym e) zero_word
-
-  word_of_node : (i k : ℕ) → i < length (nodes_of p) → IsMachineWord (word_before (node_at p i).inits k)
-  word_of_node i k in-i =
-      let at = made_at g d p sound plan.lowered plan.assigned i in-i in by at.origin at.number
-    where
-      by : (o : Origin) → IsNumber plan.lowered.delays o i → IsMachineWord (word_before (node_at p i).inits k)
-      by (own v) number =
-          let made : IsOwn g d p.assigned.lowered plan.lowered.delays v (node_at p i) =
-          made_as g d p sound plan.lowered plan.assigned (own v) i number in
-          let node = graph_node g d p sound plan.lowered plan.assigned v
-          (own_below g d p sound plan.lowered plan.assigned v i number) in
-          subst (λ inits. IsMachineWord (word_before inits k)) (sym (ap (λ (node : Node). node.inits) made.rest))
-          (init_word (node_of g.nodes v).inits (node_of g.nodes v).width k node.width.widest node.inits.words)
-      by (address v ago) number =
-          let made : IsAddress g d p.assigned.lowered plan.lowered.delays v ago (node_at p i) =
-          made_as g d p sound plan.lowered plan.assigned (address v ago) i number in
-          no_inits _ k (ap (λ (node : Node). node.inits) made.is)
-      by (store v) number =
-          let made : IsStore g d p.assigned.lowered plan.lowered.delays v (node_at p i) =
-          made_as g d p sound plan.lowered plan.assigned (store v) i number in
-          no_inits _ k (ap (λ (node : Node). node.inits) made.is)
-      by (load v ago) number =
-          let made : IsLoad g d p.assigned.lowered plan.lowered.delays v ago (node_at p i) =
-          made_as g d p sound plan.lowered plan.assigned (load v ago) i number in
-          no_inits _ k (ap (λ (node : Node). node.inits) made.is)
-
   -- registers and cells start with words
   register_word : (port : PortRef) (reg : ℕ)
       → IsMachineWord (initial (microprogram_of image) (Register port.unit port.port reg))
@@ -146,7 +150,7 @@ module _ (g : Graph) (d : Datapath) (p : Plan) (sound : IsGraph g) (machine : Is
       absurd (never (subst IsMachineWord
       (sym (is.starts.other_register port reg (λ k i ago (of : IsPreloadOf d p port reg k i ago).
       never (subst IsMachineWord (sym (is.starts.register port reg k i ago of))
-      (word_of_node (arc_at p k).node ago (feasible.arcs k of.preload.there).node)))))
+      (word_of_node g d p sound plan.lowered plan.assigned (arc_at p k).node ago (feasible.arcs k of.preload.there).node)))))
       zero_word)))
       (word_cases (initial (microprogram_of image) (Register port.unit port.port reg)))
 
@@ -158,7 +162,7 @@ module _ (g : Graph) (d : Datapath) (p : Plan) (sound : IsGraph g) (machine : Is
       absurd (never (subst IsMachineWord
       (sym (is.starts.other_cell ram cell (λ l ago (of : IsCellPreload p ram cell l ago).
       never (subst IsMachineWord (sym (is.starts.cell ram cell l ago of))
-      (word_of_node (line_at p l).node ago (feasible.memory.lines l of.there).node)))))
+      (word_of_node g d p sound plan.lowered plan.assigned (line_at p l).node ago (feasible.memory.lines l of.there).node)))))
       zero_word)))
       (word_cases (initial (microprogram_of image) (Cell ram cell)))
 

@@ -8,6 +8,7 @@ use Rattle.std.proofs.lemmas.Bool.{cases_lt}
 use Rattle.std.proofs.lemmas.List.{get_or-map, length-map}
 use Rattle.std.proofs.lemmas.Option.{slice_get-get_or, same_Some}
 use Rattle.std.proofs.Math.Nat.{mod-lt, mod-eq_of_lt}
+use Rattle.std.proofs.lemmas.List.Elements.{All-contains}
 use Rattle.operations.proofs.Ports.{few_ports}
 use Rattle.fix_word.specs.declared.types.Format.{Format}
 use Rattle.fix_word.specs.declared.operation.Op.{Op}
@@ -21,7 +22,7 @@ use Rattle.signal_graph.specs.declared.graph.Node.{Node}
 use Rattle.signal_graph.specs.declared.graph.Graph.{Graph}
 use Rattle.plan_core.specs.Hardware.{unit_of, no_unit, file_size, cells_on, port_of}
 use Rattle.plan_core.specs.Operands.{node_of}
-use Rattle.plan_core.specs.Lowered.{Origin, own, address, store, load, IsNumber, IsOwn, IsAddress, IsStore, IsLoad}
+use Rattle.plan_core.specs.Lowered.{Origin, own, address, store, load, IsNumber, IsOwn, IsOwnOver, IsLoweredOver, IsAddress, IsStore, IsLoad}
 use Rattle.plan_core.specs.declared.delay_lines.Line.{Line}
 use Rattle.plan_core.specs.declared.schedule.Transfer.{Transfer}
 use Rattle.plan_core.specs.declared.plan.Plan.{Plan}
@@ -38,12 +39,13 @@ use Rattle.plan_soundness.specs.Parts.{IsTransferOf, IsCopy}
 use Rattle.plan_soundness.specs.Machine.{IsMachine}
 use Rattle.plan_soundness.specs.ImageOf.{IsUnitOf, IsIssueOf, IsWordOf, IsImageOf, take_of}
 use Rattle.plan_soundness.specs.Samples.{past}
-use Rattle.plan_soundness.specs.Feasible.{IsFeasible, IsFeasiblePlan}
+use Rattle.plan_soundness.specs.Overlap.{Overlap}
+use Rattle.plan_soundness.specs.Units.{AreOnRightUnits}
+use Rattle.plan_soundness.specs.Feasible.{IsFeasible, IsFeasiblePlan, IsFeasiblePlanOver}
 use Rattle.plan_soundness.proofs.Ordinary.{delay_in, room}
 use Rattle.plan_soundness.proofs.Elements.{default_any, nth_past}
 use Rattle.plan_soundness.proofs.FromImage.{described, copy_read}
 use Rattle.plan_soundness.proofs.FromLowered.{made_at, made_as, own_below, graph_node, line_is, line_for}
-use Rattle.plan_soundness.proofs.FromRules.{all_at}
 use Rattle.plan_soundness.proofs.Origins.{numbered}
 
 -- Lists that rise.
@@ -59,7 +61,7 @@ rises_past f xs default rise (suc k) below =
     omega (arith, step, rises_past f xs default rise k (omega (arith, below)))
 
 -- as many numbers below n as rise are at most n
-few : {A : Type 0} (f : A → ℕ) (n : ℕ) (xs : List A)
+pub few : {A : Type 0} (f : A → ℕ) (n : ℕ) (xs : List A)
     → AllPairs (λ a b. f a < f b) xs
     → All (λ a. f a < n) xs
     → length xs ≤ n
@@ -68,13 +70,13 @@ few f n (x ∷ xs) rise below =
     let last : f (slice_index_or (x ∷ xs) (length xs) x) < n = below (length xs) x (omega arith) in
     omega (arith, last, rises_past f (x ∷ xs) x rise (length xs) (omega arith))
 
-adjacent : {A : Type 0} (R : A → A → Type 0) (xs : List A) → AllPairs R xs → AllAdjacentBelow R xs (length xs)
+pub adjacent : {A : Type 0} (R : A → A → Type 0) (xs : List A) → AllPairs R xs → AllAdjacentBelow R xs (length xs)
 adjacent R xs pairs k default below = pairs k (k + 1) default (omega arith) below
 
 abbrev number : Issue → ℕ
 number issue = issue.unit
 
-rising_units : (issues : List Issue)
+pub rising_units : (issues : List Issue)
     → AllPairs (λ (a b : Issue). a.unit < b.unit) issues
     → IsStrictlyIncreasing (map (λ issue. issue.unit) issues)
 rising_units [] rise k below = absurd (omega (arith, below))
@@ -88,7 +90,7 @@ rising_units (first ∷ issues) rise k below =
     rises
 
 -- what holds of the element at an index holds of what is there
-some_at : {A : Type 0} (P : A → Type 0) (xs : List A) (k : ℕ) (default : A)
+pub some_at : {A : Type 0} (P : A → Type 0) (xs : List A) (k : ℕ) (default : A)
     → k < length xs
     → P (slice_index_or xs k default)
     → IsSomeAnd (slice_get xs k) P
@@ -96,14 +98,14 @@ some_at P xs k default below is = subst (λ o. IsSomeAnd o P) (sym (slice_get-ge
 
 -- The fields of issues.
 
-format_for : (o : Op) (fmt : Format) → IsOfGraphs (class_of o) → IsNodeFormat (class_of o) fmt → valid.IsFormatFor o fmt
+pub format_for : (o : Op) (fmt : Format) → IsOfGraphs (class_of o) → IsNodeFormat (class_of o) fmt → valid.IsFormatFor o fmt
 format_for op.Load fmt of is = absurd of
 format_for op.Store fmt of is = absurd of
 format_for op.Addr fmt of is = absurd of
 format_for op.Add fmt of is = is
 format_for _ fmt of is = is
 
-argument_for : (g : Graph) (o : Op) (arg : ℤ)
+pub argument_for : (g : Graph) (o : Op) (arg : ℤ)
     → IsOfGraphs (class_of o)
     → IsNodeArgument g (class_of o) arg
     → valid.IsArgument o (length g.inputs) g.outs arg
@@ -113,7 +115,7 @@ argument_for g op.Addr arg of is = absurd of
 argument_for g op.Input arg of is = is
 argument_for g _ arg of is = is
 
-format_by : (o made : Op) (fmt given : Format)
+pub format_by : (o made : Op) (fmt given : Format)
     → o ≡ made
     → fmt ≡ given
     → valid.IsFormatFor made given
@@ -121,7 +123,7 @@ format_by : (o made : Op) (fmt given : Format)
 format_by o made fmt given e f is =
     subst (λ o. valid.IsFormatFor o fmt) (sym e) (subst (valid.IsFormatFor made) (sym f) is)
 
-argument_by : (o made : Op) (inputs outs : ℕ) (arg given : ℤ)
+pub argument_by : (o made : Op) (inputs outs : ℕ) (arg given : ℤ)
     → o ≡ made
     → arg ≡ given
     → valid.IsArgument made inputs outs given
@@ -129,14 +131,14 @@ argument_by : (o made : Op) (inputs outs : ℕ) (arg given : ℤ)
 argument_by o made inputs outs arg given e f is =
     subst (λ o. valid.IsArgument o inputs outs arg) (sym e) (subst (valid.IsArgument made inputs outs) (sym f) is)
 
-enable_number : (a b : Enable) → valid.EnableBefore a b → a.bus < 32 → 32 * a.unit + a.bus < 32 * b.unit + b.bus
+pub enable_number : (a b : Enable) → valid.EnableBefore a b → a.bus < 32 → 32 * a.unit + a.bus < 32 * b.unit + b.bus
 enable_number a b before small = omega (arith, before, small)
 
 -- of 32 units with at most 3 ports
 abbrev pub most_takes : ℕ
 most_takes = 96
 
-take_number : (a b : Take)
+pub take_number : (a b : Take)
     → valid.TakeBefore a b
     → a.port.port < 3
     → (a.port ≡ b.port → (a.bus ≡ b.bus) × (a.reg ≡ b.reg))
@@ -146,6 +148,57 @@ take_number a b (inr (unit, inl less)) small once = omega (arith, unit, less)
 take_number a b (inr (unit, inr (port, rest))) small once =
     let same = once (ap₂ (λ u q. port_of u q) unit port) in
     absurd (omega (arith, rest, same.0, same.1))
+
+-- the nodes of a lowered list have formats of their operations
+module _ {hold spare : ℕ} (g : Graph) (d : Datapath) (p : Plan) (sound : IsGraph g)
+    (lowered : IsLoweredOver hold spare g d p.assigned.lowered) (assigned : AreOnRightUnits d p.assigned) where
+  pub made_format : (v : ℕ) → v < length (nodes_of p) → valid.IsFormatFor (node_at p v).op (node_at p v).fmt
+  made_format i in-i =
+      let at = made_at g d p sound lowered assigned i in-i in by at.origin at.number
+    where
+      by : (o : Origin) → IsNumber lowered.delays o i → valid.IsFormatFor (node_at p i).op (node_at p i).fmt
+      by (own v) number =
+          let made : IsOwnOver g d p.assigned.lowered lowered.delays hold v (node_at p i) =
+          made_as g d p sound lowered assigned (own v) i number in
+          let node = graph_node g d p sound lowered assigned v
+          (own_below g d p sound lowered assigned v i number) in
+          format_by _ (node_of g.nodes v).op _ (node_of g.nodes v).fmt (ap (λ (node : Node). node.op) made.rest)
+          (ap (λ (node : Node). node.fmt) made.rest)
+          (format_for (node_of g.nodes v).op (node_of g.nodes v).fmt node.operation node.fmt)
+      by (address v ago) number =
+          let made : IsAddress g d p.assigned.lowered lowered.delays v ago (node_at p i) =
+          made_as g d p sound lowered assigned (address v ago) i number in
+          format_by _ op.Addr _ _ (ap (λ (node : Node). node.op) made.is) (ap (λ (node : Node). node.fmt) made.is) refl
+      by (store v) number =
+          let made : IsStore g d p.assigned.lowered lowered.delays v (node_at p i) =
+          made_as g d p sound lowered assigned (store v) i number in
+          format_by _ op.Store _ _ (ap (λ (node : Node). node.op) made.is) (ap (λ (node : Node). node.fmt) made.is) refl
+      by (load v ago) number =
+          let made : IsLoad g d p.assigned.lowered lowered.delays v ago (node_at p i) =
+          made_as g d p sound lowered assigned (load v ago) i number in
+          format_by _ op.Load _ _ (ap (λ (node : Node). node.op) made.is) (ap (λ (node : Node). node.fmt) made.is) refl
+
+-- each register of a lifetime is in its file
+pub in_file : {o : Overlap} {hold spare : ℕ} (g : Graph) (d : Datapath) (p : Plan)
+    → IsFeasiblePlanOver o hold spare g d p
+    → (k i u q : ℕ)
+    → k < length p.arcs
+    → i < (arc_at p k).copies
+    → (arc_at p k).port ≡ port_of u q
+    → register_at p k i < slice_index_or (unit_of d u).files q 0
+in_file g d p plan k i u q in-k in-i port =
+    subst (λ (port : PortRef). register_at p k i < file_size d port) port (plan.sizes k i in-k in-i)
+
+pub some_register : (d : Datapath)
+    → IsMachine d
+    → (u q : ℕ)
+    → u < length d.units
+    → q < length (unit_of d u).files
+    → 0 < slice_index_or (unit_of d u).files q 0
+some_register d machine u q below in-q =
+    let unit : path.IsUnit d.units (unit_of d u) = machine.units u no_unit below in
+    let size = unit.files q 0 in-q in
+    omega (arith, size.0)
 
 module _ (g : Graph) (d : Datapath) (p : Plan) (sound : IsGraph g) (machine : IsMachine d) (plan : IsFeasiblePlan g d p)
     (image : Image) (is : IsImageOf d p image) where
@@ -172,32 +225,6 @@ module _ (g : Graph) (d : Datapath) (p : Plan) (sound : IsGraph g) (machine : Is
       machine.units (line_at p l).ram no_unit ram.there in
       let cells = unit.cells ram.kind in
       omega (arith, le, room', cells.1)
-
-  made_format : (v : ℕ) → v < length (nodes_of p) → valid.IsFormatFor (node_at p v).op (node_at p v).fmt
-  made_format i in-i =
-      let at = made_at g d p sound plan.lowered plan.assigned i in-i in by at.origin at.number
-    where
-      by : (o : Origin) → IsNumber plan.lowered.delays o i → valid.IsFormatFor (node_at p i).op (node_at p i).fmt
-      by (own v) number =
-          let made : IsOwn g d p.assigned.lowered plan.lowered.delays v (node_at p i) =
-          made_as g d p sound plan.lowered plan.assigned (own v) i number in
-          let node = graph_node g d p sound plan.lowered plan.assigned v
-          (own_below g d p sound plan.lowered plan.assigned v i number) in
-          format_by _ (node_of g.nodes v).op _ (node_of g.nodes v).fmt (ap (λ (node : Node). node.op) made.rest)
-          (ap (λ (node : Node). node.fmt) made.rest)
-          (format_for (node_of g.nodes v).op (node_of g.nodes v).fmt node.operation node.fmt)
-      by (address v ago) number =
-          let made : IsAddress g d p.assigned.lowered plan.lowered.delays v ago (node_at p i) =
-          made_as g d p sound plan.lowered plan.assigned (address v ago) i number in
-          format_by _ op.Addr _ _ (ap (λ (node : Node). node.op) made.is) (ap (λ (node : Node). node.fmt) made.is) refl
-      by (store v) number =
-          let made : IsStore g d p.assigned.lowered plan.lowered.delays v (node_at p i) =
-          made_as g d p sound plan.lowered plan.assigned (store v) i number in
-          format_by _ op.Store _ _ (ap (λ (node : Node). node.op) made.is) (ap (λ (node : Node). node.fmt) made.is) refl
-      by (load v ago) number =
-          let made : IsLoad g d p.assigned.lowered plan.lowered.delays v ago (node_at p i) =
-          made_as g d p sound plan.lowered plan.assigned (load v ago) i number in
-          format_by _ op.Load _ _ (ap (λ (node : Node). node.op) made.is) (ap (λ (node : Node). node.fmt) made.is) refl
 
   made_argument : (i : ℕ)
       → i < length (nodes_of p)
@@ -231,7 +258,7 @@ module _ (g : Graph) (d : Datapath) (p : Plan) (sound : IsGraph g) (machine : Is
           ⊎_elim
           (λ (now : ago ≡ 0). omega (arith, now))
           (λ among.
-          all_at (λ k. k ≤ (line_at p l).depth) for.long ago for.next.longest
+          All-contains (λ k. k ≤ (line_at p l).depth) for.long ago for.next.longest
           (subst (λ long. Contains long ago) long among))
           origin.belongs.is_in.1 in
           argument_by _ op.Addr (length g.inputs) g.outs _ _ (ap (λ (node : Node). node.op) made.is)
@@ -267,24 +294,6 @@ module _ (g : Graph) (d : Datapath) (p : Plan) (sound : IsGraph g) (machine : Is
       sym (get_or-map length (described image u).files q [] 0 in-q)
       ∙ ap (λ files. slice_index_or files q 0) (its_unit u below).files
 
-  -- each register of a lifetime is in its file
-  in_file : (k i u q : ℕ)
-      → k < length p.arcs
-      → i < (arc_at p k).copies
-      → (arc_at p k).port ≡ port_of u q
-      → register_at p k i < slice_index_or (unit_of d u).files q 0
-  in_file k i u q in-k in-i port =
-      subst (λ (port : PortRef). register_at p k i < file_size d port) port (plan.sizes k i in-k in-i)
-
-  some_register : (u q : ℕ)
-      → u < length d.units
-      → q < length (unit_of d u).files
-      → 0 < slice_index_or (unit_of d u).files q 0
-  some_register u q below in-q =
-      let unit : path.IsUnit d.units (unit_of d u) = machine.units u no_unit below in
-      let size = unit.files q 0 in-q in
-      omega (arith, size.0)
-
   valid_issue : (v n : ℕ) (issue : Issue)
       → v < length (nodes_of p)
       → n < p.unroll
@@ -299,7 +308,7 @@ module _ (g : Graph) (d : Datapath) (p : Plan) (sound : IsGraph g) (machine : Is
         does = ap kind_of of.op
             ∙ sym ((plan.assigned.right v in-v).kind.kind)
             ∙ sym (its_unit u below).kind;
-        fmt = format_by issue.op (node_at p v).op issue.fmt (node_at p v).fmt of.op of.fmt (made_format v in-v);
+        fmt = format_by issue.op (node_at p v).op issue.fmt (node_at p v).fmt of.op of.fmt (made_format g d p sound plan.lowered plan.assigned v in-v);
         arg = subst (λ outs. valid.IsArgument issue.op (length image.inputs) outs issue.arg) (sym outs_are)
             (subst (λ inputs. valid.IsArgument issue.op inputs g.outs issue.arg) (sym inputs_are)
             (argument_by issue.op (node_at p v).op (length g.inputs) g.outs issue.arg (node_at p v).arg of.op of.arg
@@ -336,12 +345,12 @@ module _ (g : Graph) (d : Datapath) (p : Plan) (sound : IsGraph g) (machine : Is
           let reg : nth issue.regs q 0 ≡ register_at p k i =
           of.read q k i through.1 (subst (λ n. IsCopy (arc_at p k).copies n (edge_at p v q).delay i) turn copy) in
           let small : register_at p k i < slice_index_or (unit_of d u).files q 0 =
-          in_file k i u q through.1.there copy.there through.1.port in
+          in_file g d p plan k i u q through.1.there copy.there through.1.port in
           omega (arith, reg, small, size))
           (λ (unread : length (node_at p v).edges ≤ q).
           let none : nth issue.regs q 0 ≡ 0 = of.unread q unread in
           let some : 0 < slice_index_or (unit_of d u).files q 0 =
-          some_register u q below (omega (arith, in-q, file_count u below)) in
+          some_register d machine u q below (omega (arith, in-q, file_count u below)) in
           omega (arith, none, some, size))
           (cases_lt q (length (node_at p v).edges))
 
@@ -508,7 +517,7 @@ module _ (g : Graph) (d : Datapath) (p : Plan) (sound : IsGraph g) (machine : Is
           let q : ℕ = (arc_at p j).port.port in
           let i : ℕ = n % (arc_at p j).copies in
           let small : register_at p j i < slice_index_or (unit_of d u).files q 0 =
-          in_file j i u q at.2.there (mod-lt n (feasible.arcs j at.2.there).lifetime.some) refl in
+          in_file g d p plan j i u q at.2.there (mod-lt n (feasible.arcs j at.2.there).lifetime.some) refl in
           let in-q : q < length (described image u).files = omega (arith, there.1, file_count u there.0) in
           record {
             register = subst (λ (port : PortRef). valid.IsRegister image port take.reg) (sym (port_is k default below))

@@ -16,11 +16,8 @@ use Rattle.signal_graph.specs.GraphRules.{first_output}
 use Rattle.signal_graph.specs.GraphSolves.{graph_out, out_row}
 use Rattle.signal_graph.specs.Values.{Words}
 use Rattle.signal_graph.specs.declared.graph.Graph.{Graph}
+use Rattle.plan_soundness.proofs.RunsSolution.{word_first}
 use Rattle.stage_commands.specs.Pipe.{late_rows}
-
--- the words that come late
-word_first : (late : ℕ) (words : Words) (v n : ℕ) → n < late → late_words late words v (pos n) ≡ pos 0
-word_first late words v n early = grind (arith, ints, early)
 
 word_then : (late : ℕ) (words : Words) (v n : ℕ) → late_words late words v (pos (late + n)) ≡ words v (pos n)
 word_then late words v n =

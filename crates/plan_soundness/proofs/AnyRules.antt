@@ -5,6 +5,7 @@ use Rattle.std.proofs.Common.{List, length, slice_index_or, map, Contains, true,
 use Rattle.std.specs.List.{AllPairs}
 use Rattle.std.proofs.lemmas.Bool.{cases_order}
 use Rattle.std.proofs.lemmas.List.{get_or-map, length-map}
+use Rattle.std.proofs.lemmas.List.Elements.{All-contains}
 use Rattle.operations.specs.declared.units.PortRef.{PortRef}
 use Rattle.datapath.specs.declared.types.Datapath.{Datapath}
 use Rattle.plan_core.specs.Hardware.{gap_on, port_of}
@@ -27,7 +28,6 @@ use Rattle.plan_soundness.specs.Parts.{ReadsThrough, IsTransferOf, ends_at}
 use Rattle.plan_soundness.specs.Units.{AreOnRightUnits}
 use Rattle.plan_soundness.specs.Feasible.{AreRegistersApart}
 use Rattle.plan_soundness.proofs.Elements.{default_any}
-use Rattle.plan_soundness.proofs.FromRules.{all_at, in_map}
 use Rattle.plan_soundness.proofs.SoundLowered.{IsSoundLowered}
 
 -- of two nodes, one is placed before the other
@@ -35,15 +35,31 @@ pub placed_order : (height : ℕ → ℕ) (u v : ℕ)
     → (u ≡ v) ⊎ (IsPlacedBefore height u v ⊎ IsPlacedBefore height v u)
 placed_order height u v = grind arith
 
-copy_order : (w v n m i j : ℕ)
+pub copy_order : (w v n m i j : ℕ)
     → (((w < v) ⊎ ((w ≡ v) × (n < m))) ⊎ ((w ≡ v) × (n ≡ m) × (i < j)))
     ⊎ ((((v < w) ⊎ ((v ≡ w) × (m < n))) ⊎ ((v ≡ w) × (m ≡ n) × (j < i))) ⊎ ((w ≡ v) × (n ≡ m) × (i ≡ j)))
 copy_order w v n m i j = grind arith
 
-AreApart-turned : {period unroll : ℕ} {a b : Arc} {i j : ℕ}
+pub AreApart-turned : {period unroll : ℕ} {a b : Arc} {i j : ℕ}
     → AreApart period unroll a i b j
     → AreApart period unroll b j a i
 AreApart-turned apart = record { none = λ x f g. apart.none x g f }
+
+-- what stands in a list of images is the image of an element
+pub in_map : {A B : Type 0} (f : A → B) (xs : List A) (y : B) (default : A)
+    → Contains (map f xs) y
+    → (x : A) × Contains xs x × (f x ≡ y)
+in_map f xs y default (k, below, is) =
+    let in' : k < length xs = omega (arith, below, length-map xs f) in (
+      slice_index_or xs k default,
+      (k, in', same xs k default in'),
+      sym (get_or-map f xs k default y in') ∙ is,
+    )
+  where
+    same : {A : Type 0} (xs : List A) (k : ℕ) (default : A)
+        → k < length xs
+        → slice_index_or xs k (slice_index_or xs k default) ≡ slice_index_or xs k default
+    same xs k default in' = default_any xs k (slice_index_or xs k default) default in'
 
 -- where images rise, elements with one image are one
 map_once : {A B : Type 0} (f : A → B) (R : B → B → Type 0) (xs : List A) (x y : A)
@@ -78,7 +94,7 @@ map_once f R xs x y differ pairs (j, below, is) (k, below', is') e =
         (get_or-map f xs j x (f x) below ∙ ap f is ∙ e
         ∙ sym (get_or-map f xs k y (f x) below' ∙ ap f is'))
 
-arcs_differ : (a b : Arc) → IsArcBefore a b → a.port ≡ b.port → a.w ≡ b.w → a.node ≡ b.node → ⊥
+pub arcs_differ : (a b : Arc) → IsArcBefore a b → a.port ≡ b.port → a.w ≡ b.w → a.node ≡ b.node → ⊥
 arcs_differ a b before port w node =
     omega (arith, before, ap (λ (port : PortRef). port.unit) port, ap (λ (port : PortRef). port.port) port, w, node)
 
@@ -134,7 +150,7 @@ module _ {IsAway : (gap t u : ℕ) → Type 0} {IsSame : (w x : ℕ) → Type 0}
       → IsFirstBusOver IsAway IsSame d (IsTakenBefore p.assigned p.schedule schedule.height v) (unit_at p v)
       (ends_at d p v) t
   first_bus v t in-v in-t =
-      all_at (IsFirstBusOver IsAway IsSame d (IsTakenBefore p.assigned p.schedule schedule.height v) (unit_at p v)
+      All-contains (IsFirstBusOver IsAway IsSame d (IsTakenBefore p.assigned p.schedule schedule.height v) (unit_at p v)
       (ends_at d p v))
       (transfers_at p v) t (placed v in-v).buses in-t
 
@@ -148,7 +164,7 @@ module _ {IsAway : (gap t u : ℕ) → Type 0} {IsSame : (w x : ℕ) → Type 0}
       → s.bus ≡ t.bus
       → ⊥
   bus_clash u v s t in-u in-v before in-s in-t ends bus =
-      all_at (λ (transfer : Transfer). transfer.bus ≢ t.bus) (transfers_at p u) s
+      All-contains (λ (transfer : Transfer). transfer.bus ≢ t.bus) (transfers_at p u) s
       ((first_bus v t in-v in-t).route.free (unit_at p u) (slot_of p.schedule u) (taken u v in-u before) ends) in-s bus
 
   -- in one cycle a bus has the result of one node
@@ -249,7 +265,7 @@ module _ {IsAway : (gap t u : ℕ) → Type 0} {IsSame : (w x : ℕ) → Type 0}
       → s.port ≡ t.port
       → ⊥
   file_clash u v s t in-u in-v before in-s in-t ends port =
-      all_at (λ (transfer : Transfer). transfer.port ≢ t.port) (transfers_at p u) s
+      All-contains (λ (transfer : Transfer). transfer.port ≢ t.port) (transfers_at p u) s
       ((placed v in-v).can.fits.files t.port (destination v t in-v in-t) (unit_at p u) (slot_of p.schedule u)
       (taken u v in-u before) ends)
       in-s port
