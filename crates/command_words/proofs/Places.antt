@@ -6,10 +6,11 @@ use Rattle.std.proofs.Common.{None}
 use Rattle.std.specs.Prelude.{◌≢◌, nat_eq, nat_le, nat_lt, not, ◌||◌, slice_index, MatchOption, IfSome}
 use Rattle.std.specs.List.{All, list_all}
 use Rattle.std.specs.List.Sorted.{IsStrictlyIncreasing}
-use Rattle.std.proofs.lemmas.Bool.{and_parts, leb-true, le-leb, lt-leb, ltb-true, lt-ltb}
+use Rattle.std.proofs.lemmas.Bool.{and_parts, leb-true, le-leb, lt-leb, ltb-true, lt-ltb, false_from_ne_true}
 use Rattle.std.proofs.lemmas.List.{at_drop_more, at_drop_all}
 use Rattle.std.proofs.lemmas.List.Elements.{All-nil, All-cons}
 use Rattle.arrayvec.specs.ArrayVec.{ArrayVec}
+use mathlib.Core.Bool.{and-false}
 use Rattle.silage_lex.specs.Texts.{is_digits, decimal}
 use Rattle.command_words.specs.Command.{IsNumeral}
 use Rattle.command_words.specs.WordLists.{parts_of, is_plain, is_place, are_places, rises, ArePlaces}
@@ -35,14 +36,6 @@ same_test : (a b : Bool) → (a ≡ true → b ≡ true) → (b ≡ true → a �
 same_test true b f g = sym (f refl)
 same_test false true f g = g refl
 same_test false false f g = refl
-
-false_from : (b : Bool) → (b ≡ true → ⊥) → b ≡ false
-false_from true fails = absurd (fails refl)
-false_from false fails = refl
-
-and_no : (a : Bool) → a && false ≡ false
-and_no true = refl
-and_no false = refl
 
 apart : (least : ℕ) (parts : List (List ℕ))
     → rise_from least parts ≡ list_all is_place parts && above least (map decimal parts)
@@ -101,7 +94,7 @@ too_low parts i least part d inside here rest low =
     sym (rise_from_zero parts) ∙ sym rest ∙ read_part parts i least part d inside here
     ∙ ap (λ (l : Bool). is_place part && (l && rise_from (decimal part + 1) (drop (i + 1) parts)))
     (lt-leb least (decimal part) low)
-    ∙ and_no (is_place part)
+    ∙ and-false (is_place part)
 
 pub rest_more : (parts : List (List ℕ)) (i j least place : ℕ) (part d : List ℕ)
     → i < length parts
@@ -155,7 +148,7 @@ pub no_place : (text : List ℕ)
     → ((n : ℕ) → IsNumeral text n → 1 ≤ n → n ≤ 15 → ⊥)
     → is_place text ≡ false
 no_place text other none =
-    false_from (is_place text)
+    false_from_ne_true (is_place text)
     (λ holds.
     let plain = (and_parts (is_plain text) (nat_le (decimal text) 15) holds).0 in
     let zero_first = nat_eq (length text) 1 || not (nat_eq (slice_index text 0) 48) in

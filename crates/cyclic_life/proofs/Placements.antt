@@ -13,13 +13,14 @@ use Rattle.datapath.specs.declared.types.Datapath.{Datapath}
 use Rattle.signal_graph.specs.GraphSolves.{no_node}
 use Rattle.signal_graph.specs.declared.graph.Edge.{Edge}
 use Rattle.signal_graph.specs.declared.graph.Node.{Node}
+use Rattle.signal_graph.proofs.Sizes.{few_operands}
 use Rattle.plan_core.specs.Operands.{node_of, edge_of, no_edge, Reads}
 use Rattle.plan_core.specs.Assigned.{unit_in}
 use Rattle.plan_core.specs.Heights.{latency_of}
 use Rattle.plan_core.specs.ListSchedule.{cycle_of}
 use Rattle.plan_core.specs.declared.schedule.Assigned.{Assigned}
 use Rattle.plan_core.specs.declared.schedule.Schedule.{Schedule}
-use Rattle.plan_core.proofs.Readers.{operands_few, reader_there, edge_has}
+use Rattle.plan_core.proofs.Readers.{reader_there, edge_has}
 use Rattle.plan_core.proofs.OneHeight.{live_of}
 use Rattle.cyclic_life.specs.Held.{IsHeld, IsInPeriod, IsOverStages}
 use Rattle.cyclic_life.specs.Private.Placed.{last_end, IsPlacement, read_of, IsRead, AreReadsBefore, AreReads}
@@ -64,7 +65,7 @@ placement_of d a s is held slots within =
       latencies = λ v there. live_of d is (unit_in a.units v);
       ends_within = within;
       ports = λ c there.
-          let few = operands_few (node_of nodes c).op in
+          let few = few_operands (node_of nodes c).op in
           let count =
           All-get_or (λ (node : Node). length node.edges ≡ operands node.op) nodes c no_node there held.edge_count in
           omega arith;

@@ -3,14 +3,14 @@ use Rattle.std.proofs.Common.{◌≡◌, subst, ap, arith, ℕ, zero, suc, ◌+�
 use Rattle.std.proofs.Common.{All}
 use Rattle.std.proofs.lemmas.Bool.{cases_lt}
 use Rattle.std.specs.List.Sorted.{IsStrictlyIncreasing}
+use Rattle.std.proofs.lemmas.List.{get_or_past}
 use Rattle.signal_graph.specs.GraphSolves.{no_node}
 use Rattle.signal_graph.specs.GraphRules.{IsGraph}
 use Rattle.signal_graph.specs.declared.graph.Graph.{Graph}
 use Rattle.plan_core.specs.Operands.{no_edge}
 use Rattle.plan_core.specs.Lowered.{IsReadAgo}
-use Rattle.plan_soundness.proofs.Elements.{nth_past}
+use Rattle.plan_soundness.proofs.FromLowered.{graph_reader}
 use Rattle.delay_memory.specs.Private.Delays.{delays_at, AreDelays, AreFew}
-use Rattle.delay_memory.proofs.ReadSteps.{reader}
 
 at-least : (xs : List ℕ) → IsStrictlyIncreasing xs → (i : ℕ) → i < length xs → i ≤ slice_index xs i
 at-least xs rise zero less = omega arith
@@ -37,12 +37,12 @@ few_below xs bound rise all = by (length xs) (omega arith)
 module _ (g : Graph) (sound : IsGraph g) (hold : ℕ) (delays : List (List ℕ)) (are : AreDelays g hold delays) where
   short : (v k : ℕ) → IsReadAgo g v k → k ≤ 1023
   short v k r =
-      let there = reader g hold r.consumer r.port r.reads.port in
+      let there = graph_reader g r.consumer r.port r.reads.port in
       let edge = (sound.nodes r.consumer no_node there).edges r.port no_edge r.reads.port in
       subst (λ (k : ℕ). k ≤ 1023) r.delay edge.delay
 
   none_past : (v : ℕ) → length g.nodes ≤ v → delays_at delays v ≡ []
-  none_past v past = let count = are.count in nth_past delays v [] (omega arith)
+  none_past v past = let count = are.count in get_or_past delays v [] (omega arith)
 
   each : (v : ℕ) → length (delays_at delays v) ≤ 1024
   each v =

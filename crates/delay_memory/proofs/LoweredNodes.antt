@@ -4,6 +4,8 @@ use Rattle.std.proofs.Common.{◌≡◌, refl, sym, subst, ap, ◌∙◌, arith,
 use Rattle.std.proofs.Common.{List, [], ◌∷◌, length, slice_index_or, All}
 use Rattle.std.proofs.lemmas.Bool.{cases_lt}
 use Rattle.std.proofs.lemmas.Option.{slice_get_within, slice_get-get_or, get_or_from_slice_get}
+use Rattle.std.proofs.lemmas.List.{get_or_past}
+use Rattle.lists.proofs.Zips.{zip_at as zip_edge}
 use Rattle.operations.specs.Operations.{operands}
 use Rattle.datapath.specs.declared.types.Datapath.{Datapath}
 use Rattle.signal_graph.specs.Values.{EdgesRead}
@@ -19,8 +21,8 @@ use Rattle.plan_core.specs.Heights.{ReadsNow}
 use Rattle.plan_core.specs.Lowered.{Origin, own, address, store, load, origins, IsNumber, IsLoweredEdge, IsOwnOver}
 use Rattle.plan_core.specs.Lowered.{IsMadeOver, IsLoweredOver, edge_now}
 use Rattle.plan_core.specs.declared.delay_lines.Lowered.{Lowered}
-use Rattle.plan_soundness.proofs.Elements.{nth_past, default_any}
-use Rattle.plan_soundness.proofs.FromLowered.{zip_edge, same_operands}
+use Rattle.plan_soundness.proofs.Elements.{default_any}
+use Rattle.plan_soundness.proofs.FromLowered.{same_operands}
 use Rattle.plan_soundness.proofs.Origins.{numbered}
 use Rattle.delay_memory.specs.Private.Delays.{AreDelays}
 use Rattle.delay_memory.proofs.Counts.{delays_few}
@@ -290,6 +292,6 @@ module _ (g : Graph) (d : Datapath) (l : Lowered) (sound : IsGraph g) {hold spar
             (λ (there : c < length l.nodes). there)
             (λ (past : length l.nodes ≤ c).
             let none : length (edges_of c) ≡ 0 =
-            ap (λ (node : Node). length node.edges) (nth_past l.nodes c no_node past) in
+            ap (λ (node : Node). length node.edges) (get_or_past l.nodes c no_node past) in
             absurd (omega (arith, port, none)))
             (cases_lt c (length l.nodes))

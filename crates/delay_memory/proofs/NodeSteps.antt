@@ -12,7 +12,7 @@ use Rattle.std.proofs.lemmas.List.{length-set}
 use Rattle.std.proofs.lemmas.List.Sorted.{searched}
 use Rattle.std.proofs.lemmas.List.Kept.{AllPairs-from_increasing}
 use Rattle.std.proofs.lemmas.Bool.{cases_lt}
-use Rattle.std.proofs.lemmas.Option.{slice_get_within}
+use Rattle.std.proofs.lemmas.Option.{slice_get_within, slice_get_past}
 use Rattle.datapath.specs.Allowed.{IsDatapath}
 use Rattle.datapath.specs.declared.types.Datapath.{Datapath}
 use Rattle.fix_word.specs.declared.operation.Op.TheVariants as op
@@ -28,7 +28,6 @@ use Rattle.plan_core.specs.Lowered.{no_line, IsLoweredEdge, IsLineOf, IsOwnOver,
 use Rattle.plan_core.specs.declared.delay_lines.Line.{Line}
 use Rattle.plan_core.specs.declared.delay_lines.Lowered.{Lowered}
 use Rattle.plan_soundness.proofs.Elements.{default_any}
-use Rattle.plan_soundness.proofs.FromLowered.{none_past}
 use Rattle.delay_memory.specs.Private.Delays.{delays_at, AreDelays}
 use Rattle.delay_memory.specs.Private.Lines.{lines_before}
 use Rattle.delay_memory.specs.Private.Nodes.{load_nodes, line_nodes, IsLayout, IsLaid, IsCopy, AreLaidOut}
@@ -229,7 +228,7 @@ module _ (g : Graph) (sound : IsGraph g) (hold : ℕ) (delays : List (List ℕ))
   edge_there v some =
       ⊎_elim (λ (h : v < length g.nodes). h)
       (λ past.
-      absurd (subst (λ o. IsSomeAnd o (λ (node : Node). node.op ≢ op.Output)) (none_past g.nodes v past) some))
+      absurd (subst (λ o. IsSomeAnd o (λ (node : Node). node.op ≢ op.Output)) (slice_get_past g.nodes v past) some))
       (cases_lt v (length g.nodes))
 
   pub edges_laid : (v : ℕ) (node : Node)

@@ -10,6 +10,7 @@ use Rattle.datapath.specs.declared.types.Datapath.{Datapath}
 use Rattle.signal_graph.specs.declared.graph.Edge.{Edge}
 use Rattle.signal_graph.specs.declared.graph.Node.{Node}
 use Rattle.signal_graph.specs.declared.graph.Graph.{Graph}
+use Rattle.signal_graph.proofs.Same.{same_edge}
 use Rattle.plan_core.specs.Operands.{node_of}
 use Rattle.plan_core.specs.Hardware.{IsOfKind, IsAcuOf}
 use Rattle.plan_core.specs.Lowered.{Origin, own, address, store, load, origins, IsNumber, stored, HasRoom, IsNextLine}
@@ -353,21 +354,17 @@ module _ (hold spare : ℕ) (g : Graph) (d : Datapath) (delays : List (List ℕ)
           (line_node v i a less-i at-i is-a.node ∙ sym (line_node v j b less-j at-j is-b.node)) in
           sym at-i ∙ default_any l.lines i a b less-i ∙ ap (λ (k : ℕ). slice_index_or l.lines k b) same ∙ at-j
 
-  edge_from : (a b : Edge) → a.node ≡ b.node → a.delay ≡ b.delay → a ≡ b
-  edge_from a b node delay =
-      ap₂ (λ (n k : ℕ). record { node = n; delay = k }) node delay
-
   edge_once : (a b old : Edge) → IsLoweredEdge hold delays a old → IsLoweredEdge hold delays b old → a ≡ b
   edge_once a b old is-a is-b =
       ⊎_elim
       (λ (long : hold < old.delay).
       let to-a = is-a.loaded long in
       let to-b = is-b.loaded long in
-      edge_from a b (once_each (load old.node old.delay) a.node b.node to-a.0 to-b.0) (to-a.1 ∙ sym to-b.1))
+      same_edge a b (once_each (load old.node old.delay) a.node b.node to-a.0 to-b.0) (to-a.1 ∙ sym to-b.1))
       (λ (short : old.delay ≤ hold).
       let to-a = is-a.held short in
       let to-b = is-b.held short in
-      edge_from a b (once_each (own old.node) a.node b.node to-a.0 to-b.0) (to-a.1 ∙ sym to-b.1))
+      same_edge a b (once_each (own old.node) a.node b.node to-a.0 to-b.0) (to-a.1 ∙ sym to-b.1))
       (cases_lt hold old.delay)
 
   made_once : (o : Origin) (a b : Node) → IsMadeOver g d l delays hold o a → IsMadeOver g d m delays hold o b → a ≡ b

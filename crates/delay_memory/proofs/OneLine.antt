@@ -2,7 +2,7 @@
 use Rattle.std.proofs.Common.{◌≡◌, refl, sym, subst, ap, ap₂, ◌∙◌, arith, ℕ, zero, suc, ◌+◌, ◌*◌, ◌<◌, ◌≤◌, ◌==◌, cond}
 use Rattle.std.proofs.Common.{◌⊎◌, inl, inr, ⊎_elim, List, [], ◌∷◌, ◌++◌, length, slice_index_or, All}
 use Rattle.std.specs.Prelude.{slice_get, take, Some}
-use Rattle.std.specs.List.{enumerate_from, AllPairs}
+use Rattle.std.specs.List.{enumerate_from}
 use Rattle.std.specs.List.Sorted.{IsStrictlyIncreasing}
 use Rattle.std.proofs.lemmas.Bool.{cond-true, cond-false, eq-eqb, ne_eqb}
 use Rattle.std.proofs.lemmas.Option.{same_Some, none-some, slice_get_within, slice_get-get_or, get_or_from_slice_get}
@@ -10,6 +10,7 @@ use Rattle.std.proofs.lemmas.List.{take_all}
 use Rattle.std.proofs.Math.Seq.{take-suc}
 use Rattle.std.proofs.lemmas.List.FromFn.{length-enumerate_from}
 use Rattle.std.proofs.lemmas.List.Kept.{AllPairs-from_increasing}
+use Rattle.signal_graph.proofs.Rising.{Rises}
 use Rattle.datapath.specs.declared.types.Datapath.{Datapath}
 use Rattle.plan_core.specs.Lowered.{Origin, own, address, store, load, origins_of, IsNumber, stored, IsNextLine}
 use Rattle.plan_core.specs.Lowered.{AreLines, line_of, no_line}
@@ -33,10 +34,7 @@ place_in long (address v zero) = 1
 place_in long (address v (suc k)) = 3 + 2 * index_in long (suc k)
 place_in long (load v k) = 4 + 2 * index_in long k
 
-abbrev Rise : List ℕ → Type 0
-Rise xs = AllPairs (λ (x y : ℕ). x < y) xs
-
-rise_tail : (x : ℕ) (xs : List ℕ) → Rise (x ∷ xs) → Rise xs
+rise_tail : (x : ℕ) (xs : List ℕ) → Rises (x ∷ xs) → Rises xs
 rise_tail x xs h i j d less within = h (suc i) (suc j) d (omega (arith, less)) (omega (arith, within))
 
 same_index : (x k n : ℕ) → x ≡ k → cond (x == k) 0 n ≡ 0
@@ -45,7 +43,7 @@ same_index x k n e = cond-true (x == k) 0 n (eq-eqb x k e)
 other_index : (x k n : ℕ) → x < k → cond (x == k) 0 n ≡ n
 other_index x k n e = cond-false (x == k) 0 n (ne_eqb x k (λ same. omega (arith, e, same)))
 
-at_index : (xs : List ℕ) → Rise xs → (m : ℕ) → m < length xs → index_in xs (slice_index_or xs m 0) ≡ m
+at_index : (xs : List ℕ) → Rises xs → (m : ℕ) → m < length xs → index_in xs (slice_index_or xs m 0) ≡ m
 at_index [] rise m less = absurd (omega (arith, less))
 at_index (x ∷ xs) rise zero less = same_index x x (suc (index_in xs x)) refl
 at_index (x ∷ xs) rise (suc m) less =
@@ -87,7 +85,7 @@ place_address long v zero some = absurd (omega (arith, some))
 place_address long v (suc n) some = refl
 
 place_is : (v : ℕ) (long : List ℕ)
-    → Rise long
+    → Rises long
     → All (λ (k : ℕ). 0 < k) long
     → (i : ℕ) (o : Origin)
     → slice_get (origins_of v long) i ≡ Some o

@@ -14,6 +14,7 @@ use Rattle.std.proofs.Math.Dec.{eqb}
 use Rattle.std.proofs.lemmas.List.Filters.{dedup_is}
 use Rattle.std.proofs.lemmas.List.Kept.{Contains-dedup_nat, Contains-from_dedup}
 use Rattle.std.proofs.lemmas.List.Sorted.{IsPermutation-sym, Contains-permutation}
+use Rattle.std.proofs.lemmas.Option.{slice_get_past}
 use Rattle.signal_graph.specs.declared.graph.Edge.{Edge}
 use Rattle.signal_graph.specs.declared.graph.Node.{Node}
 use Rattle.signal_graph.specs.declared.graph.Graph.{Graph}
@@ -22,8 +23,8 @@ use Rattle.signal_graph.specs.GraphRules.{IsGraph, IsEdge}
 use Rattle.signal_graph.specs.GraphSolves.{no_node}
 use Rattle.plan_core.specs.Operands.{node_of, edge_of, no_edge, delay_at}
 use Rattle.plan_core.specs.Lowered.{IsReadAgo, AreLongDelays}
-use Rattle.plan_soundness.proofs.Elements.{nth_past, default_any}
-use Rattle.plan_soundness.proofs.FromLowered.{none_past}
+use Rattle.plan_soundness.proofs.Elements.{default_any}
+use Rattle.plan_soundness.proofs.FromLowered.{graph_reader}
 use Rattle.delay_memory.specs.Private.Delays.{delays_at, IsLongRead, AddsRead, AreReadsBefore, AreDelays}
 use Rattle.delay_memory.specs.Private.Delays.{AreRisenBefore}
 
@@ -239,17 +240,6 @@ module _ (g : Graph) (hold : ℕ) where
           ⊎_elim (λ (less : r.consumer < c + 1). less) (λ h. let none = h.1 in absurd (omega arith)) r.before in
           again (c + 1) 0 r c (length (node_of g.nodes c).edges) (inl (omega (arith, other, below)))
 
-  -- a node that reads is there
-  pub reader : (c q : ℕ) → q < length (node_of g.nodes c).edges → c < length g.nodes
-  reader c q port =
-      ⊎_elim
-      (λ (there : c < length g.nodes). there)
-      (λ (past : length g.nodes ≤ c).
-      absurd (let none : length (node_of g.nodes c).edges ≡ 0 =
-      ap (λ (node : Node). length node.edges) (nth_past g.nodes c _ past) in
-      omega (arith, port, none)))
-      (cases_lt c (length g.nodes))
-
   -- all reads of a node, in order
   pub long_delays : (v : ℕ) (found risen : List ℕ)
       → ((ago : ℕ) → Contains found ago → IsLongRead g hold (length g.nodes) 0 v ago)
@@ -265,7 +255,7 @@ module _ (g : Graph) (hold : ℕ) where
         (same (delay_at g.nodes c q)).1 (to (delay_at g.nodes c q) (record {
           consumer = c;
           port = q;
-          before = inl (reader c q reads.port);
+          before = inl (graph_reader g c q reads.port);
           reads = reads;
           delay = refl;
           long = long;
@@ -349,7 +339,7 @@ pub read_there : (g : Graph) (v : ℕ)
 read_there g v some =
     ⊎_elim (λ (h : v < length g.nodes). h)
     (λ past.
-    absurd (subst (λ o. IsSomeAnd o (λ (node : Node). node.op ≢ op.Output)) (none_past g.nodes v past) some))
+    absurd (subst (λ o. IsSomeAnd o (λ (node : Node). node.op ≢ op.Output)) (slice_get_past g.nodes v past) some))
     (cases_lt v (length g.nodes))
 
 -- an edge of a node of the graph

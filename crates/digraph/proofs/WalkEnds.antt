@@ -25,7 +25,7 @@ some_same e = cc
 some_closed : {o : Option Mark} {a b : ℕ} → o ≡ Some (Closed a) → o ≡ Some (Closed b) → a ≡ b
 some_closed e f = cc
 
-no_such : {A P : Type 0} (x : A) → None ≡ Some x → P
+pub no_such : {A P : Type 0} (x : A) → None ≡ Some x → P
 no_such x e = absurd (cc)
 
 -- at first all marks are new

@@ -23,6 +23,7 @@ use Rattle.digraph.specs.declared.walk.Mark.TheVariants.{New, Active, Closed}
 use Rattle.lists.proofs.Places.{some_once, cases_in, contains_at, place_of, at_left, at_right, at_end, at_append}
 use Rattle.lists.proofs.Places.{at_push, at_front, from_take, in_drop, from_drop, at_set_same, at_set_other, last_split}
 use Rattle.lists.proofs.Places.{front_pairs, before_end}
+use Rattle.digraph.proofs.WalkEnds.{no_such}
 
 -- chains of arcs, one behind another
 reaches_on : {Step : ℕ → ℕ → Type 0} {f g h : ℕ} → Reaches Step f g → Reaches Step g h → Reaches Step f h
@@ -36,9 +37,6 @@ leads_on arcs f g h (inr r) (inr s) = inr (reaches_on r s)
 
 one_arc : (arcs : List (List ℕ)) (f g : ℕ) → HasArc arcs f g → Leads arcs f g
 one_arc arcs f g l = inr (by_arc l)
-
-no_such : {A P : Type 0} (x : A) → None ≡ Some x → P
-no_such x e = absurd (cc)
 
 -- a mark is one of three
 new_not_active : {P : Type 0} (marks : List Mark) (f i : ℕ) → IsMark marks f New → IsMark marks f (Active i) → P

@@ -9,6 +9,8 @@ use Rattle.std.proofs.lemmas.Bool.Decides.{eqb_tells}
 use Rattle.std.proofs.lemmas.List.Elements.{All-cons}
 use Rattle.std.proofs.lemmas.List.{get_or-map, length-map}
 use Rattle.std.proofs.lemmas.Option.{slice_get_within, get_or_from_slice_get}
+use Rattle.std.proofs.lemmas.Bool.{eqb-true}
+use mathlib.Core.Bool.{or-true}
 use Rattle.lists.proofs.Bools.{both_true}
 use Rattle.lists.proofs.Places.{some_once}
 use Rattle.fault_order.specs.Ranked.{IsClear}
@@ -39,7 +41,7 @@ use Rattle.elaboration_code.specs.KnownIndices.{is_index, IsIndex, IsKnown, AreK
 use Rattle.elaboration_compile.specs.Private.Names.{IsElementOf, IsSignalOf, TakesAs, Takes, TakeEach, TakeAll}
 use Rattle.elaboration_compile.specs.Private.Names.{HasReads}
 use Rattle.elaboration_compile.specs.Private.Names.{HaveReads, HasNames, HaveNames, HasTopNames}
-use Rattle.element_rules.proofs.NamedItems.{Fits, place_fits, equal, whole as whole_array}
+use Rattle.element_rules.proofs.NamedItems.{Fits, place_fits, whole as whole_array}
 use Rattle.element_rules.proofs.SoundNames.{clear_first}
 
 -- what is there
@@ -101,13 +103,9 @@ index_more (other ∷ loops) index name e = by (bytes_eq other name) (index_more
     by true rest e = refl
     by false rest e = rest e
 
-or_true : (b : Bool) → (b || true) ≡ true
-or_true true = refl
-or_true false = refl
-
 index_last : (loops : List (List ℕ)) (name : List ℕ) → is_index (loops ++ name ∷ []) name ≡ true
 index_last [] name = let same : bytes_eq name name ≡ true = (bytes_eq-Decides name name).1 refl in rw same refl
-index_last (other ∷ loops) name = rw (index_last loops name) (or_true (bytes_eq other name))
+index_last (other ∷ loops) name = rw (index_last loops name) (or-true (bytes_eq other name))
 
 one_more_around : (c : Context) (loops : List (List ℕ))
     → AreAround c loops
@@ -163,7 +161,7 @@ element_of c place ok =
         → IsSomeAnd (option_map (λ (q : ℕ × Decl). (first_of (decls c.func) q.0, q.1)) o)
         (λ (q : ℕ × Decl). length q.1.dims ≡ length place.subs)
     by None h = absurd (cc (h.known))
-    by (Some q) h = sym (equal (length place.subs) (length q.1.dims) h.fitting)
+    by (Some q) h = sym (eqb-true (length place.subs) (length q.1.dims) h.fitting)
 
 signal_of : (c : Context) (fits : List ℕ → Bool) (place : Place)
     → first (rules.target_rules c fits place) ≡ Ok tt
@@ -251,7 +249,7 @@ mutual
   reads_there c loops around (literal l) ok = tt
   reads_there c loops around (read place delay) ok =
       read_there c loops around (is_element place.subs) place delay
-      (λ dims e. let same = equal (length place.subs) (length dims) e in omega arith) ok
+      (λ dims e. let same = eqb-true (length place.subs) (length dims) e in omega arith) ok
   reads_there c loops around (negate at x) ok = reads_there c loops around x ok
   reads_there c loops around (denied at x) ok = reads_there c loops around x ok
   reads_there c loops around (binary at o x y) ok =
@@ -354,7 +352,7 @@ callee_there c loops around (Some g) places args at ok =
     let counts =
     both_true (nat_eq (length args) (length g.params)) (nat_eq (length places) (length g.results))
     (rule_holds _ _ own.0) in (
-      sym (equal (length places) (length g.results) counts.1),
+      sym (eqb-true (length places) (length g.results) counts.1),
       take_from c loops around g.results 0 places one.0 g.results (λ j. ap (slice_get g.results) (omega arith)),
     )
 

@@ -1,13 +1,13 @@
 -- How far apart the subscripts of actions pick.
 use Rattle.std.proofs.Common.{◌≡◌, ◌*◌, ◌&&◌, ℕ, Bool, true, IsTrue, List, [], ◌∷◌, length, refl, sym, ap, arith}
 use Rattle.std.specs.Prelude.{nat_eq}
+use Rattle.std.proofs.lemmas.Bool.{eqb-true}
 use Rattle.lists.proofs.Bools.{both_true}
 use Rattle.silage_syntax.specs.Tree.{Manifest}
 use Rattle.silage_syntax.specs.Names.{element_count}
 use Rattle.elaboration_code.specs.declared.actions.Subscript.{Subscript}
 use Rattle.elaboration_code.specs.Private.Strides.{size_of, are_strided, AreStrided}
 use Rattle.elaboration_code.specs.ItemActions.{subscripts}
-use Rattle.element_rules.proofs.NamedItems.{equal}
 use Rattle.elaboration_compile.proofs.KnownNames.{told}
 
 both : {a b : Bool} → a ≡ true → b ≡ true → IsTrue (a && b)
@@ -36,7 +36,8 @@ module _ (loops : List (List ℕ)) where
 -- The subscripts behind the first.
 module _ (s : Subscript) (subs : List Subscript) (strided : AreStrided (s ∷ subs)) where
   pub first_stride : s.stride ≡ size_of subs
-  first_stride = equal s.stride (size_of subs) (both_true (nat_eq s.stride (size_of subs)) (are_strided subs) strided).0
+  first_stride =
+      eqb-true s.stride (size_of subs) (both_true (nat_eq s.stride (size_of subs)) (are_strided subs) strided).0
 
   pub rest_strided : AreStrided subs
   rest_strided = (both_true (nat_eq s.stride (size_of subs)) (are_strided subs) strided).1

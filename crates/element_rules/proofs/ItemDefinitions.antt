@@ -3,7 +3,7 @@ use Rattle.std.proofs.Common.{◌≡◌, ◌≢◌, ◌<◌, ◌≤◌, ◌+◌,
 use Rattle.std.proofs.Common.{cond, Bool, true, false, slice_get, option_map, Option, Some, None, refl, subst, arith}
 use Rattle.std.specs.Prelude.{nat_eq}
 use Rattle.std.specs.List.{range_with_len}
-use Rattle.std.proofs.lemmas.Bool.{cases_eq}
+use Rattle.std.proofs.lemmas.Bool.{cases_eq, eqb-true}
 use Rattle.std.proofs.lemmas.List.{nil_from_length as none_of}
 use Rattle.lists.proofs.Places.{at_append, at_left, at_right}
 use Rattle.fault_order.specs.Ranked.{IsClear}
@@ -24,7 +24,7 @@ use Rattle.element_rules.proofs.PickedOffsets.{picked_offset, offset_picked}
 use Rattle.element_rules.proofs.DefinitionLists.{Entry, entry_at, at_offset, target_entries, array_entries, joined}
 use Rattle.element_rules.proofs.DefinitionLists.{site, made_by, result_source, taker_entries, takers_entries}
 use Rattle.element_rules.proofs.DefinitionLists.{call_entries, item_entries, items_entries}
-use Rattle.element_rules.proofs.NamedItems.{equal, whole, place_fits, within, IsCallNamed, call_named, instance_named}
+use Rattle.element_rules.proofs.NamedItems.{whole, place_fits, within, IsCallNamed, call_named, instance_named}
 use Rattle.element_rules.proofs.DefinitionLists.{no_entry, both_ways}
 
 module _ (p : Program) (clear : IsClear (name_faults p)) (path : Path) (f : Func) (instance : IsInstance p path f) where
@@ -128,7 +128,7 @@ module _ (p : Program) (clear : IsClear (name_faults p)) (path : Path) (f : Func
             target_sound indices place (λ decl. result_source p path f made c.callee r result decl 0)
             (λ d k decl signal.
             by_result (site p path f indices) c r d k result decl place (record { result = at_r; taken = taken })
-            (none_of result.dims (equal (length result.dims) 0 one)) signal refl)
+            (none_of result.dims (eqb-true (length result.dims) 0 one)) signal refl)
         by false many =
             array_sound place (λ decl k. result_source p path f made c.callee r result decl k)
             (λ d decl k is less.

@@ -1,10 +1,10 @@
 -- What the rules on names say of the calls in an instance.
-use Rattle.std.proofs.Common.{◌≡◌, ◌+◌, ◌&&◌, ◌++◌, inl, inr, ℕ, zero, suc, List, [], ◌∷◌, length, Bool, true, false}
+use Rattle.std.proofs.Common.{◌≡◌, ◌+◌, ◌&&◌, ◌++◌, inl, inr, ℕ, zero, suc, List, [], ◌∷◌, length, Bool, true}
 use Rattle.std.proofs.Common.{slice_get, bytes_eq, is_some, unwrap_or, Option, Some, Ok, refl, sym, subst, arith}
 use Rattle.std.specs.Prelude.{nat_eq}
-use Rattle.std.proofs.lemmas.Bool.Decides.{eqb_tells}
 use Rattle.std.proofs.lemmas.Slice.Eq.{bytes_eq-Decides}
 use Rattle.std.proofs.lemmas.List.{nil_from_length}
+use Rattle.std.proofs.lemmas.Bool.{eqb-true}
 use Rattle.lists.proofs.Bools.{both_true}
 use Rattle.fault_order.specs.Ranked.{IsClear}
 use Rattle.fault_order.specs.Rules.{Rules, each, each_from, unless}
@@ -49,13 +49,6 @@ first_each_from G a (y ∷ xs) (suc k) x j is ok e =
     first_each_from G (a + 1) xs k x j (omega arith)
     (then_parts (first (G a y)) (first_in (each_from G (a + 1) xs)) ok).1 e
 
-pub equal : (m n : ℕ) → nat_eq m n ≡ true → m ≡ n
-equal m n e = elim (eqb_tells m n) [ inl same ↦ same.1 | inr other ↦ absurd (contradiction (nat_eq m n) e other.0) ]
-  where
-    contradiction : (b : Bool) → b ≡ true → b ≡ false → ⊥
-    contradiction true t f = cc
-    contradiction false t f = cc
-
 pub record IsWhole (wanted : List ℕ) (subs : List Manifest) (dims : List ℕ) : Type 0 where
   pub bare : subs ≡ []
   pub same_dims : dims ≡ wanted
@@ -66,7 +59,7 @@ pub whole : (wanted : List ℕ) (subs : List Manifest) (dims : List ℕ)
 whole wanted subs dims e =
     let parts = both_true (nat_eq (length subs) 0) (bytes_eq dims wanted) e in
     record {
-      bare = nil_from_length subs (equal (length subs) 0 parts.0);
+      bare = nil_from_length subs (eqb-true (length subs) 0 parts.0);
       same_dims = (bytes_eq-Decides dims wanted).0 parts.1;
     }
 
@@ -152,8 +145,8 @@ module _ (p : Program) (f : Func) where
       (rule_holds _ _ two.0) in
       record {
         indices = x.indices;
-        arguments = equal (length args) (length g.params) counts.0;
-        targets = equal (length places) (length g.results) counts.1;
+        arguments = eqb-true (length args) (length g.params) counts.0;
+        targets = eqb-true (length places) (length g.results) counts.1;
         place_ok = λ r place e. first_each_from (taking_rules c g.results) 0 places r place r (omega arith) one.0 e;
         arg_ok = λ d y e. first_each_from (passing_rules c g.params) 0 args d y d (omega arith) three.0 e;
       }

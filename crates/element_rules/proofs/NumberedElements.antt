@@ -6,7 +6,7 @@ use Rattle.std.specs.List.{range_with_len}
 use Rattle.std.proofs.lemmas.Bool.{cases_eq}
 use Rattle.std.proofs.lemmas.List.Elements.{Contains-append_left, Contains-append_right, Contains-append_cases}
 use Rattle.std.proofs.lemmas.Option.{slice_get_within}
-use Rattle.lists.proofs.Places.{some_once, none_there, only_there}
+use Rattle.lists.proofs.Places.{some_once, none_there, only_there, in_first}
 use Rattle.fault_order.specs.Private.FirstMet.{first}
 use Rattle.silage_syntax.specs.declared.tree.Decl.{Decl}
 use Rattle.silage_syntax.specs.Tree.{Func, function, Program}
@@ -34,9 +34,6 @@ cases_first : {A : Type 0} (x : A) (xs : List A) (y : A) → Contains (x ∷ xs)
 cases_first x xs y has =
     elim (Contains-append_cases (x ∷ []) xs y has) [ inl one ↦ inl (only_there x y one) | inr rest ↦ inr rest ]
 
-has_first : {A : Type 0} (x : A) (xs : List A) → Contains (x ∷ xs) x
-has_first x xs = (0, omega arith, refl)
-
 has_rest : {A : Type 0} (x : A) (xs : List A) (y : A) → Contains xs y → Contains (x ∷ xs) y
 has_rest x xs y has = Contains-append_right (x ∷ []) xs y has
 
@@ -47,7 +44,7 @@ module _ (number d : ℕ) where
   has_place : (a n k : ℕ) → a ≤ k → k < a + n → Contains (places a n) (entry_of number d k)
   has_place a zero k least most = absurd (omega arith)
   has_place a (suc n) k least most = elim (cases_eq k a) [
-    | inl same ↦ rw same (has_first (entry_of number d a) (places (a + 1) n))
+    | inl same ↦ rw same (in_first (entry_of number d a) (places (a + 1) n))
     | inr other ↦
         has_rest (entry_of number d a) (places (a + 1) n) (entry_of number d k)
         (has_place (a + 1) n k (omega arith) (omega arith))

@@ -3,11 +3,11 @@ use Rattle.std.proofs.Common.{◌≡◌, ◌≢◌, ◌∙◌, ◌<◌, ◌≤�
 use Rattle.std.proofs.Common.{Bool, true, false, is_none, slice_get, option_map, Option, Some, None, Ok, refl, sym, ap}
 use Rattle.std.proofs.Common.{subst, arith}
 use Rattle.std.specs.Prelude.{nat_eq}
-use Rattle.std.proofs.lemmas.Bool.{cases_lt}
+use Rattle.std.proofs.lemmas.Bool.{cases_lt, eqb-true}
 use Rattle.std.proofs.lemmas.Option.{slice_get_within}
 use Rattle.std.proofs.lemmas.List.{nil_from_length as none_of}
 use Rattle.lists.proofs.Bools.{both_true}
-use Rattle.lists.proofs.Places.{some_once, some_at}
+use Rattle.lists.proofs.Places.{some_once, some_at, at_left}
 use Rattle.fault_order.specs.Ranked.{IsClear}
 use Rattle.fault_order.specs.Private.FirstMet.{first}
 use Rattle.fault_order.proofs.TableFaults.{then_parts}
@@ -26,7 +26,6 @@ use Rattle.silage_meaning.specs.Solves.{result as by_result, array_result as by_
 use Rattle.silage_meaning.specs.Rules.{IsDefinedOnce, HasSingleDefinitions}
 use Rattle.silage_meaning.proofs.Instances.{instance_once, made_once}
 use Rattle.silage_meaning.proofs.Elements.{made_is}
-use Rattle.silage_meaning.proofs.Outputs.{in_first}
 use Rattle.name_rules.specs.Contexts.{Context}
 use Rattle.name_rules.specs.Meanings.{is_whole_array, read_dims}
 use Rattle.name_rules.specs.NameRules.{place_rules, array_rules, argument_rules, expr_rules}
@@ -34,7 +33,7 @@ use Rattle.name_rules.specs.NameFaults.{name_faults}
 use Rattle.element_rules.specs.ElementFaults.{element_faults}
 use Rattle.element_rules.proofs.DefinitionLists.{Entry, entry_at, IsAt, site, made_by, result_source, items_entries}
 use Rattle.element_rules.proofs.CheckedInstances.{IsChecked, checked, added, no_parameter, has_entry}
-use Rattle.element_rules.proofs.NamedItems.{equal, whole, place_fits, within as named_within, call_named}
+use Rattle.element_rules.proofs.NamedItems.{whole, place_fits, within as named_within, call_named}
 use Rattle.element_rules.proofs.NamedItems.{instance_named}
 use Rattle.element_rules.proofs.ItemDefinitions.{Has, entries_sound, target_has, array_has, takers_has, items_has}
 use Rattle.element_rules.proofs.InputWords.{from_word, has_word, word_once}
@@ -211,7 +210,7 @@ module _ (p : Program) (names : IsClear (name_faults p)) (apart : HasCallsApart 
       c is arr
     where
       many : (b : Bool) → nat_eq (length theirs.dims) 0 ≡ b → theirs.dims ≢ [] → nat_eq (length theirs.dims) 0 ≡ false
-      many true e some = absurd (some (none_of theirs.dims (equal (length theirs.dims) 0 e)))
+      many true e some = absurd (some (none_of theirs.dims (eqb-true (length theirs.dims) 0 e)))
       many false e some = e
 
   -- a definition is an item's, or it is passed
@@ -453,7 +452,7 @@ module _ (p : Program) (s : Site) (c : Call p s) (d k : ℕ) (decl : Decl) (indi
           → nat_eq (length decl.dims) 0 ≡ b
           → first (cond b (expr_rules around x) (array_rules around decl.dims x)) ≡ Ok tt
           → HasSource p the_element
-      by true e ok = single_source x at (none_of decl.dims (equal (length decl.dims) 0 e))
+      by true e ok = single_source x at (none_of decl.dims (eqb-true (length decl.dims) 0 e))
       by false e ok = no_name x at (λ none. absurd (no (nat_eq (length decl.dims) 0) (rw none refl) e)) ok
         where
           no : (b : Bool) → b ≡ true → b ≡ false → ⊥
@@ -572,7 +571,7 @@ module _ (p : Program) (names : IsClear (name_faults p)) (clear : IsClear (eleme
   single_definitions e is = elim (cases_lt e.declaration (length is.function.params)) [
     | inl less ↦
         let x = some_at is.function.params e.declaration less in
-        let same : x.0 ≡ is.decl = some_once (in_first is.function.params _ e.declaration x.0 x.1) is.declared in
+        let same : x.0 ≡ is.decl = some_once (at_left is.function.params _ e.declaration x.0 x.1) is.declared in
         parameter_once e.instance is.function is.instance e.declaration e.offset is.decl (rw (← same) x.1) is.offset
     | inr more ↦ entry_once e.instance is.function is.instance e.declaration e.offset is.decl is.declared is.offset more
   ]

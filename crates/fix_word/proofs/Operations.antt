@@ -20,7 +20,7 @@ truth_is : (P : Type 0) (b : Bool) → Decides b P → IsTruth P (bit_of b)
 truth_is P true h = inl (h.0 refl, refl)
 truth_is P false h = inr (λ p. cc (h.1 p), refl)
 
-truth_unique : (P : Type 0) (m m' : ℤ) → IsTruth P m → IsTruth P m' → m ≡ m'
+pub truth_unique : (P : Type 0) (m m' : ℤ) → IsTruth P m → IsTruth P m' → m ≡ m'
 truth_unique P m m' (inl x) (inl y) = x.1 ∙ sym y.1
 truth_unique P m m' (inl x) (inr y) = absurd (y.0 x.0)
 truth_unique P m m' (inr x) (inl y) = absurd (x.0 y.0)
@@ -50,7 +50,7 @@ choice_is : (a b c : ℤ) (is_zero : Bool) → Decides is_zero (a ≡ pos 0) →
 choice_is a b c true h = inr (h.0 refl, refl)
 choice_is a b c false h = inl (λ e. cc (h.1 e), refl)
 
-choice_unique : (a b c m m' : ℤ) → IsChoice a b c m → IsChoice a b c m' → m ≡ m'
+pub choice_unique : (a b c m m' : ℤ) → IsChoice a b c m → IsChoice a b c m' → m ≡ m'
 choice_unique a b c m m' (inl x) (inl y) = x.1 ∙ sym y.1
 choice_unique a b c m m' (inl x) (inr y) = absurd (x.0 y.0)
 choice_unique a b c m m' (inr x) (inl y) = absurd (y.0 x.0)

@@ -124,7 +124,7 @@ sign_extends q y n m w above i j some all e1 e2 e3 low high =
     shift_is y above ∙ exact_floor y (2 ^ above) r (pow_pos above) exact
     ∙ wrap_unique q w r (wrap_of q w) some wrap (wrap_is q w some)
 
-two_powers : (s : ℕ) → 2 ^ suc s ≡ 2 * 2 ^ s
+pub two_powers : (s : ℕ) → 2 ^ suc s ≡ 2 * 2 ^ s
 two_powers s = pow-suc 2 s ∙ mul_comm (2 ^ s) 2
 
 floor_by : (q f r : ℤ) (s e : ℕ)

@@ -13,6 +13,7 @@ use Rattle.plan_core.proofs.OneArcs.{one_unroll}
 use Rattle.plan_core.proofs.OneFit.{listed_trans}
 use Rattle.plan_core.proofs.OneHeight.{neither_less}
 use Rattle.reg_alloc.specs.Allottable.{AreAllottable}
+use Rattle.reg_alloc.proofs.Steps.{listed_there}
 use Rattle.given_registers.specs.Around.{given_at, IsFor, AreBeside, CanHave, CanBeHad, HasRegister, AreRegisters}
 use Rattle.given_registers.specs.Around.{AreAllottedAround}
 use Rattle.given_registers.specs.Faults.{IsCause, IsFirstBad, IsWithoutRegister, IsRegisterFault}
@@ -23,7 +24,6 @@ use Rattle.given_registers.specs.declared.fault.GivenCause.TheVariants.{NoCopy, 
 use Rattle.given_registers.specs.declared.fault.RegisterFault.{RegisterFault}
 use Rattle.given_registers.specs.declared.fault.RegisterFault.TheVariants.{Given, Full, Memory}
 use Rattle.given_registers.proofs.OneChoice.{one_arc, one_copy, moved, agree, free_same, one_choice}
-use Rattle.given_registers.proofs.Rows.{listed_there}
 
 module _ (d : Datapath) (unroll : ℕ) (given : List GivenRegister) (arcs : List Arc) (is : AreAllottable d arcs) where
   -- the file of the one copy of a given register

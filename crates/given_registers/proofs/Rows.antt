@@ -1,25 +1,13 @@
 -- The registers of the lifetimes, row by row.
-use Rattle.std.proofs.Common.{◌≡◌, ◌∙◌, ℕ, ◌+◌, ◌<◌, ◌≤◌, ◌⊎◌, inl, inr, ⊎_elim, refl, sym, ap, arith, List, []}
-use Rattle.std.proofs.Common.{◌∷◌, ◌++◌, length, slice_index_or}
+use Rattle.std.proofs.Common.{◌≡◌, ◌∙◌, ℕ, ◌+◌, ◌<◌, ◌≤◌, inl, inr, ⊎_elim, refl, sym, ap, arith, List, []}
+use Rattle.std.proofs.Common.{◌∷◌, ◌++◌, length}
 use Rattle.std.proofs.lemmas.Bool.{cases_lt}
 use Rattle.std.proofs.lemmas.List.{get_or_append_left, get_or_push, length_push}
 use Rattle.plan_core.specs.Arcs.{arc_of}
 use Rattle.plan_core.specs.FirstFit.{register_of, IsListedBefore}
 use Rattle.plan_core.specs.declared.registers.Arc.{Arc}
+use Rattle.reg_alloc.proofs.Steps.{register_before, register_last}
 use Rattle.given_registers.specs.Private.Allotting.{AreRowsOf}
-
--- the registers of the lifetimes before the last one
-row_before : (regs : List (List ℕ)) (last : List ℕ) (l j : ℕ)
-    → l < length regs
-    → register_of (regs ++ last ∷ []) l j ≡ register_of regs l j
-row_before regs last l j less =
-    ap (λ (rs : List ℕ). slice_index_or rs j 0) (get_or_append_left regs (last ∷ []) [] l less)
-
--- and those of the last one
-row_last : (regs : List (List ℕ)) (last : List ℕ) (k j : ℕ)
-    → length regs ≡ k
-    → register_of (regs ++ last ∷ []) k j ≡ slice_index_or last j 0
-row_last regs last k j is = ap (λ (rs : List ℕ). slice_index_or rs j 0) (get_or_push regs last [] k is)
 
 -- a register more changes none before it
 pub row_more : (regs : List (List ℕ)) (last : List ℕ) (k i q l j : ℕ)
@@ -28,12 +16,12 @@ pub row_more : (regs : List (List ℕ)) (last : List ℕ) (k i q l j : ℕ)
     → IsListedBefore l j k i
     → register_of (regs ++ last ∷ []) l j ≡ register_of (regs ++ (last ++ q ∷ []) ∷ []) l j
 row_more regs last k i q l j count copies (inl less) =
-    row_before regs last l j (omega (arith, less, count))
-    ∙ sym (row_before regs (last ++ q ∷ []) l j (omega (arith, less, count)))
+    register_before regs last l j (omega (arith, less, count))
+    ∙ sym (register_before regs (last ++ q ∷ []) l j (omega (arith, less, count)))
 row_more regs last k i q l j count copies (inr here) =
     let now : length regs ≡ l = count ∙ sym here.0 in
-    row_last regs last l j now ∙ sym (get_or_append_left last (q ∷ []) 0 j (omega (arith, here.1, copies)))
-    ∙ sym (row_last regs (last ++ q ∷ []) l j now)
+    register_last regs last l j now ∙ sym (get_or_append_left last (q ∷ []) 0 j (omega (arith, here.1, copies)))
+    ∙ sym (register_last regs (last ++ q ∷ []) l j now)
 
 -- and this is the one
 pub row_now : (regs : List (List ℕ)) (last : List ℕ) (k i q : ℕ)
@@ -41,40 +29,19 @@ pub row_now : (regs : List (List ℕ)) (last : List ℕ) (k i q : ℕ)
     → length last ≡ i
     → register_of (regs ++ (last ++ q ∷ []) ∷ []) k i ≡ q
 row_now regs last k i q count copies =
-    row_last regs (last ++ q ∷ []) k i count ∙ get_or_push last q 0 i copies
+    register_last regs (last ++ q ∷ []) k i count ∙ get_or_push last q 0 i copies
 
 -- the next lifetime has none yet
 pub row_new : (regs : List (List ℕ)) (k l j : ℕ)
     → length regs ≡ k
     → IsListedBefore l j k 0
     → register_of regs l j ≡ register_of (regs ++ [] ∷ []) l j
-row_new regs k l j count (inl less) = sym (row_before regs [] l j (omega (arith, less, count)))
+row_new regs k l j count (inl less) = sym (register_before regs [] l j (omega (arith, less, count)))
 row_new regs k l j count (inr here) = absurd (omega (arith, here.1))
-
-pub listed_more : (l j k i : ℕ) → IsListedBefore l j k (i + 1) → IsListedBefore l j k i ⊎ ((l ≡ k) × (j ≡ i))
-listed_more l j k i (inl less) = inl (inl less)
-listed_more l j k i (inr here) =
-    ⊎_elim (λ (below : j < i). inl (inr (here.0, below)))
-    (λ (above : i ≤ j). inr (here.0, omega (arith, here.1, above))) (cases_lt j i)
 
 pub listed_within : (l j k i : ℕ) → IsListedBefore l j k i → IsListedBefore l j k (i + 1)
 listed_within l j k i (inl less) = inl less
 listed_within l j k i (inr here) = inr (here.0, omega (arith, here.1))
-
--- of one lifetime, or a copy of a later one
-pub listed_next : (l j k i : ℕ) → (l ≡ k → j < i) → IsListedBefore l j (k + 1) 0 → IsListedBefore l j k i
-listed_next l j k i last (inl less) =
-    ⊎_elim (λ (below : l < k). inl below)
-    (λ (above : k ≤ l). let e : l ≡ k = omega (arith, less, above) in inr (e, last e)) (cases_lt l k)
-listed_next l j k i last (inr here) = absurd (omega (arith, here.1))
-
-pub listed_back : (l j k i : ℕ) → IsListedBefore l j k i → IsListedBefore l j (k + 1) 0
-listed_back l j k i (inl less) = inl (omega (arith, less))
-listed_back l j k i (inr here) = inl (omega (arith, here.0))
-
-pub listed_there : (l j k i n : ℕ) → k < n → IsListedBefore l j k i → l < n
-listed_there l j k i n there (inl less) = omega (arith, there, less)
-listed_there l j k i n there (inr here) = omega (arith, there, here.0)
 
 module _ (arcs : List Arc) where
   pub no_rows : AreRowsOf arcs 0 []

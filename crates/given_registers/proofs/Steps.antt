@@ -10,6 +10,7 @@ use Rattle.plan_core.specs.FirstFit.{register_of, IsListedBefore}
 use Rattle.plan_core.specs.declared.registers.Arc.{Arc}
 use Rattle.plan_core.proofs.OneFit.{listed_trans}
 use Rattle.reg_alloc.specs.Allottable.{AreAllottable}
+use Rattle.reg_alloc.proofs.Steps.{listed_more, listed_next, listed_there, listed_back}
 use Rattle.given_registers.specs.Around.{given_at, AreBeside, IsGivenAt, CanBeHad, IsFree, HasRegister, AreRegisters}
 use Rattle.given_registers.specs.Faults.{IsWithoutRegister}
 use Rattle.given_registers.specs.Private.Allotting.{none_allotted, allotted_at, IsClear, IsItsRegister, IsFullFor}
@@ -18,8 +19,7 @@ use Rattle.given_registers.specs.Private.Allotting.{AreCopies, AreRowsOf}
 use Rattle.given_registers.specs.declared.given.GivenRegister.{GivenRegister}
 use Rattle.given_registers.specs.declared.circle.Allotted.{Allotted}
 use Rattle.given_registers.proofs.OneChoice.{one_arc, one_copy, Agree, free_same, has_same}
-use Rattle.given_registers.proofs.Rows.{row_more, row_now, row_new, listed_more, listed_within, listed_next}
-use Rattle.given_registers.proofs.Rows.{listed_back, listed_there}
+use Rattle.given_registers.proofs.Rows.{row_more, row_now, row_new, listed_within}
 
 -- one copy with its register, by its parts
 pub is_copy : (x : Allotted) (l j register : ℕ)

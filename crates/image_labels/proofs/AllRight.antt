@@ -1,9 +1,9 @@
 -- The labels are right at the start of a run, from turn to turn, and so in each cycle.
-use Rattle.std.proofs.Common.{◌≡◌, ℕ, zero, suc, ◌+◌, ◌-◌, ◌*◌, ◌<◌, ◌≤◌, ◌⊎◌, inl, inr, ⊎_elim, sym}
+use Rattle.std.proofs.Common.{◌≡◌, ℕ, zero, suc, ◌+◌, ◌-◌, ◌*◌, ◌<◌, ◌≤◌, ⊎_elim, sym}
 use Rattle.std.proofs.Common.{ap, ◌∙◌, arith, length, ℤ, pos, subst}
 use Rattle.std.specs.Prelude.{◌-ℤ◌}
-use Rattle.std.proofs.lemmas.Bool.{cases_lt}
 use Rattle.lists.specs.Rows.{Rows}
+use Rattle.lists.proofs.Numbers.{same_or_up_to}
 use Rattle.signal_graph.specs.GraphSolves.{node_of}
 use Rattle.signal_graph.specs.Rules.{word_before}
 use Rattle.signal_graph.specs.declared.graph.Graph.{Graph}
@@ -125,9 +125,6 @@ module _ {g : Graph} {image : Image} {certificate : Certificate} (run : Run g im
   abbrev limit : ℕ
   limit = length run.stream * image.period
 
-  upto : (n b : ℕ) → b ≤ suc n → (b ≤ n) ⊎ (b ≡ suc n)
-  upto n b le = ⊎_elim (λ below. inl (omega arith)) (λ from. inr (omega arith)) (cases_lt b (suc n))
-
   -- within a turn
   within : (k : ℕ)
       → IsRight run k 0
@@ -144,7 +141,7 @@ module _ {g : Graph} {image : Image} {certificate : Certificate} (run : Run g im
       within k first c (omega arith) (omega arith) in
       ⊎_elim (λ old. before b old)
       (λ new. subst (IsRight run k) (sym new) (step_right run k c (omega arith) (omega arith) before))
-      (upto c b le)
+      (same_or_up_to c b le)
 
   -- at the start of each turn
   starts : (k : ℕ) → k * T ≤ limit → IsRight run k 0

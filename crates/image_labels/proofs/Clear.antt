@@ -1,11 +1,12 @@
 -- No cycle of the run of a labelled image has a conflict.
-use Rattle.std.proofs.Common.{◌≡◌, ℕ, ◌+◌, ◌*◌, ◌/◌, ◌%◌, ◌<◌, ◌≤◌, ◌==◌, ⊎_elim, refl, sym, ap, ◌∙◌, arith}
-use Rattle.std.proofs.Common.{length, ℤ, pos, Option, Some, None, subst}
-use Rattle.std.specs.Option.{IsSome, IsNone}
+use Rattle.std.proofs.Common.{◌≡◌, ℕ, ◌+◌, ◌*◌, ◌/◌, ◌%◌, ◌<◌, ◌≤◌, ◌==◌, ⊎_elim, sym, ap, ◌∙◌, arith}
+use Rattle.std.proofs.Common.{length, ℤ, pos, Some, None, subst}
+use Rattle.std.specs.Option.{IsNone}
 use Rattle.std.specs.List.{count_by}
-use Rattle.std.proofs.lemmas.Bool.{cases_lt}
+use Rattle.std.proofs.lemmas.Bool.{cases_lt, eqb-true}
 use Rattle.std.proofs.Math.Nat.{mod-lt, mul-le-mul_right}
 use Rattle.lists.specs.Rows.{Rows}
+use Rattle.lists.proofs.Options.{some_of, not_none, no_more}
 use Rattle.signal_graph.specs.declared.graph.Graph.{Graph}
 use Rattle.micro_image.specs.declared.conflict.ConflictKind.TheVariants.{Busy, TwoDrivers, FileTwice, NoDriver}
 use Rattle.micro_image.specs.declared.conflict.ConflictKind.TheVariants.{NoResult, Address as AddressConflict}
@@ -27,20 +28,9 @@ use Rattle.image_labels.specs.Labelled.{IsDrive, IsTaken}
 use Rattle.image_labels.specs.Run.{Run, rows_of, IsRight}
 use Rattle.image_labels.proofs.Frames.{cell_below}
 use Rattle.image_labels.proofs.Turns.{word_is, issue_is, issued_fit, issued_among, ends_in_turn, some_cycle}
-use Rattle.image_labels.proofs.Turns.{same_number}
 use Rattle.image_labels.proofs.Issues.{address_says, unit_valid, on_unit}
 use Rattle.image_labels.proofs.Steps.{result_is}
 use Rattle.image_labels.proofs.AllRight.{all_right}
-
-some_of : {A : Type 0} (o : Option A) → IsSome o → (a : A) × (o ≡ Some a)
-some_of None h = absurd (cc)
-some_of (Some a) h = (a, refl)
-
-not_none : {A : Type 0} (o : Option A) (a : A) → o ≡ Some a → IsNone o → ⊥
-not_none o a e h = absurd (cc)
-
-both : {A : Type 0} (o : Option A) (a : A) → o ≡ None → o ≡ Some a → ⊥
-both o a e f = absurd (cc)
 
 module _ {g : Graph} {image : Image} {certificate : Certificate} (run : Run g image certificate) where
   abbrev T : ℕ
@@ -105,7 +95,7 @@ module _ {g : Graph} {image : Image} {certificate : Certificate} (run : Run g im
           let le : k * T ≤ q * T = times_le k q from in
           let le' : q ≡ k = same_turn q le whole before in
           let same : q * T ≡ k * T = ap (λ q. q * T) le' in
-          both (issued_in (word_in image r) u) earlier
+          no_more (issued_in (word_in image r) u) earlier
           (free r (omega (arith, same, whole, before)) (omega (arith, same, whole, near))) then')
           (cases_lt q k)
         where
@@ -133,7 +123,7 @@ module _ {g : Graph} {image : Image} {certificate : Certificate} (run : Run g im
       one_driver : (b : ℕ) → 2 ≤ count_by (λ (e : Enable). e.bus == b) (micro.word_at t).enables → ⊥
       one_driver b h =
           let e = passing (λ (e : Enable). e.bus == b) (micro.word_at t).enables (omega (arith, h)) in
-          let bus : e.it.bus ≡ b = same_number e.it.bus b e.passes in
+          let bus : e.it.bus ≡ b = eqb-true e.it.bus b e.passes in
           let alone : count_by (λ (e : Enable). e.bus == b) (micro.word_at t).enables < 2 =
           subst (λ (w : Word). count_by (λ (e : Enable). e.bus == b) w.enables < 2) (sym (word_is run k c below))
           (subst (λ b. count_by (λ (e : Enable). e.bus == b) (word_in image c).enables < 2) bus
@@ -143,7 +133,7 @@ module _ {g : Graph} {image : Image} {certificate : Certificate} (run : Run g im
       one_write : (f : ℕ) → 2 ≤ count_by (λ (k : Take). file_of k == f) (micro.word_at t).takes → ⊥
       one_write f h =
           let e = passing (λ (k : Take). file_of k == f) (micro.word_at t).takes (omega (arith, h)) in
-          let file : file_of e.it ≡ f = same_number (file_of e.it) f e.passes in
+          let file : file_of e.it ≡ f = eqb-true (file_of e.it) f e.passes in
           let alone : count_by (λ (k : Take). file_of k == f) (micro.word_at t).takes < 2 =
           subst (λ (w : Word). count_by (λ (k : Take). file_of k == f) w.takes < 2) (sym (word_is run k c below))
           (subst (λ f. count_by (λ (k : Take). file_of k == f) (word_in image c).takes < 2) file
@@ -156,7 +146,7 @@ module _ {g : Graph} {image : Image} {certificate : Certificate} (run : Run g im
           → ⊥
       some_driver b some none =
           let e = passing (λ (k : Take). k.bus == b) (micro.word_at t).takes some in
-          let bus : e.it.bus ≡ b = same_number e.it.bus b e.passes in
+          let bus : e.it.bus ≡ b = eqb-true e.it.bus b e.passes in
           let driver = some_of _ (take_at e.it e.among).driver in
           let count : 0 < count_by (λ (e : Enable). e.bus == b) (micro.word_at t).enables =
           subst (λ (w : Word). 0 < count_by (λ (e : Enable). e.bus == b) w.enables) (sym (word_is run k c below))
@@ -173,7 +163,7 @@ module _ {g : Graph} {image : Image} {certificate : Certificate} (run : Run g im
           → ⊥
       some_result u some none =
           let e = passing (λ (e : Enable). e.unit == u) (micro.word_at t).enables some in
-          let unit : e.it.unit ≡ u = same_number e.it.unit u e.passes in
+          let unit : e.it.unit ≡ u = eqb-true e.it.unit u e.passes in
           let drive : IsDrive image c e.it = drive_at e.it e.among in
           let ends : ended_in image c u ≡ Some drive.result.0 =
           subst (λ u. ended_in image c u ≡ Some drive.result.0) unit drive.result.1 in

@@ -17,6 +17,7 @@ use Rattle.plan_core.specs.Operands.{edge_of}
 use Rattle.plan_soundness.specs.Samples.{past}
 use Rattle.plan_soundness.specs.Private.Solution.{meaning_by}
 use Rattle.plan_soundness.proofs.Meanings.{meaning-node}
+use Rattle.plan_soundness.proofs.LoweredSolution.{back_pos, back_neg}
 use Rattle.image_labels.specs.Rules.{representative, HaveOneRepresentative, AreSameOperands, IsCopy, AreCopies}
 use Rattle.image_labels.specs.Rules.{HaveSameWord}
 use Rattle.image_labels.proofs.NodeWords.{word_is, edge_sound, edge_there, sample_before}
@@ -53,19 +54,13 @@ module _ (g : Graph) (stream : Rows) (words : Words) (sound : IsGraph g) (solves
   no_delay : (n d : ℕ) → d ≡ 0 → pos n -ℤ pos d ≡ pos n
   no_delay n d none = omega (arith, ints, none)
 
-  in_run : (n d : ℕ) → d ≤ n → pos n -ℤ pos d ≡ pos (n - d)
-  in_run n d le = omega (arith, ints, le)
-
-  before_run : (n d : ℕ) → n < d → pos n -ℤ pos d ≡ negsuc (d - n - 1)
-  before_run n d less = omega (arith, ints, less)
-
   delayed_same : (n d w : ℕ) → Earlier n → 0 < d → d ≤ 1023 → w < length g.nodes → Same w (pos n -ℤ pos d)
   delayed_same n d w earlier some few in-w =
       ⊎_elim
       (λ (before : n < d).
-      subst (Same w) (sym (before_run n d before)) (past_same w (d - n - 1) in-w (omega (arith, few, before))))
+      subst (Same w) (sym (back_neg n d before)) (past_same w (d - n - 1) in-w (omega (arith, few, before))))
       (λ (from : d ≤ n).
-      subst (Same w) (sym (in_run n d from)) (earlier (n - d) (omega (arith, some, from)) w in-w))
+      subst (Same w) (sym (back_pos n d from)) (earlier (n - d) (omega (arith, some, from)) w in-w))
       (cases_lt n d)
 
   node_at : (n d v w : ℕ)

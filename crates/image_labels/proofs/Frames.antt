@@ -1,11 +1,8 @@
 -- The cells of a ram, counted from the first sample of a turn.
 use Rattle.std.proofs.Common.{◌≡◌, ℕ, ◌+◌, ◌-◌, ◌*◌, ◌%◌, ◌<◌, ◌≤◌, sym, ap, ◌∙◌, arith}
-use Rattle.std.proofs.Math.Nat.{mod-add-mod, mod-eq_of_lt, mod-lt, mul-le-mul_left, add-mul}
+use Rattle.std.proofs.Math.Nat.{mod-add-mod, mod-eq_of_lt, mod-lt, add-mul}
 use Rattle.plan_soundness.specs.Private.Cells.{cell_in}
-use Rattle.plan_soundness.proofs.Lines.{cancel}
-
-enough : (m s : ℕ) → 0 < m → s ≤ s * m
-enough m s some = let one : s * 1 ≤ s * m = mul-le-mul_left s some in omega (arith, one)
+use Rattle.plan_soundness.proofs.Lines.{cancel, enough}
 
 -- the cell of an offset so many samples later
 pub later_cell : (m a s j : ℕ) → 0 < m → cell_in m 0 a (s + j) ≡ cell_in m 0 (cell_in m 0 a j) s

@@ -29,6 +29,7 @@ use Rattle.plan_soundness.specs.Private.Cells.{cell_in}
 use Rattle.plan_soundness.specs.Private.Solution.{meaning_by, IsOfGraph}
 use Rattle.plan_soundness.proofs.Lines.{addr-cell}
 use Rattle.plan_soundness.proofs.Meanings.{value-meaning}
+use Rattle.plan_soundness.proofs.LoweredSolution.{is_of_graph}
 use Rattle.image_labels.specs.declared.label.Certificate.{Certificate}
 use Rattle.image_labels.specs.declared.label.Label.{Label}
 use Rattle.image_labels.specs.declared.label.Label.TheVariants.{Unknown, Signal, Address, Constant}
@@ -40,7 +41,7 @@ use Rattle.image_labels.specs.Labelled.{IsLoad, IsKept, IsMoved, IsConst, IsAddr
 use Rattle.image_labels.specs.Run.{Run, rows_of, Says, IsRight}
 use Rattle.image_labels.proofs.Frames.{later_cell}
 use Rattle.image_labels.proofs.NodeWords.{word_is as node_word_is, node_sound, edge_sound, edge_there}
-use Rattle.image_labels.proofs.NodeWords.{is_of_graph, sample_ago}
+use Rattle.image_labels.proofs.NodeWords.{sample_ago}
 use Rattle.image_labels.proofs.CopyWords.{representative_word}
 use Rattle.image_labels.proofs.Rules.{meaning_exchanged, kept, word_bits, constant_at, fold_word}
 use Rattle.image_labels.proofs.Turns.{fit_of, sample_is, sample_below, row_is}
@@ -49,7 +50,7 @@ pos_of : (n : ℕ) (z : ℤ) → IsBelow n z → z ≡ pos (to_nat z)
 pos_of n (pos k) h = refl
 pos_of n (negsuc k) h = absurd h
 
-now_too : (k n : ℕ) → pos (k + (past + n)) -ℤ pos past ≡ pos (k + n)
+pub now_too : (k n : ℕ) → pos (k + (past + n)) -ℤ pos past ≡ pos (k + n)
 now_too k n = omega (arith, ints)
 
 one_cell : (m n x y : ℕ) → Address m x ≡ Address n y → x ≡ y

@@ -2,7 +2,6 @@
 use Rattle.std.proofs.Common.{◌≡◌, ℕ, zero, suc, ◌+◌, ◌-◌, ◌*◌, ◌/◌, ◌%◌, ◌<◌, ◌≤◌, refl, sym, ap, ◌∙◌, arith, [], ◌∷◌}
 use Rattle.std.proofs.Common.{List, length, ℤ, pos, Option, Some, None, subst, Bool, true, false, find, if◌then◌else◌}
 use Rattle.std.specs.Prelude.{◌-ℤ◌}
-use Rattle.std.proofs.lemmas.Int.{ints}
 use Rattle.std.proofs.lemmas.Nat.{div-mul-add}
 use Rattle.std.proofs.Math.Nat.{add-mul, mul_assoc, mul-le-mul_right}
 use Rattle.lists.specs.Rows.{Rows}
@@ -27,7 +26,7 @@ use Rattle.image_labels.specs.Labelled.{IsPut, IsRowWord}
 use Rattle.image_labels.specs.Run.{Run, rows_of, Says, IsRight}
 use Rattle.image_labels.proofs.Turns.{ending_is, le-true, issued_among, ended_is, fit_of}
 use Rattle.image_labels.proofs.Entries.{each_write, put_among, put_write}
-use Rattle.image_labels.proofs.Issues.{on_unit}
+use Rattle.image_labels.proofs.Issues.{on_unit, now_too}
 use Rattle.image_labels.proofs.Steps.{fits, on_it, value_says}
 use Rattle.image_labels.proofs.AllRight.{all_right}
 
@@ -60,9 +59,6 @@ content-all micro z place v t None is each before =
 content-all micro z place v t (Some e) is each before =
     let at = find_among (λ (e : Entry). same_place e.place place) e (entries_by micro z (Log micro z t) t) is in
     content-written micro z place v t e at.0 at.1 each
-
-now_too : (k n : ℕ) → pos (k + (past + n)) -ℤ pos past ≡ pos (k + n)
-now_too k n = omega (arith, ints)
 
 module _ {g : Graph} {image : Image} {certificate : Certificate} (run : Run g image certificate) where
   abbrev T : ℕ

@@ -5,40 +5,19 @@ use Rattle.std.proofs.lemmas.Int.{ints}
 use Rattle.std.proofs.lemmas.List.{get_or-map}
 use Rattle.std.proofs.lemmas.Option.{slice_get_within}
 use Rattle.lists.specs.Rows.{Rows}
-use Rattle.fix_word.specs.declared.operation.Op.{Op}
 use Rattle.fix_word.specs.declared.operation.Op.TheVariants as op
-use Rattle.operations.specs.Operations.{operands, class_of}
-use Rattle.signal_graph.specs.Operations.{IsOfGraphs}
+use Rattle.operations.specs.Operations.{operands}
 use Rattle.signal_graph.specs.GraphRules.{IsGraph, IsNode, IsEdge}
 use Rattle.signal_graph.specs.GraphSolves.{GraphSolves, node_of, no_node}
-use Rattle.signal_graph.specs.Values.{Words, given_by, operand, operand_words}
+use Rattle.signal_graph.specs.Values.{Words, operand, operand_words}
 use Rattle.signal_graph.specs.declared.graph.Edge.{Edge}
 use Rattle.signal_graph.specs.declared.graph.Node.{Node}
 use Rattle.signal_graph.specs.declared.graph.Graph.{Graph}
 use Rattle.plan_core.specs.Operands.{edge_of, no_edge}
 use Rattle.plan_soundness.specs.Samples.{past}
-use Rattle.plan_soundness.specs.Private.Solution.{meaning_by, IsOfGraph}
+use Rattle.plan_soundness.specs.Private.Solution.{meaning_by}
 use Rattle.plan_soundness.proofs.Meanings.{meaning-operands}
-
--- the operands that an operation has
-value_meaning : (o : Op) (node : Node) (stream : Rows) (words : Words) (n : ℕ)
-    → IsOfGraphs (class_of o)
-    → given_by (class_of o) stream words n (record node { op = o })
-    ≡ meaning_by o node stream n (λ q. operand (operand_words words n node.edges) q)
-value_meaning op.Input node stream words n of = refl
-value_meaning op.Output node stream words n of = refl
-value_meaning op.Const node stream words n of = refl
-value_meaning op.Load node stream words n of = absurd of
-value_meaning op.Store node stream words n of = absurd of
-value_meaning op.Addr node stream words n of = absurd of
-value_meaning _ node stream words n of = refl
-
-pub is_of_graph : (o : Op) → IsOfGraphs (class_of o) → IsOfGraph o
-is_of_graph op.Load of = absurd of
-is_of_graph op.Store of = absurd of
-is_of_graph op.Addr of = absurd of
-is_of_graph op.Input of = tt {0}
-is_of_graph _ of = tt {0}
+use Rattle.plan_soundness.proofs.LoweredSolution.{same_meaning, is_of_graph}
 
 module _ (g : Graph) (stream : Rows) (words : Words) (sound : IsGraph g) (solves : GraphSolves g stream words) where
   pub node_sound : (v : ℕ) → v < length g.nodes → IsNode g (node_of g v)
@@ -88,7 +67,7 @@ module _ (g : Graph) (stream : Rows) (words : Words) (sound : IsGraph g) (solves
       (λ q. operand (operand_words words n (node_of g v).edges) q)
       (is_of_graph (node_of g v).op (node_sound v in-v).operation)
       (λ q in-q. same q in-q ∙ sym (operand_is v n q in-v in-q))
-      ∙ sym (value_meaning (node_of g v).op (node_of g v) stream words n (node_sound v in-v).operation)
+      ∙ sym (same_meaning (node_of g v).op (node_of g v) stream words n (node_sound v in-v).operation)
       ∙ sym (solves.present v n in-v in-n)
 
 -- samples by their number and by themselves

@@ -1,6 +1,6 @@
 -- The rules of labels hold in each solution of a graph.
 use Rattle.std.proofs.Common.{◌≡◌, ℕ, ◌+◌, ◌-◌, ◌<◌, ◌≤◌, ◌==◌, ⊎_elim, refl, sym, ap, ◌∙◌, arith, subst, length, List}
-use Rattle.std.proofs.Common.{ℤ, pos, negsuc, Bool, true, false, not, ◌&&◌, ◌||◌, Option, Some, None, find}
+use Rattle.std.proofs.Common.{ℤ, pos, negsuc, Bool, true, false, not, find}
 use Rattle.std.specs.Prelude.{◌-ℤ◌, ◌*ℤ◌}
 use Rattle.std.specs.Bool.{Decides}
 use Rattle.std.specs.Ordering.{int_eq}
@@ -9,6 +9,7 @@ use Rattle.std.proofs.lemmas.Bool.{cases_lt}
 use Rattle.std.proofs.lemmas.Bool.Decides.{Decides-int_eq}
 use Rattle.std.proofs.lemmas.Int.{ints}
 use Rattle.std.proofs.lemmas.List.Elements.{All-contains}
+use mathlib.Core.Bool.{and_comm, or_comm}
 use Rattle.lists.specs.Rows.{Rows}
 use Rattle.fix_word.specs.Words.{IsWord, IsFormat}
 use Rattle.fix_word.specs.Values.{apply_of, form_of, fit_of, scaled_of, bit_of, truth_of}
@@ -21,13 +22,13 @@ use Rattle.fix_word.proofs.Clips.{clip_is}
 use Rattle.fix_word.proofs.Forms.{form_word}
 use Rattle.fix_word.proofs.Wraps.{wrap_of_word, word_wider}
 use Rattle.operations.specs.Operations.{class_of, is_quantised, IsFormatWhere}
-use Rattle.signal_graph.specs.Rules.{AreInits, word_before, word_or_zero}
+use Rattle.signal_graph.specs.Rules.{AreInits, word_before}
 use Rattle.signal_graph.specs.GraphRules.{IsGraph}
 use Rattle.signal_graph.specs.GraphSolves.{GraphSolves, node_of}
 use Rattle.signal_graph.specs.Values.{Words, given_by}
 use Rattle.signal_graph.specs.declared.graph.Node.{Node}
 use Rattle.signal_graph.specs.declared.graph.Graph.{Graph}
-use Rattle.signal_graph.proofs.Fits.{zero_word}
+use Rattle.signal_graph.proofs.Fits.{zero_word, word_or_zero_fits}
 use Rattle.signal_graph.proofs.Members.{found_member}
 use Rattle.plan_soundness.specs.Samples.{past}
 use Rattle.plan_soundness.specs.Private.Solution.{meaning_by}
@@ -47,26 +48,14 @@ eq_by a b false false h k = refl
 eq_exchanged : (a b : ℤ) → int_eq a b ≡ int_eq b a
 eq_exchanged a b = eq_by a b (int_eq a b) (int_eq b a) (Decides-int_eq a b) (Decides-int_eq b a)
 
-and_exchanged : (p q : Bool) → (p && q) ≡ (q && p)
-and_exchanged true true = refl
-and_exchanged true false = refl
-and_exchanged false true = refl
-and_exchanged false false = refl
-
-or_exchanged : (p q : Bool) → (p || q) ≡ (q || p)
-or_exchanged true true = refl
-or_exchanged true false = refl
-or_exchanged false true = refl
-or_exchanged false false = refl
-
 -- a commutative operation gives the same where its two operands are exchanged
 pub exchanged : (o : Op) (fmt : Format) (a b c : ℤ) → IsCommutative o → apply_of o fmt a b c ≡ apply_of o fmt b a c
 exchanged op.Add fmt a b c of = ap (λ (q : ℤ). form_of q fmt) (+ℤ_comm a b)
 exchanged op.Mul fmt a b c of = ap (λ (q : ℤ). form_of q fmt) (*ℤ_comm a b)
 exchanged op.Eq fmt a b c of = ap bit_of (eq_exchanged a b)
 exchanged op.Ne fmt a b c of = ap (λ (e : Bool). bit_of (not e)) (eq_exchanged a b)
-exchanged op.And fmt a b c of = ap bit_of (and_exchanged (truth_of a) (truth_of b))
-exchanged op.Or fmt a b c of = ap bit_of (or_exchanged (truth_of a) (truth_of b))
+exchanged op.And fmt a b c of = ap bit_of (and_comm (truth_of a) (truth_of b))
+exchanged op.Or fmt a b c of = ap bit_of (or_comm (truth_of a) (truth_of b))
 exchanged _ fmt a b c of = absurd of
 
 meaning_apply : (o : Op) (node : Node) (stream : Rows) (n : ℕ) (f : ℕ → ℤ)
@@ -151,13 +140,9 @@ given_bits op.Not node w stream words n bits fmt = bit_word _ w bits
 given_bits op.Const node w stream words n bits fmt = bits
 given_bits _ node w stream words n bits fmt = absurd bits
 
-word_or_zero_bits : (w : ℕ) (o : Option (ℕ × ℤ)) → ((i : ℕ × ℤ) → o ≡ Some i → IsWord w i.1) → IsWord w (word_or_zero o)
-word_or_zero_bits w None h = zero_word w
-word_or_zero_bits w (Some i) h = h i refl
-
 before_bits : (w : ℕ) (inits : List (ℕ × ℤ)) (k : ℕ) → AreInits (IsWord w) inits → IsWord w (word_before inits k)
 before_bits w inits k are =
-    word_or_zero_bits w (find (λ (i : ℕ × ℤ). i.0 == k) inits)
+    word_or_zero_fits w (find (λ (i : ℕ × ℤ). i.0 == k) inits)
     (λ i h. All-contains (λ (j : ℕ × ℤ). IsWord w j.1) inits i are.words
     (found_member (λ (j : ℕ × ℤ). j.0 == k) inits i h))
 

@@ -1,8 +1,9 @@
 -- A cycle keeps the labels right.
 use Rattle.std.proofs.Common.{◌≡◌, ℕ, suc, ◌+◌, ◌-◌, ◌*◌, ◌<◌, ◌≤◌, ◌==◌, refl, sym, ap, ap₂, ◌∙◌, arith, List}
 use Rattle.std.proofs.Common.{length, ℤ, pos, Option, Some, None, subst, Bool, true, false, find, if◌then◌else◌}
-use Rattle.std.specs.Option.{IsSome}
+use Rattle.std.proofs.lemmas.Bool.{eqb-true}
 use Rattle.lists.specs.Rows.{Rows}
+use Rattle.lists.proofs.Options.{some_of}
 use Rattle.fix_word.specs.declared.operation.Op.{Op}
 use Rattle.fix_word.specs.declared.operation.Op.TheVariants as op
 use Rattle.operations.specs.Operations.{operands}
@@ -35,7 +36,6 @@ use Rattle.image_labels.specs.Labelled.{IsFit, IsDrive, IsTaken}
 use Rattle.image_labels.specs.Run.{Run, rows_of, Says, IsRight}
 use Rattle.image_labels.proofs.Frames.{one_offset}
 use Rattle.image_labels.proofs.Turns.{word_is, issued_among, issued_fit, ending_is, Ended, ended_is, began_in}
-use Rattle.image_labels.proofs.Turns.{same_number}
 use Rattle.image_labels.proofs.Entries.{each_write, taken_among, stored_among, only_one, taken_write, stored_write}
 use Rattle.image_labels.proofs.Issues.{issue_says, operand_says, address_says}
 
@@ -61,10 +61,6 @@ same_file u p r a b h k =
 
 self_file : (a : Take) → (file_of a == file_of a) ≡ true
 self_file a = grind arith
-
-some_of : {A : Type 0} (o : Option A) → IsSome o → (a : A) × (o ≡ Some a)
-some_of None h = absurd (cc)
-some_of (Some a) h = (a, refl)
 
 address_of : (cells y x : ℕ) (b : Bool) → (y == x) ≡ b → b ≡ true → y ≡ x
 address_of cells y x true e h = grind (arith, e)
@@ -433,7 +429,7 @@ module _ {g : Graph} {image : Image} {certificate : Certificate} (run : Run g im
       unfolding After
       store_by issue ends is y in-y at true same before =
           subst (Says run k (operand_label image certificate (c - delay_on image u) issue 1))
-          (sym (stored_right issue ends is y at (same_number y x same)))
+          (sym (stored_right issue ends is y at (eqb-true y x same)))
           (read_says u issue ends 1 (subst (λ o. 1 < operands o) (sym is) (omega arith)))
       store_by issue ends is y in-y at false other before = kept (elsewhere issue ends is y in-y at other) before
 

@@ -2,6 +2,7 @@
 use Rattle.std.proofs.Common.{◌≡◌, ℕ, ◌+◌, ◌-◌, ◌*◌, ◌/◌, ◌%◌, ◌<◌, ◌≤◌, ◌==◌, nat_le, Bool, true, false, refl, sym, ap}
 use Rattle.std.proofs.Common.{◌∙◌, arith, [], length, inl, inr, ◌⊎◌, subst, Option, Some, None, if◌then◌else◌}
 use Rattle.std.proofs.Math.Nat.{add-mul-mod_self_right, mod-eq_of_lt, mod-lt, add-mul, mul_assoc}
+use Rattle.std.proofs.lemmas.Bool.{eqb-true}
 use Rattle.micro_image.specs.declared.image.Image.{Image}
 use Rattle.micro_image.specs.declared.image.Issue.{Issue}
 use Rattle.micro_image.specs.declared.image.Word.{Word}
@@ -22,9 +23,6 @@ le-true a b h = grind arith
 
 pub le-from : (a b : ℕ) → nat_le a b ≡ true → a ≤ b
 le-from a b h = grind arith
-
-pub same_number : (a b : ℕ) → (a == b) ≡ true → a ≡ b
-same_number a b h = grind (arith, h)
 
 product_positive : (u p : ℕ) → (u ≡ 1) ⊎ (u ≡ 2) ⊎ (u ≡ 4) → 1 ≤ p → 0 < u * p
 product_positive u p (inl e) h = rw e (omega (arith, h))
@@ -108,7 +106,7 @@ module _ {g : Graph} {image : Image} {certificate : Certificate} (run : Run g im
       → In issue (word_in image c).issues × (issue.unit ≡ u)
   issued_among c u issue is =
       let found = find_among (λ (issue : Issue). issue.unit == u) issue (word_in image c).issues is in
-      (found.0, same_number issue.unit u found.1)
+      (found.0, eqb-true issue.unit u found.1)
 
   pub issued_fit : (c u : ℕ) (issue : Issue)
       → c < turn_of image

@@ -1,13 +1,13 @@
 -- What stands at a place of a list, after an edit of it.
 use Rattle.std.proofs.Common.{◌≡◌, ◌≢◌, ◌⊎◌, ℕ, zero, suc, ◌+◌, ◌-◌, ◌<◌, ◌≤◌, List, [], ◌∷◌, ◌++◌, Some, length}
-use Rattle.std.proofs.Common.{get_or, take, drop, refl, sym, ap, subst, ◌∙◌, inl, inr, arith}
-use Rattle.std.specs.Prelude.{Contains, slice_get}
-use Rattle.std.specs.List.{AllPairs}
+use Rattle.std.proofs.Common.{Bool, true, false, cond, get_or, take, drop, refl, sym, ap, subst, ◌∙◌, inl, inr, arith}
+use Rattle.std.specs.Prelude.{Contains, slice_get, find}
+use Rattle.std.specs.List.{All, AllPairs}
 use Rattle.std.proofs.Math.ListN.{set}
 use Rattle.std.proofs.lemmas.Bool.{cases_eq}
 use Rattle.std.proofs.lemmas.List.{take_more, take_all, length_push, get_or_append_left, get_or_push}
 use Rattle.std.proofs.lemmas.List.Elements.{Contains-push_cases, Contains-append_right, Contains-append_cases}
-use Rattle.std.proofs.lemmas.Option.{slice_get_within, slice_get-get_or, get_or_from_slice_get}
+use Rattle.std.proofs.lemmas.Option.{slice_get_within, slice_get-get_or, get_or_from_slice_get, none-some, same_Some}
 
 pub some_once : {A : Type 0} {x y : A} {o : _} → o ≡ Some x → o ≡ Some y → x ≡ y
 some_once e f = cc
@@ -36,7 +36,24 @@ cases_in (y ∷ xs) x = elim (cases_eq y x) [
   ]
 ]
 
+pub one_in : {A : Type 0} (x : A) → Contains (x ∷ []) x
+one_in x = (0, omega arith, refl)
+
+-- what holds of each element holds of that at a place
+pub there_is : {A : Type 0} (P : A → Type 0) (xs : List A) (k : ℕ) (x : A) → All P xs → slice_get xs k ≡ Some x → P x
+there_is P xs k x all h = subst P (get_or_from_slice_get xs k x x h) (all k x (slice_get_within xs k x h))
+
 module _ {A : Type 0} where
+  pub in_first : (x : A) (xs : List A) → Contains (x ∷ xs) x
+  in_first x xs = (0, omega arith, refl)
+
+  pub in_rest : (x v : A) (xs : List A) → Contains xs v → Contains (x ∷ xs) v
+  in_rest x v xs (k, lt, h) = (suc k, omega arith, h)
+
+  pub first_or_rest : (x v : A) (xs : List A) → Contains (x ∷ xs) v → (x ≡ v) ⊎ Contains xs v
+  first_or_rest x v xs (zero, lt, h) = inl h
+  first_or_rest x v xs (suc k, lt, h) = inr (k, omega arith, h)
+
   -- what stands at a place is in the list, and the other way round
   pub contains_at : (xs : List A) (k : ℕ) (x : A) → slice_get xs k ≡ Some x → Contains xs x
   contains_at xs k x e = (k, slice_get_within xs k x e, get_or_from_slice_get xs k x x e)
@@ -158,3 +175,17 @@ module _ {A : Type 0} where
   pub take_front : (front rest : List A) → take (length front) (front ++ rest) ≡ front
   take_front [] rest = refl
   take_front (x ∷ xs) rest = ap (λ t. x ∷ t) (take_front xs rest)
+
+-- what is found in a list is in it
+module _ {A : Type 0} (test : A → Bool) where
+  pub found_member : (xs : List A) (y : A) → find test xs ≡ Some y → Contains xs y
+  found_member [] y h = absurd (none-some y h)
+  found_member (z ∷ zs) y h = by (test z) refl (λ i. found_member zs y i) h
+    where
+      by : (b : Bool)
+          → test z ≡ b
+          → (find test zs ≡ Some y → Contains zs y)
+          → cond b (Some z) (find test zs) ≡ Some y
+          → Contains (z ∷ zs) y
+      by true e rest i = (0, omega arith, same_Some z y i)
+      by false e rest i = in_rest z y zs (rest i)

@@ -28,3 +28,11 @@ map_same g h a zero same = refl
 map_same {A} g h a (suc n) same =
     ap₂ (λ (x : A) (xs : List A). x ∷ xs) (same a (omega arith) (omega arith))
     (map_same g h (a + 1) n (λ m low high. same m (omega (arith, low)) (omega (arith, high))))
+
+pub range_split : (a m n : ℕ) → range_with_len a (m + n) ≡ range_with_len a m ++ range_with_len (a + m) n
+range_split a zero n = ap₂ (λ (x k : ℕ). range_with_len x k) (omega arith) (omega arith)
+range_split a (suc m) n =
+    let more : suc m + n ≡ suc (m + n) = omega arith in
+    let start : a + 1 + m ≡ a + suc m = omega arith in
+    ap (range_with_len a) more ∙ ap (λ (t : List ℕ). a ∷ t) (range_split (a + 1) m n)
+    ∙ ap (λ (x : ℕ). a ∷ (range_with_len (a + 1) m ++ range_with_len x n)) start

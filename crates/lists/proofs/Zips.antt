@@ -1,5 +1,5 @@
 -- Lists whose elements are related place by place.
-use Rattle.std.proofs.Common.{◌≡◌, ◌++◌, List, [], ◌∷◌, length, suc, refl, ap}
+use Rattle.std.proofs.Common.{◌≡◌, ◌<◌, ◌++◌, ℕ, List, [], ◌∷◌, length, get_or, zero, suc, refl, ap, arith}
 use Rattle.std.specs.List.{AllZip}
 
 module _ {A B : Type 0} (R : A → B → Type 0) where
@@ -17,3 +17,12 @@ module _ {A B : Type 0} (R : A → B → Type 0) where
   zip_length [] (y ∷ ys) all = absurd all
   zip_length (x ∷ xs) [] all = absurd all
   zip_length (x ∷ xs) (y ∷ ys) all = ap suc (zip_length xs ys all.1)
+
+  pub zip_at : (xs : List A) (ys : List B) (i : ℕ) (d : A) (e : B)
+      → AllZip R xs ys
+      → i < length xs
+      → R (get_or xs i d) (get_or ys i e)
+  zip_at [] ys i d e all less = absurd (omega arith)
+  zip_at (x ∷ xs) [] i d e all less = absurd all
+  zip_at (x ∷ xs) (y ∷ ys) zero d e all less = all.0
+  zip_at (x ∷ xs) (y ∷ ys) (suc i) d e all less = zip_at xs ys i d e all.1 (omega arith)

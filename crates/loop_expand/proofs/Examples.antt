@@ -20,12 +20,9 @@ use Rattle.type_rules.specs.TypedValue.{as_it_is, by_amount}
 use Rattle.type_rules.specs.Translation.{typed_expr}
 use Rattle.signal_graph.specs.Flat as flat
 use Rattle.signal_graph.specs.Rules.{plain}
+use Rattle.signal_graph.proofs.Examples.{byte}
 use Rattle.element_rules.specs.Numbers.{IsNumberOf}
 use Rattle.loop_expand.specs.FlatOf.{of_signal, IsFlatExpr, IsBodyOf}
-
--- Parts of trees.
-abbrev byte : SigType
-byte = sig.Fix (record { shape = record { w = 8; f = 0 }; mode = Trunc })
 
 abbrev signal : List ℕ → List ℕ → SigType → Decl
 signal name dims ty = record { name = name; at = 0; dims = dims; ty = ty }

@@ -3,6 +3,7 @@ use Rattle.std.proofs.Common.{◌≡◌, refl, sym, subst, ◌∙◌, ap, arith,
 use Rattle.std.proofs.Common.{Some, ℤ}
 use Rattle.std.specs.Prelude.{IsSomeAnd}
 use Rattle.std.proofs.lemmas.Option.{slice_get_within, slice_get-get_or}
+use Rattle.lists.proofs.Places.{at_left}
 use Rattle.fix_word.specs.Words.{IsWord}
 use Rattle.fix_word.specs.declared.types.Format.{Format}
 use Rattle.fix_word.specs.declared.types.SigType.{SigType}
@@ -18,7 +19,7 @@ use Rattle.silage_meaning.specs.Types.{IsRawWord, HasShapeOf}
 use Rattle.silage_meaning.specs.Solves.{Source, same, IsDefined, input, equated, argument, array, table as by_table}
 use Rattle.silage_meaning.specs.Solves.{result, array_result}
 use Rattle.silage_meaning.proofs.Elements.{declared_at, made_is}
-use Rattle.silage_meaning.proofs.Outputs.{in_first, in_second}
+use Rattle.silage_meaning.proofs.Outputs.{in_second}
 use Rattle.element_rules.specs.declared.elements.Elements.{Elements}
 use Rattle.silage_syntax.specs.Manifests.{Indices}
 use Rattle.type_rules.specs.TypedTree as typed
@@ -68,12 +69,12 @@ FitsBody f ty (flat.value y) = Fits f y (width_of ty)
 pub parameter_at : (g : Func) (d : ℕ) (decl : Decl)
     → slice_get g.params d ≡ Some decl
     → slice_get (decls g) d ≡ Some decl
-parameter_at g d decl at = in_first g.params (g.results ++ g.locals) d decl at
+parameter_at g d decl at = at_left g.params (g.results ++ g.locals) d decl at
 
 pub result_at : (g : Func) (r : ℕ) (decl : Decl)
     → slice_get g.results r ≡ Some decl
     → slice_get (decls g) (length g.params + r) ≡ Some decl
-result_at g r decl at = in_second g.params (g.results ++ g.locals) r ∙ in_first g.results g.locals r decl at
+result_at g r decl at = in_second g.params (g.results ++ g.locals) r ∙ at_left g.results g.locals r decl at
 
 module _ (p : Program) (checked : IsChecked p) (es : Elements) (f : flat.Program) (flat_of : IsFlatOf p es f) where
   -- a read of an element whose words have w bits

@@ -1,5 +1,5 @@
 -- The flat program that is made is that of the program.
-use Rattle.std.proofs.Common.{◌≤◌, ◌≡◌, refl, sym, subst, ◌∙◌, ap, ap₂, arith, zero-add, ℕ, zero, suc, ◌+◌, ◌<◌, ◌⊎◌}
+use Rattle.std.proofs.Common.{◌≤◌, ◌≡◌, refl, sym, subst, ◌∙◌, ap, ap₂, arith, ℕ, zero, suc, ◌+◌, ◌<◌, ◌⊎◌}
 use Rattle.std.proofs.Common.{◌++◌, inl, inr, List, [], ◌∷◌, map, take, length, replicate, slice_get, slice_index_or}
 use Rattle.std.proofs.Common.{Option, Some, ℤ}
 use Rattle.std.specs.Prelude.{Contains}
@@ -11,6 +11,7 @@ use Rattle.std.proofs.lemmas.List.Concat.{flat_map-cons}
 use Rattle.std.proofs.lemmas.List.Sums.{sum_by-cons}
 use Rattle.std.proofs.lemmas.Option.{slice_get_within}
 use Rattle.lists.proofs.Places.{some_once, contains_at, at_left, at_right}
+use Rattle.lists.proofs.Ranges.{range_split}
 use Rattle.fix_word.specs.declared.types.SigType.{SigType}
 use Rattle.silage_syntax.specs.declared.tree.Decl.{Decl}
 use Rattle.silage_syntax.specs.declared.tree.Lit.{Lit}
@@ -166,16 +167,6 @@ module _ (path : Path) where
       at_right (map (element path a) (range_with_len 0 (element_count x.dims))) (signals_of_path path (a + 1) ds) _ _ _
       at rest ∙ ap (λ (q : ℕ). Some (element path q k)) position
 
--- Numbers of elements in a row.
-range-append : (a n m : ℕ) → range_with_len a (n + m) ≡ range_with_len a n ++ range_with_len (a + n) m
-range-append a zero m = ap₂ range_with_len (omega arith) (zero-add m)
-range-append a (suc n) m =
-    let more : suc n + m ≡ suc (n + m) = omega arith in
-    let next : a + 1 + n ≡ a + suc n = omega arith in
-    ap (range_with_len a) more
-    ∙ ap (λ (l : List ℕ). a ∷ l)
-    (range-append (a + 1) n m ∙ ap (λ (b : ℕ). range_with_len (a + 1) n ++ range_with_len b m) next)
-
 zip-append : {A B : Type 0} (R : A → B → Type 0) (xs : List A) (ys : List B) (zs : List A) (ws : List B)
     → AllZip R xs ys
     → AllZip R zs ws
@@ -213,7 +204,7 @@ module _ (path : Path) (es : Elements) where
   all_numbers n a (x ∷ ds) each =
       let size = sum_by-cons (λ (d : Decl). element_count d.dims) x ds in
       subst (λ (l : List ℕ). AllZip (IsNumberOf es) l (signals_of_path path a (x ∷ ds)))
-      (sym (ap (range_with_len n) size ∙ range-append n (element_count x.dims) (elements_of ds)))
+      (sym (ap (range_with_len n) size ∙ range_split n (element_count x.dims) (elements_of ds)))
       (zip-append (IsNumberOf es) (range_with_len n (element_count x.dims))
       (map (element path a) (range_with_len 0 (element_count x.dims)))
       (range_with_len (n + element_count x.dims) (elements_of ds)) (signals_of_path path (a + 1) ds)

@@ -21,7 +21,6 @@ use Rattle.silage_meaning.specs.Instances.{elements_from, inputs, parameters_of}
 use Rattle.silage_meaning.specs.Types.{word_types}
 use Rattle.silage_meaning.specs.Solves.{input_types, types_of}
 use Rattle.silage_meaning.proofs.Instances.{instance_once}
-use Rattle.silage_meaning.proofs.Outputs.{in_first}
 use Rattle.name_rules.specs.TopNames.{top_names}
 use Rattle.name_rules.specs.Meanings.{are_dims, is_signal_type}
 use Rattle.name_rules.specs.NameRules.{decl_rules, signal_rules, top_rules, all_top_rules}
@@ -192,5 +191,5 @@ module _ (p : Program) (checked : IsChecked p) where
           subst (λ (z : Instance). IsInstance p z f) (sym w.instance) (main_is m) in
           let there : slice_get (decls f) e.declaration ≡ Some w.decl =
           subst (λ (n : ℕ). slice_get (decls f) n ≡ Some w.decl) (sym number)
-          (in_first f.params (f.results ++ f.locals) w.number w.decl w.there) in
+          (at_left f.params (f.results ++ f.locals) w.number w.decl w.there) in
           w.ty ∙ ap (λ (z : Decl). Some z.ty) (sym (decl_once e is f w.decl instance there))

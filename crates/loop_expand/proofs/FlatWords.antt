@@ -9,6 +9,7 @@ use Rattle.std.proofs.lemmas.List.Elements.{All-nil, All-append, All-replicate, 
 use Rattle.std.proofs.lemmas.List.Sums.{sum_by-cons}
 use Rattle.std.proofs.lemmas.Option.{slice_get_within}
 use Rattle.lists.proofs.Bools.{both_true as both_hold}
+use Rattle.lists.proofs.Places.{at_left}
 use Rattle.fault_order.specs.Private.FirstMet.{first}
 use Rattle.fault_order.proofs.TableFaults.{then_parts, rule_holds}
 use Rattle.silage_syntax.specs.declared.tree.Decl.{Decl}
@@ -18,7 +19,7 @@ use Rattle.silage_meaning.specs.Instances.{main, main_is, Element, IsInstance, o
 use Rattle.silage_meaning.specs.Types.{word_types}
 use Rattle.silage_meaning.specs.Solves.{input_types, output_types, types_of}
 use Rattle.silage_meaning.proofs.InputRows.{outputs_length}
-use Rattle.silage_meaning.proofs.Outputs.{in_first, in_second}
+use Rattle.silage_meaning.proofs.Outputs.{in_second}
 use Rattle.name_rules.specs.Meanings.{is_dim, most_elements}
 use Rattle.element_rules.specs.declared.fault.PlacedFault.TheVariants.{TooLarge}
 use Rattle.element_rules.specs.declared.elements.Elements.{Elements}
@@ -90,10 +91,10 @@ module _ (p : Program) (checked : IsChecked p) where
       let top = instance_top p checked.names main f instance in
       let some = checked.signals top.position f top.there in
       let params : AreAllowed f.params = λ k d e.
-      decl_allowed p checked.names main f instance k d (in_first f.params (f.results ++ f.locals) k d e) in
+      decl_allowed p checked.names main f instance k d (at_left f.params (f.results ++ f.locals) k d e) in
       let results : AreAllowed f.results = λ k d e.
       decl_allowed p checked.names main f instance (length f.params + k) d
-      (in_second f.params (f.results ++ f.locals) k ∙ in_first f.results f.locals k d e) in
+      (in_second f.params (f.results ++ f.locals) k ∙ at_left f.results f.locals k d e) in
       record {
         params = params;
         results = results;

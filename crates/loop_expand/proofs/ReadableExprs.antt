@@ -5,6 +5,7 @@ use Rattle.std.specs.Prelude.{is_some, unwrap_or, option_map, nat_eq, bytes_eq, 
 use Rattle.std.specs.Option.{option_or, option_map_or}
 use Rattle.std.proofs.lemmas.Int.{ints}
 use Rattle.std.proofs.lemmas.Option.{slice_get-map}
+use Rattle.std.proofs.lemmas.Bool.{eqb-true}
 use Rattle.lists.proofs.Places.{some_at}
 use Rattle.lists.proofs.Bools.{both_true}
 use Rattle.fault_order.specs.Ranked.{IsClear}
@@ -41,7 +42,7 @@ use Rattle.element_rules.specs.ElementRules.{Range, below, samples, delays, no_d
 use Rattle.element_rules.specs.ElementRules.{value_rules, number_rules, subscript_rules, amount_rules, read_rules}
 use Rattle.element_rules.specs.ElementRules.{readable, expr_rules, branch_rules}
 use Rattle.element_rules.proofs.SoundNames.{clear_first}
-use Rattle.element_rules.proofs.NamedItems.{equal, place_fits, within, first_each}
+use Rattle.element_rules.proofs.NamedItems.{place_fits, within, first_each}
 use Rattle.type_rules.specs.TypedTree as typed
 use Rattle.type_rules.specs.TypedValue.{as_it_is, by_amount}
 use Rattle.type_rules.specs.Translation.{typed_expr, typed_choice, typed_against, typed_product, typed_cast}
@@ -169,7 +170,7 @@ module _ (p : Program) (names : IsClear (name_faults p)) where
           let rest =
           (then_parts (first (unless (are_dims t.dims && is_fix_type t.ty) (Size t.at))) (first_in (count ▸ none))
           own_ok).1 in
-          equal (length t.words) (element_count t.dims)
+          eqb-true (length t.words) (element_count t.dims)
           (rule_holds (nat_eq (length t.words) (element_count t.dims)) (Arity t.at)
           (then_parts (first count) (Ok tt) rest).0)
 
@@ -324,7 +325,7 @@ module _ (p : Program) (names : IsClear (name_faults p)) where
               let it =
               place_fits C (option_map (is_element place.subs) (read_dims C place.name)) place
               (then_parts _ _ n).0 in
-              equal (length place.subs) (length dims)
+              eqb-true (length place.subs) (length dims)
               (ap (λ (o : Option (List ℕ)). unwrap_or (option_map (is_element place.subs) o) true) (sym known)
               ∙ it.fitting)
 

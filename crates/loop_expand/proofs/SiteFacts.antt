@@ -8,6 +8,7 @@ use Rattle.std.specs.Option.{option_or}
 use Rattle.std.proofs.lemmas.Bool.Decides.{eqb_tells, leb_tells}
 use Rattle.std.proofs.lemmas.List.Sums.{sum_by-cons}
 use Rattle.std.proofs.lemmas.List.{nil_from_length as none_of}
+use Rattle.std.proofs.lemmas.Bool.{eqb-true}
 use Rattle.lists.proofs.Places.{at_left}
 use Rattle.fault_order.specs.Private.FirstMet.{first, first_in}
 use Rattle.fault_order.proofs.TableFaults.{then_parts}
@@ -39,13 +40,14 @@ use Rattle.element_rules.specs.ElementRules.{initial_table, array_table, taker_t
 use Rattle.element_rules.specs.ElementRules.{instance_table, expr_rules}
 use Rattle.element_rules.specs.Sizes.{first_of}
 use Rattle.element_rules.proofs.CheckedInstances.{checked as checked_instance, items_ok}
-use Rattle.element_rules.proofs.NamedItems.{IsNamed, IsWhole, whole, place_fits, within, equal, IsCallNamed}
+use Rattle.element_rules.proofs.NamedItems.{IsNamed, IsWhole, whole, place_fits, within, IsCallNamed}
 use Rattle.element_rules.proofs.NamedItems.{call_named, instance_named}
 use Rattle.type_rules.specs.Translation.{typed_expr, typed_against, typed_item, typed_arguments, typed_table}
 use Rattle.type_rules.specs.Translation.{typed_func, word_of, initial_word}
 use Rattle.type_rules.specs.TypeRules.{literal_rules, against}
 use Rattle.type_rules.proofs.Literals.{Passes, raw_back}
 use Rattle.signal_graph.specs.Flat as flat
+use Rattle.silage_meaning.proofs.Instances.{inside_once}
 use Rattle.loop_expand.specs.Checked.{IsChecked}
 use Rattle.element_rules.specs.Numbers.{IsNumberOf}
 use Rattle.loop_expand.specs.FlatOf.{IsFlatExpr, IsBodyOf}
@@ -105,9 +107,6 @@ first_right (x ∷ ds) es r =
     let rest = first_right ds es r in
     let next : first_of (x ∷ (ds ++ es)) (suc (length ds + r)) ≡ elements_of (x ∷ ds) + first_of es r = omega arith in
     ap (first_of (x ∷ (ds ++ es))) number ∙ next
-
-inside_once : (i j : Path) (a b : Step) → inside i a ≡ inside j b → (i ≡ j) × (a ≡ b)
-inside_once i j a b e = (cc, cc)
 
 module _ (p : Program) (checked : IsChecked p) (es : Elements) (made_by : IsExpansion p es) where
   -- the scope is that of an instance of the program, with all others
@@ -206,7 +205,7 @@ module _ (p : Program) (checked : IsChecked p) (es : Elements) (made_by : IsExpa
             → IsTarget place
         by None e known fitting = absurd (cc known)
         by (Some q) e known fitting =
-            let sized = equal (length place.subs) (length q.1.dims) (means q.1.dims fitting) in
+            let sized = eqb-true (length place.subs) (length q.1.dims) (means q.1.dims fitting) in
             let at = has_offset s.indices q.1.dims place.subs sized (passes q e) in
             record { d = q.0; k = at.0; decl = q.1; signal = record { named = e; placed = at.1 } }
 
@@ -602,7 +601,7 @@ module _ (p : Program) (checked : IsChecked p) (es : Elements) (made_by : IsExpa
           many
 
       scalar_dims : (decl : Decl) → Scalar decl ≡ true → decl.dims ≡ []
-      scalar_dims decl one = none_of decl.dims (equal (length decl.dims) 0 one)
+      scalar_dims decl one = none_of decl.dims (eqb-true (length decl.dims) 0 one)
 
       scalar_count : (decl : Decl) → Scalar decl ≡ true → element_count decl.dims ≡ 1
       scalar_count decl one = ap element_count (scalar_dims decl one)

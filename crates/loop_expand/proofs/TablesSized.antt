@@ -2,6 +2,7 @@
 use Rattle.std.proofs.Common.{◌≡◌, refl, ◌∙◌, ℕ, zero, suc, ◌&&◌, Bool, true, false, List, [], ◌∷◌, length, map, subst}
 use Rattle.std.proofs.Common.{Some, Ok}
 use Rattle.std.specs.Prelude.{filter_map, bytes_eq, nat_eq}
+use Rattle.std.proofs.lemmas.Bool.{eqb-true}
 use Rattle.lists.proofs.Bools.{first_true}
 use Rattle.fault_order.specs.Ranked.{IsClear}
 use Rattle.fault_order.specs.Rules.{none, ◌▸◌, each, unless}
@@ -13,7 +14,6 @@ use Rattle.name_rules.specs.NameRules as name
 use Rattle.name_rules.specs.NameFaults.{name_faults}
 use Rattle.name_rules.specs.Meanings.{are_dims, is_fix_type}
 use Rattle.name_rules.specs.declared.fault.NameFault.TheVariants.{Arity, Size}
-use Rattle.element_rules.proofs.NamedItems.{equal}
 use Rattle.element_rules.proofs.SoundNames.{clear_first}
 use Rattle.type_rules.specs.declared.typed.TypedConst.{TypedConst}
 use Rattle.type_rules.specs.Translation.{typed_table, typed_program}
@@ -49,7 +49,7 @@ rest_of p (table c ∷ ts) ok t n e =
         let rest =
         (then_parts (first (unless (are_dims c.dims && is_fix_type c.ty) (Size c.at))) (first_in (count ▸ none))
         own).1 in
-        equal (length c.words) (element_count c.dims)
+        eqb-true (length c.words) (element_count c.dims)
         (rule_holds (nat_eq (length c.words) (element_count c.dims)) (Arity c.at)
         (then_parts (first count) (Ok tt) rest).0)
 

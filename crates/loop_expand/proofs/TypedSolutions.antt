@@ -10,6 +10,7 @@ use Rattle.std.proofs.lemmas.List.Elements.{All-contains, All-map}
 use Rattle.std.proofs.lemmas.List.FromFn.{get_or-range_with_len, length-range_with_len}
 use Rattle.std.proofs.lemmas.Option.{get_or_from_slice_get}
 use Rattle.lists.specs.Rows.{Rows}
+use Rattle.lists.proofs.Places.{at_left}
 use Rattle.recurrences.proofs.Along.{along}
 use Rattle.fix_word.specs.declared.types.SigType.{SigType}
 use Rattle.fix_word.specs.declared.types.SigType.TheVariants as sig
@@ -26,7 +27,7 @@ use Rattle.silage_meaning.specs.Solves.{result, array_result, Gives, Solves, IsS
 use Rattle.silage_meaning.specs.Solves.{output_types, types_of}
 use Rattle.silage_meaning.specs.Rules.{SourceReads}
 use Rattle.silage_meaning.proofs.Elements.{declared_at, made_is, source_there}
-use Rattle.silage_meaning.proofs.Outputs.{in_second, in_first}
+use Rattle.silage_meaning.proofs.Outputs.{in_second}
 use Rattle.silage_meaning.proofs.Unique.{initial_once}
 use Rattle.element_rules.specs.declared.elements.Elements.{Elements}
 use Rattle.element_rules.specs.Expansion.{IsExpansion}
@@ -251,7 +252,7 @@ module _ {A : Type 0} (R : SigType → A → Type 0) (g : Element → A) where
         function = f;
         decl = x;
         instance = main_is is_main;
-        declared = in_second f.params (f.results ++ f.locals) a ∙ in_first f.results f.locals a x at;
+        declared = in_second f.params (f.results ++ f.locals) a ∙ at_left f.results f.locals a x at;
         offset = less;
       })))
 

@@ -3,6 +3,7 @@ use Rattle.std.proofs.Common.{◌≡◌, ℕ, zero, suc, ◌+◌, ◌-◌, ◌*�
 use Rattle.std.proofs.Common.{get_or, refl, sym, ap, ◌∙◌, arith}
 use Rattle.std.proofs.Math.Nat.{div-div-eq-div-mul, mod-one, mod-lt}
 use Rattle.std.proofs.lemmas.Nat.{pow-add, mod-pow-add, pow_pos, div-mul-add, mod-mul-add}
+use Rattle.fix_word.proofs.Shifts.{two_powers}
 use Rattle.micro_image.specs.Bits.{bits}
 use Rattle.micro_image.proofs.Length.{length-bits}
 use Rattle.micro_bits.specs.Numbers.{number_of}
@@ -24,9 +25,6 @@ bits_split (suc w) v n =
     let first : bits (suc (w + v)) n ≡ (n / 2 ^ v / 2 ^ w) % 2 ∷ bits (w + v) n =
     ap (λ (d : ℕ). d ∷ bits (w + v) n) digit in
     ap (λ (k : ℕ). bits k n) top ∙ first ∙ ap (λ (t : List ℕ). (n / 2 ^ v / 2 ^ w) % 2 ∷ t) (bits_split w v n)
-
-one_more : (w : ℕ) → 2 ^ suc w ≡ 2 * 2 ^ w
-one_more w = ap (λ (k : ℕ). 2 ^ k) (omega arith) ∙ pow-add 2 1 w
 
 -- the number that they are
 pub number_bits : (w n : ℕ) → number_of (bits w n) ≡ n % 2 ^ w
@@ -86,7 +84,7 @@ number_below (b ∷ ds) h =
     omega (
       arith,
       number_below ds (tail_digits b ds h),
-      one_more (length ds),
+      two_powers (length ds),
       times_power b (2 ^ length ds) (h.digit 0),
     )
 

@@ -5,11 +5,12 @@ use Rattle.std.proofs.lemmas.Bool.{eq-eqb, ne_eqb, cases_lt, cases_eq}
 use Rattle.std.proofs.lemmas.List.Concat.{flat_map-append, flat_map-cons}
 use Rattle.std.proofs.lemmas.List.Elements.{All-head, All-tail}
 use Rattle.std.specs.List.{All, flat_map, filter, range_with_len}
+use Rattle.lists.proofs.Ranges.{range_split}
 use Rattle.micro_image.specs.Valid.{LexBelow}
 use Rattle.micro_bits.specs.Idle.{sizes}
 use Rattle.micro_bits.proofs.Encoded.{next_put}
 use Rattle.micro_bits.proofs.Sizes.{start_more, start_rises}
-use Rattle.micro_bits.proofs.Placed.{Rises, range_split, each_same}
+use Rattle.micro_bits.proofs.Placed.{Rises, each_same}
 
 -- a range that begins later
 range_moved : (f : ℕ → List ℕ) (a b n : ℕ)

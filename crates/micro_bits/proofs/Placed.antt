@@ -9,21 +9,13 @@ use Rattle.std.proofs.lemmas.Bool.{eq-eqb, ne_eqb}
 use Rattle.std.proofs.lemmas.List.{drop_more, drop_all}
 use Rattle.std.proofs.lemmas.List.Concat.{flat_map-append, flat_map-cons}
 use Rattle.std.specs.List.{flat_map, filter, range_with_len}
+use Rattle.lists.proofs.Ranges.{range_split}
 use Rattle.micro_image.specs.Bits.{bits}
 use Rattle.micro_bits.proofs.Bits.{bits_behind}
 use Rattle.micro_bits.proofs.BitNumbers.{bits_none}
 use Rattle.micro_bits.specs.Private.Placed.{placed_from}
 
 -- ---- ranges
-
--- a range in two parts
-pub range_split : (a m n : ℕ) → range_with_len a (m + n) ≡ range_with_len a m ++ range_with_len (a + m) n
-range_split a zero n = ap₂ (λ (x k : ℕ). range_with_len x k) (omega arith) (omega arith)
-range_split a (suc m) n =
-    let more : suc m + n ≡ suc (m + n) = omega arith in
-    let start : a + 1 + m ≡ a + suc m = omega arith in
-    ap (range_with_len a) more ∙ ap (λ (t : List ℕ). a ∷ t) (range_split (a + 1) m n)
-    ∙ ap (λ (x : ℕ). a ∷ (range_with_len (a + 1) m ++ range_with_len x n)) start
 
 -- functions that agree on a range
 pub each_same : (f g : ℕ → List ℕ) (a n : ℕ)

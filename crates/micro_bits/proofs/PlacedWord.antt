@@ -20,18 +20,13 @@ use Rattle.micro_image.specs.Fields.{nth, no_unit}
 use Rattle.micro_image.specs.Form.{spelled_operation}
 use Rattle.micro_image.specs.Valid.{IsIssueOn, HasRegister, IsWordOf}
 use Rattle.micro_image.specs.Valid.{LexBelow, EnableBefore, TakeBefore}
+use Rattle.micro_image.proofs.Counts.{is_there}
 use Rattle.micro_bits.specs.Idle.{sizes, files_of, idle_bits}
 use Rattle.micro_bits.specs.Private.Placed.{starts_in}
 use Rattle.micro_bits.specs.Private.Placed.{placed_from, placed_issues, placed_enables, placed_takes}
 use Rattle.micro_bits.proofs.Levels.{Inside, rises_from, standing_grouped, place_below, place_rises}
 use Rattle.micro_bits.proofs.Sizes.{sizes_alike}
 use Rattle.micro_bits.proofs.Placed.{placed_each}
-
--- what is there has an index below the length
-there : {A : Type 0} (xs : List A) (k : ℕ) (P : A → Type 0) → IsSomeAnd (slice_get xs k) P → k < length xs
-there [] k P h = absurd h
-there (x ∷ xs) zero P h = omega arith
-there (x ∷ xs) (suc k) P h = omega (arith, there xs k P h)
 
 -- and is read there
 read : {A : Type 0} (xs : List A) (k : ℕ) (P : A → Type 0) (d : A) → IsSomeAnd (slice_get xs k) P → P (nth xs k d)
@@ -67,7 +62,7 @@ module _ (units : ℕ) (issues : List Issue) (below : All (λ (issue : Issue). i
 -- ---- enables
 
 module _ (units buses : ℕ) (enables : List Enable)
-    (there : All (λ (e : Enable). (e.unit < units) × (e.bus < buses)) enables)
+    (is_there : All (λ (e : Enable). (e.unit < units) × (e.bus < buses)) enables)
     (rise : AllAdjacentBelow EnableBefore enables (length enables)) where
   abbrev flag_of : Enable → ℕ
   flag_of e = e.unit * buses + e.bus
@@ -95,7 +90,7 @@ module _ (units buses : ℕ) (enables : List Enable)
       let next : EnableBefore x y =
       subst (λ (i : ℕ). EnableBefore x (get_or enables i d)) (sym is) (rise k d (omega (arith, is, lt))) in
       place_rises (λ _. buses) flag_of (λ e. e.unit) (λ e. e.bus) 1 x y (x.bus < y.bus) (omega arith)
-      (inside x (there k d (omega (arith, is, lt))).1) (inside y (there j d lt).1) next
+      (inside x (is_there k d (omega (arith, is, lt))).1) (inside y (is_there j d lt).1) next
       (λ less. omega (arith, less)) in
       placed_each flag_of (λ _. 1 ∷ []) 1 flags (λ es. enable_bit es ∷ []) refl (λ x xs lt rest. refl) 0 enables
       (rises_from flag_of (λ _. 1 ∷ []) 1 flags (omega arith) 0 enables (omega arith)
@@ -103,21 +98,21 @@ module _ (units buses : ℕ) (enables : List Enable)
       omega (
         arith,
         within,
-        place_below (λ _. buses) flag_of (λ e. e.unit) (λ e. e.bus) units x (inside x (there k d lt).1)
-            (there k d lt).0,
+        place_below (λ _. buses) flag_of (λ e. e.unit) (λ e. e.bus) units x (inside x (is_there k d lt).1)
+            (is_there k d lt).0,
       )))
       steps (λ d lt. omega arith))
       ∙ ap
       (λ (n : ℕ). flat_map (λ (k : ℕ). enable_bit (filter (λ e. flag_of e == k) enables) ∷ []) (range_with_len 0 n))
       whole
       ∙ standing_grouped (λ _. buses) flag_of (λ e. e.unit) (λ e. e.bus) (λ es. enable_bit es ∷ []) units enables
-      (λ k d lt. inside (get_or enables k d) (there k d lt).1)
+      (λ k d lt. inside (get_or enables k d) (is_there k d lt).1)
 
 -- ---- takes
 
 module _ (size : ℕ → ℕ) (units : ℕ) (starts : List ℕ) (takes : List Take)
     (started : (u : ℕ) → u < units → get_or starts u 0 ≡ sizes size 0 u)
-    (there : All (λ (t : Take). (t.port.unit < units) × (t.port.port < size t.port.unit)) takes)
+    (is_there : All (λ (t : Take). (t.port.unit < units) × (t.port.port < size t.port.unit)) takes)
     (rise : AllAdjacentBelow TakeBefore takes (length takes)) where
   abbrev file_of : Take → ℕ
   file_of t = get_or starts t.port.unit 0 + t.port.port
@@ -143,10 +138,10 @@ module _ (size : ℕ → ℕ) (units : ℕ) (starts : List ℕ) (takes : List Ta
       let y : Take = get_or takes j d in
       let next : TakeBefore x y =
       subst (λ (i : ℕ). TakeBefore x (get_or takes i d)) (sym is) (rise k d (omega (arith, is, lt))) in
-      let own = there k d (omega (arith, is, lt)) in
+      let own = is_there k d (omega (arith, is, lt)) in
       place_rises size file_of (λ t. t.port.unit) (λ t. t.port.port) 0 x y
       (LexBelow x.port.port y.port.port (LexBelow x.bus y.bus (x.reg < y.reg))) (omega arith)
-      (inside_unit x own.0 own.1) (inside_unit y (there j d lt).0 (there j d lt).1) next
+      (inside_unit x own.0 own.1) (inside_unit y (is_there j d lt).0 (is_there j d lt).1) next
       (λ rest. elim rest [ inl less ↦ omega (arith, less) | inr same ↦ omega (arith, same.0) ]) in
       placed_each file_of take_bits 0 files takes_bits refl
       (λ x xs lt rest.
@@ -165,11 +160,11 @@ module _ (size : ℕ → ℕ) (units : ℕ) (starts : List ℕ) (takes : List Ta
       (rises_from file_of take_bits 0 files (omega arith) 0 takes (omega arith)
       (λ k d lt. (let x : Take = get_or takes k d in
       place_below size file_of (λ t. t.port.unit) (λ t. t.port.port) units x
-      (inside_unit x (there k d lt).0 (there k d lt).1) (there k d lt).0))
+      (inside_unit x (is_there k d lt).0 (is_there k d lt).1) (is_there k d lt).0))
       steps (λ d lt. omega arith))
       ∙ ap (λ (n : ℕ). flat_map (standing takes) (range_with_len 0 n)) whole
       ∙ standing_grouped size file_of (λ t. t.port.unit) (λ t. t.port.port) takes_bits units takes
-      (λ k d lt. inside_unit (get_or takes k d) (there k d lt).0 (there k d lt).1)
+      (λ k d lt. inside_unit (get_or takes k d) (is_there k d lt).0 (is_there k d lt).1)
 
 -- ---- a word
 
@@ -183,7 +178,7 @@ unfolding word_bits
 word_placed image word ok =
     let units : ℕ = length image.units in
     let issued : All (λ (issue : Issue). issue.unit < units) word.issues =
-    λ k d lt. there image.units (get_or word.issues k d).unit
+    λ k d lt. is_there image.units (get_or word.issues k d).unit
     (IsIssueOn (length image.inputs) image.outs (get_or word.issues k d)) (ok.issues k d lt) in
     let enabled : All (λ (e : Enable). (e.unit < units) × (e.bus < image.buses)) word.enables =
     λ k d lt. ((ok.enables k d lt).unit, (ok.enables k d lt).bus) in
@@ -191,8 +186,8 @@ word_placed image word ok =
     λ k d lt.
     let t : Take = get_or word.takes k d in
     let has : UnitDesc → Type 0 = λ unit. HasRegister unit t.port.port t.reg in (
-      there image.units t.port.unit has (ok.takes k d lt).register,
-      there (nth image.units t.port.unit no_unit).files t.port.port (λ file. t.reg < length file)
+      is_there image.units t.port.unit has (ok.takes k d lt).register,
+      is_there (nth image.units t.port.unit no_unit).files t.port.port (λ file. t.reg < length file)
           (read image.units t.port.unit has no_unit (ok.takes k d lt).register),
     ) in
     let started : (u : ℕ) → u < units → get_or (starts_in image) u 0 ≡ sizes (files_of image) 0 u =

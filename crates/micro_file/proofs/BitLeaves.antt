@@ -30,10 +30,10 @@ use Rattle.micro_file.specs.Private.Bits.{number_less_1_upto, entry_at, as_raw_w
 use Rattle.micro_file.specs.Private.Bits.{as_argument}
 use Rattle.micro_file.specs.Private.Fields.{Reading, ◌>>=◌, found, element}
 use Rattle.micro_file.specs.Private.Tables.{kinds, modes}
-use Rattle.micro_file.proofs.FormReader.{IsUnroll}
 use Rattle.micro_file.proofs.Readers.{bit_values, digits-take, digits-drop, Took, IsReader, bound, ok_is, was_found}
 use Rattle.micro_file.proofs.Readers.{joined, tested, such_reader, so_spelled}
 use Rattle.micro_file.proofs.Tests.{below_test, upto_test}
+use Rattle.micro_file.specs.Hardware.{IsUnroll}
 
 -- ---- numbers
 

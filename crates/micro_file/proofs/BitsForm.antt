@@ -88,7 +88,7 @@ zero_word : IsMachineWord (pos 0)
 zero_word = record { low = omega (arith, ints); high = omega (arith, ints) }
 
 -- what is not so
-was_not : (b : Bool) → not b ≡ true → b ≡ false
+pub was_not : (b : Bool) → not b ≡ true → b ≡ false
 was_not true e = absurd cc
 was_not false e = refl
 

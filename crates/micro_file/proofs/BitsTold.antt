@@ -4,6 +4,7 @@ use Rattle.std.proofs.Common.{[], ◌∷◌}
 use Rattle.std.proofs.Common.{◌++◌, length, replicate, Ok, ℤ, pos, refl, sym, arith}
 use Rattle.std.specs.Int.{w64, cast_unsigned}
 use Rattle.std.specs.Prelude.{◌-ℤ◌}
+use Rattle.std.proofs.lemmas.Bool.{not_from_false}
 use Rattle.fix_word.specs.Words.{IsMachineWord}
 use Rattle.fix_word.specs.declared.operation.Op.{Op}
 use Rattle.fix_word.specs.declared.operation.Op.TheVariants as op
@@ -20,7 +21,7 @@ use Rattle.micro_image.specs.Operations.{Argument, nothing, input_word, output_w
 use Rattle.micro_image.specs.Operations.{kind_of, is_formatted, reads}
 use Rattle.micro_image.specs.Valid.{IsWithin, IsBelow, offsets, IsArgumentOf}
 use Rattle.micro_bits.proofs.Bits.{IsDigits}
-use Rattle.micro_file.specs.Hardware.{Any}
+use Rattle.micro_file.specs.Hardware.{Any, IsUnroll}
 use Rattle.micro_file.specs.Layout.{Layout, field, given, choice, many}
 use Rattle.micro_file.specs.PackedWords as packed
 use Rattle.micro_file.specs.PackedWords.{number, own_bits}
@@ -32,8 +33,8 @@ use Rattle.micro_file.specs.Private.Tables.{kinds, modes}
 use Rattle.micro_file.proofs.BitLeaves.{number_reader, below_reader, upto_reader, less_1_reader, less_1_upto_reader}
 use Rattle.micro_file.proofs.BitLeaves.{argument_of_reader, raw_word_reader, kind_reader, mode_reader, unroll_reader}
 use Rattle.micro_file.proofs.BitLeaves.{entry_reader, operation_table}
-use Rattle.micro_file.proofs.BitsForm.{few_registers, none_reader}
-use Rattle.micro_file.proofs.FormReader.{IsUnroll, HaveRegisters}
+use Rattle.micro_file.proofs.BitsForm.{few_registers, none_reader, was_not}
+use Rattle.micro_file.proofs.FormReader.{HaveRegisters}
 use Rattle.micro_file.proofs.FormTold.{TellsForm}
 use Rattle.micro_file.proofs.Layouts.{Tells, Is, Sized, tells_placed, tells_given, tells_next, tells_many, tells_field}
 use Rattle.micro_file.proofs.Layouts.{tells_judged}
@@ -139,13 +140,6 @@ tells_flagged off on left f g fits off_is on_is =
 
 -- ---- preloads
 
-not_true : (b : Bool) → not b ≡ true → b ≡ false
-not_true true e = absurd cc
-not_true false e = refl
-
-true_not : (b : Bool) → b ≡ false → not b ≡ true
-true_not b e = rw e refl
-
 words_told : (count : ℕ) (flag : List ℕ) → Is bit_values (packed.some_words count flag) (some_words_at count flag)
 unfolding packed.some_words
 words_told count flag left fits =
@@ -153,8 +147,8 @@ words_told count flag left fits =
     (λ (words : List ℤ × List ℕ). kept flag (not (are_zeros words.0)) words) (many_at (λ _. raw_word_at) [] count left)
     (tells_many bit_values (λ _. field raw_bits IsMachineWord) (λ _. raw_word_at) (λ _. raw_told) [] count left fits)
     (λ x e d.
-    tells_judged bit_values flag (are_zeros x.0 ≡ false) x.0 x.1 (not (are_zeros x.0)) d (not_true (are_zeros x.0))
-    (true_not (are_zeros x.0)))
+    tells_judged bit_values flag (are_zeros x.0 ≡ false) x.0 x.1 (not (are_zeros x.0)) d (was_not (are_zeros x.0))
+    (not_from_false (are_zeros x.0)))
 
 preload_told : (count : ℕ) → Is bit_values (packed.preload count) (preload_at count)
 unfolding packed.preload preload_at

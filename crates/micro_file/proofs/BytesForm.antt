@@ -3,6 +3,7 @@ use Rattle.std.proofs.Common.{◌≡◌, ℕ, true, eqb, length, inl, inr, refl,
 use Rattle.std.specs.Prelude.{slice_get}
 use Rattle.std.specs.List.{All, flat_map}
 use Rattle.std.proofs.lemmas.Bool.Decides.{nat_tests}
+use Rattle.std.proofs.lemmas.Bool.{eqb-true}
 use Rattle.lists.proofs.Places.{some_is}
 use Rattle.fix_word.specs.Words.{IsMachineWord}
 use Rattle.operations.specs.declared.units.Kind.{Kind}
@@ -13,11 +14,12 @@ use Rattle.micro_file.specs.Private.Tables.{kinds}
 use Rattle.micro_file.specs.Private.Bytes.{raw_word_at, raw_words_at, is_unroll, unroll_at, same_kind, operation_at}
 use Rattle.micro_file.specs.Private.Bytes.{at_bytes}
 use Rattle.micro_file.proofs.Readers.{byte_values, IsReader, tested, such_reader}
-use Rattle.micro_file.proofs.FormReader.{IsUnroll, ReadsForm}
+use Rattle.micro_file.proofs.FormReader.{ReadsForm}
 use Rattle.micro_file.proofs.Several.{all_from, grows_all, many_reader}
 use Rattle.micro_file.proofs.Leaves.{byte_reader, within_reader, two_reader, four_reader, raw_word_reader, kind_there}
 use Rattle.micro_file.proofs.Leaves.{kind_reader, operation_reader}
 use Rattle.micro_file.proofs.IssueParts.{format_reader, argument_reader, registers_reader}
+use Rattle.micro_file.specs.Hardware.{IsUnroll}
 
 -- ---- the unroll factor
 
@@ -47,9 +49,6 @@ raw_words_reader count =
 
 -- ---- an operation of a kind
 
-same_number : (a b : ℕ) → eqb a b ≡ true → a ≡ b
-same_number a b e = grind (arith, nat_tests)
-
 number_same : (a : ℕ) → eqb a a ≡ true
 number_same a = grind (arith, nat_tests)
 
@@ -57,7 +56,7 @@ number_same a = grind (arith, nat_tests)
 kind_same : (a b : Kind) → same_kind a b ≡ true → a ≡ b
 kind_same a b e =
     some_is a b
-    (sym (kind_there a) ∙ ap (slice_get kinds) (same_number (kind_number a) (kind_number b) e) ∙ kind_there b)
+    (sym (kind_there a) ∙ ap (slice_get kinds) (eqb-true (kind_number a) (kind_number b) e) ∙ kind_there b)
 
 same_as_kind : (a b : Kind) → a ≡ b → same_kind a b ≡ true
 same_as_kind a b e = rw e (number_same (kind_number b))

@@ -15,7 +15,7 @@ use Rattle.micro_image.specs.Bytes.{one_byte, two_bytes, four_bytes, eight_bytes
 use Rattle.micro_image.specs.Codes.{kind_number, mode_number}
 use Rattle.micro_image.specs.Operations.{kind_of, opcode, is_formatted, reads}
 use Rattle.micro_image.specs.Valid.{IsWithin, IsArgument}
-use Rattle.micro_file.specs.Hardware.{Any}
+use Rattle.micro_file.specs.Hardware.{Any, IsUnroll}
 use Rattle.micro_file.specs.Layout.{field, choice, many}
 use Rattle.micro_file.specs.Words as words
 use Rattle.micro_file.specs.Words.{byte, own_bytes}
@@ -25,7 +25,6 @@ use Rattle.micro_file.specs.Private.Bytes.{no_format_at, argument_at, signed_at,
 use Rattle.micro_file.specs.Private.Fields.{Reading, ◌>>=◌, kept}
 use Rattle.micro_file.specs.Private.Tables.{kinds, operations, modes}
 use Rattle.micro_file.proofs.BytesForm.{operation_of_reader, unroll_reader}
-use Rattle.micro_file.proofs.FormReader.{IsUnroll}
 use Rattle.micro_file.proofs.FormTold.{TellsForm}
 use Rattle.micro_file.proofs.IssueParts.{argument_reader, shift_low, shift_high, shift_is, is_shift}
 use Rattle.micro_file.proofs.Layouts.{Is, tells_given, tells_next, tells_many, tells_field, tells_same}
@@ -33,6 +32,7 @@ use Rattle.micro_file.proofs.Leaves.{byte_reader, within_reader, below_reader, t
 use Rattle.micro_file.proofs.Leaves.{kind_reader, mode_reader}
 use Rattle.micro_file.proofs.Readers.{byte_values, IsTestOf, tested, such_reader}
 use Rattle.micro_file.proofs.Sizes.{here, sized_byte, sized_number, sized_kept, sized_ok, sized_entry}
+use Rattle.micro_file.specs.Private.Bits.{no_format}
 
 -- ---- fields
 
@@ -147,9 +147,6 @@ shift_told left fits =
     tells_field byte_values one_byte (λ (b : ℕ). words.IsShift (cast_signed w8 b)) here kept_shift 1 0 one_len
     (such_reader (λ b h. h.1) (λ b h. (tt, h)) (tested byte_reader shift_test)) left fits
     (sized_kept 1 left (byte_at left) (λ (b : ℕ × List ℕ). is_shift (cast_signed w8 b.0)) (sized_byte (here left) left))
-
-abbrev no_format : Format
-no_format = record { shift = pos 0; mode = Trunc; width = 0 }
 
 -- what is behind the shift is behind the byte that was kept
 regroup : {B : Type 0} (left : List ℕ) (r : Reading ℕ) (f : ℕ × List ℕ → Reading B)

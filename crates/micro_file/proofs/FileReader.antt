@@ -4,10 +4,10 @@ use Rattle.std.proofs.Common.{◌∷◌, ◌++◌, length, take, drop, replicate
 use Rattle.std.proofs.Common.{arith}
 use Rattle.std.proofs.Math.Nat.{mod-eq_of_lt, mod-lt}
 use Rattle.std.specs.List.{list_all}
-use Rattle.std.proofs.lemmas.Bool.Decides.{nat_tests}
 use Rattle.std.proofs.lemmas.List.{append-nil, nil_from_length, take-append-drop, length-drop, get_or_default}
 use Rattle.std.proofs.lemmas.List.{length-replicate}
 use Rattle.std.proofs.lemmas.List.Concat.{flat_map-cons}
+use Rattle.std.proofs.lemmas.Bool.{eqb-true}
 use Rattle.micro_image.specs.declared.image.Image.{Image}
 use Rattle.micro_image.specs.declared.version.Version.{Version}
 use Rattle.micro_image.specs.declared.version.Version.TheVariants.{One, Two}
@@ -38,6 +38,7 @@ use Rattle.micro_file.proofs.Padding.{is_zero, replicate_zeros, zeros_replicate}
 use Rattle.micro_file.proofs.Readers.{byte_values, bit_values, ◌⨟◌, IsReader, ok_is, bound, joined}
 use Rattle.micro_file.proofs.Steps.{bound2, joined2, bound5}
 use Rattle.micro_file.proofs.WordReader.{word_reader}
+use Rattle.micro_file.specs.File.{version_number}
 
 -- ---- the head
 
@@ -56,18 +57,10 @@ number_behind s i l m = byte_at m.1
 abbrev version_behind : ℕ × List ℕ → ℕ × List ℕ → ℕ × List ℕ → ℕ × List ℕ → ℕ × List ℕ → Reading Version
 version_behind s i l m n = numbered n
 
--- the number of a version
-abbrev pub number_of_version : Version → ℕ
-number_of_version One = 1
-number_of_version Two = 2
-
-same_number : (n m : ℕ) → eqb n m ≡ true → n ≡ m
-same_number n m e = grind (arith, nat_tests)
-
 -- what has one of the two numbers is of a version
 pub was_numbered : (n : ℕ × List ℕ) (v : Version × List ℕ)
     → numbered n ≡ Ok v
-    → (n.0 ≡ number_of_version v.0) × (n.1 ≡ v.1)
+    → (n.0 ≡ version_number v.0) × (n.1 ≡ v.1)
 was_numbered n v e = by (eqb n.0 1) refl (eqb n.0 2) refl e
   where
     by : (one : Bool)
@@ -75,13 +68,13 @@ was_numbered n v e = by (eqb n.0 1) refl (eqb n.0 2) refl e
         → (two : Bool)
         → eqb n.0 2 ≡ two
         → cond one (Ok (One, n.1)) (cond two (Ok (Two, n.1)) (Err misread.Version)) ≡ Ok v
-        → (n.0 ≡ number_of_version v.0) × (n.1 ≡ v.1)
+        → (n.0 ≡ version_number v.0) × (n.1 ≡ v.1)
     by true is two other h =
-        subst (λ (w : Version × List ℕ). (n.0 ≡ number_of_version w.0) × (n.1 ≡ w.1)) (ok_is (One, n.1) v h)
-        (same_number n.0 1 is, refl)
+        subst (λ (w : Version × List ℕ). (n.0 ≡ version_number w.0) × (n.1 ≡ w.1)) (ok_is (One, n.1) v h)
+        (eqb-true n.0 1 is, refl)
     by false other true is h =
-        subst (λ (w : Version × List ℕ). (n.0 ≡ number_of_version w.0) × (n.1 ≡ w.1)) (ok_is (Two, n.1) v h)
-        (same_number n.0 2 is, refl)
+        subst (λ (w : Version × List ℕ). (n.0 ≡ version_number w.0) × (n.1 ≡ w.1)) (ok_is (Two, n.1) v h)
+        (eqb-true n.0 2 is, refl)
     by false one false two h = absurd cc
 
 is_begun : (bytes rest : List ℕ) (s i l m n v : ℕ)
@@ -96,7 +89,7 @@ is_begun bytes rest s i l m n v a b c d e h = rw (a, b, c, d, e) at h
 
 -- the bytes begin with SILM and the version's number
 record IsBegun (bytes : List ℕ) (v : Version × List ℕ) : Type 0 where
-  begins : bytes ≡ begun (number_of_version v.0) v.1
+  begins : bytes ≡ begun (version_number v.0) v.1
   rest_fits : IsDigits byte_values v.1
 
 head_took : (bytes : List ℕ)
@@ -117,12 +110,12 @@ head_took bytes fits v e =
     let was = was_numbered s.4 v s.10 in
     record {
       begins =
-          is_begun bytes v.1 s.0.0 s.1.0 s.2.0 s.3.0 s.4.0 (number_of_version v.0) a.allowed b.allowed c.allowed
+          is_begun bytes v.1 s.0.0 s.1.0 s.2.0 s.3.0 s.4.0 (version_number v.0) a.allowed b.allowed c.allowed
           d.allowed was.0 (rw was.1 at text.parts);
       rest_fits = subst (IsDigits byte_values) was.1 text.rest_fits;
     }
 
-head_again : (v : Version) (rest : List ℕ) → head_at (begun (number_of_version v) rest) ≡ Ok (v, rest)
+head_again : (v : Version) (rest : List ℕ) → head_at (begun (version_number v) rest) ≡ Ok (v, rest)
 unfolding head_at
 head_again One rest = refl
 head_again Two rest = refl
@@ -136,7 +129,7 @@ was_ended {A} x rest y e = by (eqb (length rest) 0) refl e
         → eqb (length rest) 0 ≡ b
         → cond b (Ok x) (Err (misread.Trailing (length rest))) ≡ Ok y
         → (rest ≡ []) × (x ≡ y)
-    by true same h = (nil_from_length rest (same_number (length rest) 0 same), cc)
+    by true same h = (nil_from_length rest (eqb-true (length rest) 0 same), cc)
     by false same h = absurd cc
 
 -- ---- what a word needs to know of the hardware

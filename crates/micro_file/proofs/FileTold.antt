@@ -3,7 +3,7 @@ use Rattle.std.proofs.Common.{◌≡◌, ℕ, ◌%◌, ◌<◌, ◌≤◌, Bool,
 use Rattle.std.proofs.Common.{length}
 use Rattle.std.proofs.Common.{take, drop, replicate, Result, Ok, Err, refl, sym, ap, subst, ◌∙◌, arith, inl, inr}
 use Rattle.std.specs.List.{list_all}
-use Rattle.std.proofs.lemmas.Bool.{cases_lt}
+use Rattle.std.proofs.lemmas.Bool.{cases_lt, eqb-true}
 use Rattle.std.proofs.lemmas.Bool.Decides.{nat_tests}
 use Rattle.std.proofs.lemmas.List.{nil_from_length, take-append-drop, length-take, length-replicate, get_or_past}
 use Rattle.micro_image.specs.declared.image.Image.{Image}
@@ -142,9 +142,6 @@ head_told left fits =
 abbrev end_at : {A : Type 0} → A → List ℕ → Reading A
 end_at x left = cond (eqb (length left) 0) (Ok (x, left)) (Err (misread.Trailing (length left)))
 
-same_number : (m n : ℕ) → eqb m n ≡ true → m ≡ n
-same_number m n e = grind (arith, nat_tests)
-
 no_number : (n : ℕ) → eqb n 0 ≡ false → 0 < n
 no_number n e = grind (arith, nat_tests)
 
@@ -155,14 +152,14 @@ end_told {A} base x left fits = by (eqb (length left) 0) refl
         → eqb (length left) 0 ≡ none
         → Tells base (end x) left (cond none (Ok (x, left)) (Err (misread.Trailing (length left))))
     by true e = record {
-      there = (refl, nil_from_length left (same_number (length left) 0 e));
+      there = (refl, nil_from_length left (eqb-true (length left) 0 e));
       only = only_ok;
       fits = λ y same. subst (λ (p : A × List ℕ). IsDigits base p.1) (ok_is (x, left) y same) fits;
     }
       where
         only_ok : (other : Reading A) → end x left other → other ≡ Ok (x, left)
         only_ok (Ok y) h = ap Ok h.0
-        only_ok (Err m) h = absurd (omega (arith, h.1, same_number (length left) 0 e))
+        only_ok (Err m) h = absurd (omega (arith, h.1, eqb-true (length left) 0 e))
     by false e = record {
       there = (refl, no_number (length left) e);
       only = only_err;

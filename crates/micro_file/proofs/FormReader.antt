@@ -1,7 +1,6 @@
 -- What is proved of the readers of a form's fields: each takes what spells an allowed value, and reads it again.
 use Rattle.std.proofs.Common.{◌≡◌, ℕ, ◌<◌, ◌≤◌, List, [], length, ℤ}
 use Rattle.std.specs.List.{All}
-use Rattle.std.specs.Prelude.{◌⊎◌}
 use Rattle.fix_word.specs.Words.{IsMachineWord}
 use Rattle.fix_word.specs.declared.operation.Op.{Op}
 use Rattle.operations.specs.declared.units.Kind.{Kind}
@@ -11,9 +10,7 @@ use Rattle.micro_image.specs.Operations.{kind_of, reads}
 use Rattle.micro_image.specs.Valid.{IsWithin, IsFormatFor, IsArgument, AreRegisters}
 use Rattle.micro_file.specs.Private.FormAt.{FormAt}
 use Rattle.micro_file.proofs.Readers.{IsReader}
-
-abbrev pub IsUnroll : ℕ → Type 0
-IsUnroll n = (n ≡ 1) ⊎ (n ≡ 2) ⊎ (n ≡ 4)
+use Rattle.micro_file.specs.Hardware.{IsUnroll}
 
 -- each file has registers, and no more than a field can name
 abbrev pub HaveRegisters : List (List ℤ) → Type 0

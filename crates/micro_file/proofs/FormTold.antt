@@ -5,10 +5,10 @@ use Rattle.operations.specs.declared.units.Kind.{Kind}
 use Rattle.micro_image.specs.Form.{Form}
 use Rattle.micro_image.specs.Operations.{kind_of, reads}
 use Rattle.micro_image.specs.Valid.{IsWithin, IsArgument}
-use Rattle.micro_file.specs.Hardware.{Any, Own}
+use Rattle.micro_file.specs.Hardware.{Any, Own, IsUnroll}
 use Rattle.micro_file.specs.Layout.{field}
 use Rattle.micro_file.specs.Private.FormAt.{FormAt}
-use Rattle.micro_file.proofs.FormReader.{IsUnroll, HaveRegisters}
+use Rattle.micro_file.proofs.FormReader.{HaveRegisters}
 use Rattle.micro_file.proofs.Layouts.{Is}
 
 pub record TellsForm (base : ℕ) (spell : Form) (own : Own) (form : FormAt) : Type 0 where

@@ -14,12 +14,13 @@ use Rattle.micro_file.specs.Private.Hardware.{inputs_at, hardware_at}
 use Rattle.micro_file.specs.Private.Units.{units_at}
 use Rattle.micro_file.specs.Private.Sizes.{IsNumbered}
 use Rattle.micro_bits.proofs.Bits.{IsDigits}
-use Rattle.micro_file.proofs.FormReader.{IsUnroll, HaveRegisters, ReadsForm}
+use Rattle.micro_file.proofs.FormReader.{HaveRegisters, ReadsForm}
 use Rattle.micro_file.proofs.IssueOnReader.{HasFewWords}
 use Rattle.micro_file.proofs.Readers.{◌⨟◌, Took, IsReader, such_reader, so_spelled, ok_is}
 use Rattle.micro_file.proofs.Several.{all_from, grows_all, counted}
 use Rattle.micro_file.proofs.Steps.{bound6, joined6}
 use Rattle.micro_file.proofs.UnitReader.{AreUnits, units_reader}
+use Rattle.micro_file.specs.Hardware.{IsUnroll}
 
 abbrev pub AreInputs : List ℕ → Type 0
 AreInputs inputs = IsWithin 1 16 (length inputs) × All (λ width. width ≤ 40) inputs

@@ -13,7 +13,6 @@ use Rattle.std.proofs.lemmas.List.Concat.{flat_map_single}
 use Rattle.fix_word.specs.Words.{IsFormat}
 use Rattle.fix_word.specs.declared.types.Format.{Format}
 use Rattle.fix_word.specs.declared.types.Mode.{Mode}
-use Rattle.fix_word.specs.declared.types.Mode.TheVariants.{Trunc}
 use Rattle.fix_word.specs.declared.operation.Op.{Op}
 use Rattle.fix_word.specs.declared.operation.Op.TheVariants as op
 use Rattle.micro_image.specs.Fields.{nth}
@@ -36,6 +35,7 @@ use Rattle.micro_file.proofs.Several.{Grows, grows_at, grows_from, many_reader}
 use Rattle.micro_file.proofs.Leaves.{byte_reader, within_reader, below_reader, signed_reader, raw_word_test}
 use Rattle.micro_file.proofs.Leaves.{word_fits, mode_reader}
 use Rattle.micro_file.proofs.Steps.{bound3, bound4, joined4}
+use Rattle.micro_file.specs.Private.Bits.{no_format}
 
 -- ---- formats
 
@@ -121,9 +121,6 @@ some_format_again fmt rest ok =
 
 some_format_reader : IsReader byte_values IsFormat format_bytes some_format_at
 some_format_reader = record { took = some_format_took; again = some_format_again }
-
-abbrev no_format : Format
-no_format = record { shift = pos 0; mode = Trunc; width = 0 }
 
 abbrev zero_behind : ℕ × List ℕ → Reading ℕ
 zero_behind a = byte_within 0 0 a.1

@@ -2,6 +2,7 @@
 use Rattle.std.proofs.Common.{◌≡◌, ℕ, List, ◌∷◌, ◌++◌, length, Some, Result, Ok, refl, sym, subst, ◌∙◌}
 use Rattle.std.specs.Prelude.{slice_get}
 use Rattle.std.specs.List.{flat_map}
+use Rattle.lists.proofs.Places.{there_is}
 use Rattle.micro_image.specs.declared.image.Image.{Image}
 use Rattle.micro_image.specs.declared.image.Issue.{Issue}
 use Rattle.micro_image.specs.declared.image.UnitDesc.{UnitDesc}
@@ -21,7 +22,7 @@ use Rattle.micro_file.proofs.Readers.{found_is}
 use Rattle.micro_file.proofs.Several.{counted, Rising, risen_all, risen_beside, grows_risen}
 use Rattle.micro_file.proofs.Leaves.{byte_reader, upto_reader}
 use Rattle.micro_file.proofs.BytesForm.{reads_bytes}
-use Rattle.micro_file.proofs.Issues.{there_is, some_and, is_issue, UnitBelow, above_sound, above_whole, HasFiles}
+use Rattle.micro_file.proofs.Issues.{some_and, is_issue, UnitBelow, above_sound, above_whole, HasFiles}
 use Rattle.micro_file.proofs.Issues.{AllHave, rise_from, rise_beside, AreIssues}
 use Rattle.micro_file.proofs.IssueOnReader.{HasFewWords, IsOn, issue_on_reader}
 use Rattle.micro_file.proofs.Steps.{bound3, joined3}

@@ -22,6 +22,7 @@ use Rattle.micro_file.proofs.Issues.{some_and}
 use Rattle.micro_file.proofs.Transfers.{next_sound, next_whole, enable_sound, enable_whole, take_sound, take_whole}
 use Rattle.micro_file.proofs.Transfers.{is_register, AreTransfers, AreEnables, AreTakes}
 use Rattle.micro_file.proofs.Steps.{bound2, joined2, bound6, joined6}
+use Rattle.micro_file.specs.Words.{take_of}
 
 -- a count, and so many transfers, of which each comes after the one before
 transfers_reader :
@@ -109,13 +110,10 @@ module _ (image : Image) where
   abbrev register_behind : ℕ × List ℕ → UnitDesc → ℕ × List ℕ → List ℤ → ℕ × List ℕ → Reading ℕ
   register_behind n u p f b = byte_below (length f) b.1
 
-  abbrev made_take : ℕ → ℕ → ℕ → ℕ → Take
-  made_take unit port bus reg = record { port = record { unit = unit; port = port }; bus = bus; reg = reg }
-
   module _ (front : List Take) where
     abbrev whole_take : List ℕ → ℕ × List ℕ → UnitDesc → ℕ × List ℕ → List ℤ → ℕ × List ℕ → ℕ × List ℕ → Reading Take
     whole_take bytes n u p f b r =
-        kept bytes (is_next take_before (last_of front) (made_take n.0 p.0 b.0 r.0)) (made_take n.0 p.0 b.0 r.0, r.1)
+        kept bytes (is_next take_before (last_of front) (take_of n.0 p.0 b.0 r.0)) (take_of n.0 p.0 b.0 r.0, r.1)
 
     take_took : (bytes : List ℕ)
         → IsDigits byte_values bytes
@@ -131,7 +129,7 @@ module _ (image : Image) where
         let p = byte_reader.took s.0.1 n.text.rest_fits s.2 s.8 in
         let b = (below_reader image.buses).took s.2.1 p.text.rest_fits s.4 s.10 in
         let r = (below_reader (length s.3)).took s.4.1 b.text.rest_fits s.5 s.11 in
-        let take = made_take s.0.0 s.2.0 s.4.0 s.5.0 in
+        let take = take_of s.0.0 s.2.0 s.4.0 s.5.0 in
         let k = was_kept bytes (is_next take_before (last_of front) take) (take, s.5.1) x s.12 in
         subst (λ (q : Take × List ℕ). Took byte_values (Rising (IsTake image) TakeBefore front) take_bytes bytes q)
         k.1 (record {

@@ -35,6 +35,7 @@ use Rattle.micro_file.proofs.Leaves.{byte_reader, upto_reader}
 use Rattle.micro_file.proofs.Readers.{byte_values, Took, IsReader, IsTestOf, tested, bound, ok_is, was_found}
 use Rattle.micro_file.proofs.Sizes.{here, sized_byte, sized_kept}
 use Rattle.micro_file.proofs.Transfers.{enable_sound, enable_whole, take_sound, take_whole}
+use Rattle.micro_file.specs.Private.WordFlags.{drive_of}
 
 -- ---- after the last
 
@@ -185,24 +186,21 @@ module _ (image : Image) (few : HasFewWords image) (have : AllHave image) where
 
   -- ---- enables
 
-  abbrev enable_of : ℕ → ℕ → Enable
-  enable_of unit bus = record { unit = unit; bus = bus }
-
   enable_told : (front : List Enable) → Is byte_values (placed (words.enable image front)) (enable_at image front)
   unfolding words.enable enable_at
   enable_told front left fits =
       tells_placed byte_values (words.enable image front) left (enable_at image front left)
       (tells_next byte_values (byte (λ n. n < length image.units)) _ left
       (λ (u : ℕ × List ℕ).
-      byte_below image.buses u.1 >>= λ b. kept_next enable_before front left (enable_of u.0 b.0, b.1))
+      byte_below image.buses u.1 >>= λ b. kept_next enable_before front left (drive_of u.0 b.0, b.1))
       (byte_below (length image.units) left) (below_told (length image.units) left fits) (λ u e d.
       tells_next byte_values (byte (λ n. n < image.buses)) _ u.1
-      (λ (b : ℕ × List ℕ). kept_next enable_before front left (enable_of u.0 b.0, b.1)) (byte_below image.buses u.1)
+      (λ (b : ℕ × List ℕ). kept_next enable_before front left (drive_of u.0 b.0, b.1)) (byte_below image.buses u.1)
       (below_told image.buses u.1 d) (λ b e2 d2.
-      tells_judged byte_values left (IsAfter EnableBefore front (enable_of u.0 b.0)) (enable_of u.0 b.0) b.1
-      (is_next enable_before (last_of front) (enable_of u.0 b.0)) d2
-      (next_after enable_before EnableBefore (last_of front) (enable_of u.0 b.0) enable_sound)
-      (after_next enable_before EnableBefore (last_of front) (enable_of u.0 b.0) enable_whole))))
+      tells_judged byte_values left (IsAfter EnableBefore front (drive_of u.0 b.0)) (drive_of u.0 b.0) b.1
+      (is_next enable_before (last_of front) (drive_of u.0 b.0)) d2
+      (next_after enable_before EnableBefore (last_of front) (drive_of u.0 b.0) enable_sound)
+      (after_next enable_before EnableBefore (last_of front) (drive_of u.0 b.0) enable_whole))))
 
   -- ---- takes
 

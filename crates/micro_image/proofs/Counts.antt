@@ -10,7 +10,7 @@ use Rattle.micro_image.specs.declared.image.Issue.{Issue}
 use Rattle.micro_image.specs.Valid.{IsIssue, IsIssueOn}
 
 -- what is there has an index below the length
-is_there : {A : Type 0} (xs : List A) (k : ℕ) (P : A → Type 0) → IsSomeAnd (slice_get xs k) P → k < length xs
+pub is_there : {A : Type 0} (xs : List A) (k : ℕ) (P : A → Type 0) → IsSomeAnd (slice_get xs k) P → k < length xs
 is_there [] k P h = absurd h
 is_there (x ∷ xs) zero P h = omega arith
 is_there (x ∷ xs) (suc k) P h = omega (arith, is_there xs k P h)

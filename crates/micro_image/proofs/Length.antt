@@ -12,6 +12,7 @@ use Rattle.std.proofs.lemmas.List.Elements.{All-filter}
 use Rattle.std.proofs.lemmas.List.FromFn.{length-range_with_len, length-map-range_with_len}
 use Rattle.std.proofs.lemmas.List.Sums.{sum_by-le}
 use Rattle.std.proofs.Math.Nat.{add-mul, mul-le-mul}
+use Rattle.lists.proofs.Numbers.{bit_most}
 use Rattle.operations.proofs.Ports.{few_ports}
 use Rattle.fix_word.specs.declared.operation.Op.{Op}
 use Rattle.fix_word.specs.declared.types.Format.{Format}
@@ -255,13 +256,9 @@ module _ {A : Type 0} (f : ℕ → List A → List ℕ) (each extra : ℕ)
   from k [] = 0
   from k (x ∷ xs) = cond (leb k (key x)) 1 0 + from k xs
 
-  one_at_most : (b : Bool) → cond b 1 0 ≤ 1
-  one_at_most true = omega arith
-  one_at_most false = omega arith
-
   from_few : (k : ℕ) (xs : List A) → from k xs ≤ length xs
   from_few k [] = omega arith
-  from_few k (x ∷ xs) = omega (arith, one_at_most (leb k (key x)), from_few k xs)
+  from_few k (x ∷ xs) = omega (arith, bit_most (leb k (key x)), from_few k xs)
 
   -- those with the key, and those with a greater one
   split_count : (xs : List A) (k : ℕ)

@@ -1,5 +1,5 @@
 -- What a cycle writes to a place is what the place holds in the next.
-use Rattle.std.proofs.Common.{◌≡◌, ◌≤◌, ⊎_elim, arith, ℕ, suc, Bool, true, false, ◌&&◌, nat_lt, List, ◌++◌}
+use Rattle.std.proofs.Common.{◌≡◌, ◌≤◌, ⊎_elim, arith, ℕ, suc, Bool, true, ◌&&◌, nat_lt, List, ◌++◌}
 use Rattle.std.proofs.Common.{Option, ℤ}
 use Rattle.lists.proofs.Bools.{first_true}
 use Rattle.lists.specs.Rows.{Rows}
@@ -7,7 +7,7 @@ use Rattle.micro_image.specs.Fields.{Microprogram}
 use Rattle.micro_image.specs.Log.{Place, Entry, same_place, stamp_le, initial, value_or, Log, Content, entries_by}
 use Rattle.micro_image.proofs.Each.{In, In-append_left, In-append_cases, Each, Each-at}
 use Rattle.micro_image.proofs.LogLaws.{IsBefore, entries-of_cycle, Log-before}
-use Rattle.micro_image.proofs.Newest.{IsNewest, unwritten, greatest, newest-greatest}
+use Rattle.micro_image.proofs.Newest.{IsNewest, unwritten, greatest, newest-greatest, both}
 
 -- if the write is to the place, it writes v
 abbrev pub WritesAt : Place → ℤ → Entry → Type 0
@@ -16,10 +16,7 @@ WritesAt place v e = same_place e.place place ≡ true → e.value ≡ v
 at_place : (same : Bool) (c t : ℕ) → same ≡ true → c ≡ t → same && nat_lt c (suc t) ≡ true
 at_place same c t p q = rw (p, q) (grind arith)
 
-none_at : {A : Type 0} (b : Bool) → b ≡ false → b ≡ true → A
-none_at b p q = absurd (cc)
-
-cycle_le : (e f : Entry) → stamp_le e f ≡ true → e.cycle ≤ f.cycle
+pub cycle_le : (e f : Entry) → stamp_le e f ≡ true → e.cycle ≤ f.cycle
 cycle_le e f h = grind arith
 
 value_written : (place : Place) (v start : ℤ) (t : ℕ) (new log : List Entry) (e : Entry) {r : Option Entry}
@@ -31,7 +28,7 @@ value_written : (place : Place) (v start : ℤ) (t : ℕ) (new log : List Entry)
     → IsNewest place (suc t) (new ++ log) r
     → value_or r start ≡ v
 value_written place v start t new log e before in' same is each (unwritten no_write) =
-    none_at _ (Each-at no_write e (In-append_left log in')) (at_place _ _ t same is)
+    both _ (Each-at no_write e (In-append_left log in')) (at_place _ _ t same is)
 value_written place v start t new log e before in' same is each (greatest {e = f} in_all of most) =
     let le : e.cycle ≤ f.cycle = cycle_le e f (Each-at most e (In-append_left log in') (at_place _ _ t same is))
     in ⊎_elim (λ k. Each-at each f k (first_true _ _ of)) (λ k. absurd (omega (arith, Each-at before f k, le, is)))

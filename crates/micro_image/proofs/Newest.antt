@@ -26,7 +26,7 @@ le_through f e g h k = grind arith
 le_other : (f e : Entry) → stamp_le f e ≡ false → stamp_le e f ≡ true
 le_other f e h = grind arith
 
-both : {A : Type 0} (b : Bool) → b ≡ false → b ≡ true → A
+pub both : {A : Type 0} (b : Bool) → b ≡ false → b ≡ true → A
 both b p q = absurd (cc)
 
 newest_of_two : (place : Place) (t : ℕ) (e f : Entry) {log : List Entry} (b : Bool)

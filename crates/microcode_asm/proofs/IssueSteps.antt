@@ -3,7 +3,7 @@ use Rattle.std.proofs.Common.{◌≡◌, ℕ, ◌+◌, ◌-◌, ◌*◌, ◌/◌
 use Rattle.std.proofs.Common.{[], ◌∷◌, ◌++◌, length, slice_index_or}
 use Rattle.std.proofs.Math.Nat.{mod-lt, mod-add-mod, add-mul-mod_self_right}
 use Rattle.std.proofs.lemmas.Bool.{cases_lt}
-use Rattle.std.proofs.lemmas.List.{get_or_default, get_or_append_left, get_or-append_right, length-append}
+use Rattle.std.proofs.lemmas.List.{get_or_default, get_or_append_left, get_or-append_right, length-append, get_or_past}
 use Rattle.operations.specs.Units.{ports}
 use Rattle.datapath.specs.Allowed.{IsUnit}
 use Rattle.datapath.specs.declared.types.Datapath.{Datapath}
@@ -19,7 +19,6 @@ use Rattle.plan_soundness.specs.Parts.{nodes_of, node_at, edge_at, unit_at, arc_
 use Rattle.plan_soundness.specs.ImageOf.{IsIssueOf}
 use Rattle.plan_soundness.specs.Feasible.{IsFeasibleOver}
 use Rattle.plan_soundness.specs.Overlap.{Overlap}
-use Rattle.plan_soundness.proofs.Elements.{nth_past}
 use Rattle.plan_soundness.proofs.Samples.{split, one_more}
 use Rattle.plan_soundness.proofs.SomeWord.{copy_once}
 use Rattle.microcode_asm.specs.Private.Ready.{IsReadyOver}
@@ -200,7 +199,7 @@ module _ {o : Overlap} {hold spare : ℕ} (d : Datapath) (p : Plan) (ready : IsR
             (each q (omega (arith, edges, through.reads.port, count))).read k i through copy;
         unread = λ q unread.
             ⊎_elim (λ (in-q : q < length regs). (each q in-q).unread unread)
-            (λ (past' : length regs ≤ q). nth_past regs q 0 past')
+            (λ (past' : length regs ≤ q). get_or_past regs q 0 past')
             (cases_lt q (length regs));
       }
     where

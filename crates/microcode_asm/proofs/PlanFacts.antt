@@ -1,6 +1,5 @@
 -- Facts of a plan that is assembled.
-use Rattle.std.proofs.Common.{◌≡◌, ℕ, ◌*◌, ◌/◌, ◌<◌, ◌≤◌, ◌∙◌, sym, ap, subst, arith, List, length, slice_index_or}
-use Rattle.std.proofs.Common.{Contains}
+use Rattle.std.proofs.Common.{◌≡◌, ℕ, ◌*◌, ◌/◌, ◌<◌, ◌≤◌, ◌∙◌, sym, ap, subst, arith, length}
 use Rattle.std.proofs.lemmas.List.{get_or_default}
 use Rattle.datapath.specs.declared.types.Datapath.{Datapath}
 use Rattle.plan_core.specs.Hardware.{latency_on, gap_on}
@@ -13,12 +12,6 @@ use Rattle.plan_soundness.specs.Overlap.{Overlap, shift_of}
 use Rattle.plan_soundness.proofs.Ordinary as ordinary
 use Rattle.microcode_asm.specs.Private.Ready.{IsReady, IsReadyOver}
 use Rattle.microcode_asm.specs.Lifetimes.{AreLifetimes}
-
--- an element of a list is in it
-pub at_index : {A : Type 0} (xs : List A) (i : ℕ) (default : A)
-    → i < length xs
-    → Contains xs (slice_index_or xs i default)
-at_index xs i default below = (i, below, get_or_default xs i _ default below)
 
 module _ {o : Overlap} {hold spare : ℕ} (d : Datapath) (p : Plan) (ready : IsReadyOver o hold spare d p) where
   facts : IsFeasibleOver o d p

@@ -4,8 +4,8 @@ use Rattle.std.proofs.Common.{[], ◌∷◌, ◌++◌, length, slice_index_or, m
 use Rattle.std.specs.List.{All}
 use Rattle.std.proofs.Math.Nat.{mod-lt}
 use Rattle.std.proofs.lemmas.List.{get_or_default, get_or-map, length-map}
-use Rattle.std.proofs.lemmas.List.Elements.{Contains-append_left, Contains-append_right}
-use Rattle.lists.proofs.Places.{only_there as is_one}
+use Rattle.std.proofs.lemmas.List.Elements.{Contains-append_left, Contains-append_right, Contains-get_or}
+use Rattle.lists.proofs.Places.{only_there as is_one, in_first}
 use Rattle.operations.specs.declared.units.PortRef.{PortRef}
 use Rattle.datapath.specs.declared.types.Datapath.{Datapath}
 use Rattle.datapath.specs.declared.types.Unit as of_unit
@@ -16,7 +16,6 @@ use Rattle.plan_core.specs.declared.registers.Arc.{Arc}
 use Rattle.plan_core.specs.declared.schedule.Slot.{Slot}
 use Rattle.plan_core.specs.declared.schedule.Transfer.{Transfer}
 use Rattle.plan_core.specs.declared.plan.Plan.{Plan}
-use Rattle.plan_core.proofs.Sorted.{in_head}
 use Rattle.micro_image.specs.declared.image.Enable.{Enable}
 use Rattle.micro_image.specs.declared.image.Issue.{Issue}
 use Rattle.micro_image.specs.declared.image.Take.{Take}
@@ -41,14 +40,14 @@ use Rattle.plan_soundness.proofs.Accumulator.{one_pair}
 use Rattle.microcode_asm.proofs.Linked.{first_reached, next_reached, all_reached}
 use Rattle.microcode_asm.proofs.BusSteps.{drives_rise}
 use Rattle.microcode_asm.proofs.IssueSteps.{read_at, arc_is, unit_is, register_is, register_room}
-use Rattle.microcode_asm.proofs.PlanFacts.{at_index, latency_some}
+use Rattle.microcode_asm.proofs.PlanFacts.{latency_some}
 
 pub from_mapped : {A B : Type 0} (f : A → B) (xs : List A) (y : B) (default : A)
     → Contains (map f xs) y
     → (x : A) × Contains xs x × (y ≡ f x)
 from_mapped f xs y default (k, below, is) =
     let in-k : k < length xs = omega (arith, below, length-map xs f) in
-    (slice_index_or xs k default, at_index xs k default in-k, sym is ∙ get_or-map f xs k default y in-k)
+    (slice_index_or xs k default, Contains-get_or xs k default in-k, sym is ∙ get_or-map f xs k default y in-k)
 
 module _ {o : Overlap} {hold spare : ℕ} (d : Datapath) (p : Plan) (ready : IsReadyOver o hold spare d p) where
   feasible : IsFeasibleOver o d p
@@ -95,7 +94,7 @@ module _ {o : Overlap} {hold spare : ℕ} (d : Datapath) (p : Plan) (ready : IsR
 
   module _ (order : List ℕ) (ordered : IsUnitOrder p.assigned order) where
     pub node_there : (i : ℕ) → i < length order → node_in order i < length (nodes_of p)
-    node_there i below = ordered.node (node_in order i) (at_index order i 0 below)
+    node_there i below = ordered.node (node_in order i) (Contains-get_or order i 0 below)
 
     -- the node at a place in order
     pub node_is : (i v : ℕ) → i < length order → v ≡ slice_index_or order i v → v ≡ node_in order i
@@ -154,7 +153,7 @@ module _ {o : Overlap} {hold spare : ℕ} (d : Datapath) (p : Plan) (ready : IsR
       one_more_issue once by c m v next issue issues links below v-is is after to =
           next_reached cycle_in IssueIn IsIssue IssueBefore (length order) c m next issues (issue ∷ []) below things
           (next_after cycle_in d.period (length order) by links m next below after) (record {
-            has = (issue, Contains-append_right issues (issue ∷ []) issue (in_head issue []), is-m);
+            has = (issue, Contains-append_right issues (issue ∷ []) issue (in_first issue []), is-m);
             of = λ a among. subst (IsIssue m) (is_one issue a among) is-m;
             rise = one_pair IssueBefore issue;
           }) to
@@ -233,7 +232,7 @@ module _ {o : Overlap} {hold spare : ℕ} (d : Datapath) (p : Plan) (ready : IsR
         let from : transfers ≡ transfers_at p v =
         transfers-are ∙ ap (λ (slot : Slot). slot.transfers) (slot_is v slot in-v slot-is) in
         let here : Contains (transfers_at p v) (slice_index_or transfers i t) =
-        subst (λ ts. Contains ts (slice_index_or transfers i t)) from (at_index transfers i t less) in
+        subst (λ ts. Contains ts (slice_index_or transfers i t)) from (Contains-get_or transfers i t less) in
         omega (
           arith,
           ready.plan.feasible.buses v (slice_index_or transfers i t) in-v here,
@@ -456,7 +455,7 @@ module _ {o : Overlap} {hold spare : ℕ} (d : Datapath) (p : Plan) (ready : IsR
         (take ∷ []) in-m things (next_after written_in d.period (length p.arcs) by links m next in-m after) (record {
           has = λ transfer of.
               subst (Contains (takes ++ take ∷ [])) (one_take m take transfer is of)
-              (Contains-append_right takes (take ∷ []) take (in_head take []));
+              (Contains-append_right takes (take ∷ []) take (in_first take []));
           of = λ a among. subst (λ take. IsTakeFor p m n take) (is_one take a among) is;
           rise = one_pair TakeBefore take;
         }) to

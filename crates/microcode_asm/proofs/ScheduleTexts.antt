@@ -18,6 +18,7 @@ use Rattle.plan_core.specs.declared.schedule.Transfer.{Transfer}
 use Rattle.plan_core.specs.declared.schedule.Slot.{Slot}
 use Rattle.plan_core.specs.declared.registers.Arc.{Arc}
 use Rattle.plan_core.specs.declared.plan.Plan.{Plan}
+use Rattle.plan_core.proofs.Rows.{at}
 use Rattle.microcode_asm.specs.ScheduleText.{schedule_text, head_line, node_line, placing_part, operation_part}
 use Rattle.microcode_asm.specs.ScheduleText.{destination}
 
@@ -51,9 +52,6 @@ abbrev node : Op → (arg width : ℕ) → List Edge → Node
 node o arg width edges =
     record { op = o; fmt = plain width; arg = pos arg; edges = edges; inits = []; width = 8; ram = 0 }
 
-abbrev slot : (cycle : ℕ) → List Transfer → Slot
-slot cycle transfers = record { cycle = cycle; transfers = transfers }
-
 abbrev to : (unit port : ℕ) → Transfer
 to unit port = record { port = port_of unit port; bus = 0 }
 
@@ -80,7 +78,7 @@ increment_plan =
     ∷ node op.Add 0 8 (edge 0 0 ∷ edge 1 0 ∷ [])
     ∷ node op.Output 0 0 (edge 2 0 ∷ [])
     ∷ [])
-    (0 ∷ 1 ∷ 2 ∷ 3 ∷ []) (slot 0 (to 2 0 ∷ []) ∷ slot 1 (to 2 1 ∷ []) ∷ slot 2 (to 3 0 ∷ []) ∷ slot 3 [] ∷ [])
+    (0 ∷ 1 ∷ 2 ∷ 3 ∷ []) (at 0 (to 2 0 ∷ []) ∷ at 1 (to 2 1 ∷ []) ∷ at 2 (to 3 0 ∷ []) ∷ at 3 [] ∷ [])
     (life 0 2 0 0 2 1 ∷ life 1 2 1 1 2 1 ∷ life 2 3 0 2 3 1 ∷ []) ((0 ∷ []) ∷ (0 ∷ []) ∷ (0 ∷ []) ∷ []) 1
 
 increment_text : schedule_text (path 0) increment_plan
@@ -96,7 +94,7 @@ abbrev held_three_plan : Plan
 held_three_plan =
     plan
     (node op.Input 0 0 [] ∷ node op.Sub 0 8 (edge 0 0 ∷ edge 0 3 ∷ []) ∷ node op.Output 0 0 (edge 1 0 ∷ []) ∷ [])
-    (0 ∷ 2 ∷ 3 ∷ []) (slot 0 (to 2 0 ∷ to 2 1 ∷ []) ∷ slot 1 (to 3 0 ∷ []) ∷ slot 2 [] ∷ [])
+    (0 ∷ 2 ∷ 3 ∷ []) (at 0 (to 2 0 ∷ to 2 1 ∷ []) ∷ at 1 (to 3 0 ∷ []) ∷ at 2 [] ∷ [])
     (life 0 2 0 0 1 1 ∷ life 0 2 1 0 49 4 ∷ life 1 3 0 1 2 1 ∷ []) ((0 ∷ []) ∷ (0 ∷ 1 ∷ 2 ∷ 3 ∷ []) ∷ (0 ∷ []) ∷ []) 4
 
 held_three_text : schedule_text (path 3) held_three_plan

@@ -5,7 +5,7 @@ use Rattle.std.proofs.Common.{ℤ, pos, find, Some}
 use Rattle.std.specs.List.Sorted.{IsStrictlyIncreasing}
 use Rattle.std.proofs.Math.Nat.{le-div_iff_mul-le}
 use Rattle.std.proofs.lemmas.Bool.{cases_lt, cases_order}
-use Rattle.std.proofs.lemmas.List.{get_or-map, get_or-replicate, length-map, length-replicate}
+use Rattle.std.proofs.lemmas.List.{get_or-map, get_or-replicate, length-map, length-replicate, get_or_past}
 use Rattle.std.proofs.lemmas.List.Kept.{AllPairs-from_increasing}
 use Rattle.operations.specs.declared.units.PortRef.{PortRef}
 use Rattle.datapath.specs.declared.types.Datapath.{Datapath}
@@ -25,7 +25,6 @@ use Rattle.plan_soundness.specs.Parts.{nodes_of, lines_of, node_at, arc_at, line
 use Rattle.plan_soundness.specs.ImageOf.{IsImageOf, IsUnitOf, IsPreloadOf, IsCellPreload}
 use Rattle.plan_soundness.specs.Feasible.{IsFeasible}
 use Rattle.plan_soundness.proofs.Ordinary.{room as line_room}
-use Rattle.plan_soundness.proofs.Elements.{nth_past}
 use Rattle.plan_soundness.proofs.SomeWord.{copy_once}
 use Rattle.microcode_asm.specs.Private.Ready.{IsReady, samples_of}
 use Rattle.microcode_asm.specs.Units.{zeros, blank_unit, held, Writes}
@@ -139,7 +138,7 @@ zeros_hold : (count r : ℕ) → nth (zeros count) r (pos 0) ≡ pos 0
 zeros_hold count r =
     ⊎_elim (λ (below : r < count). get_or-replicate count r (pos 0) (pos 0) below)
     (λ (past : count ≤ r).
-    nth_past (zeros count) r (pos 0) (omega (arith, past, length-replicate count (pos 0))))
+    get_or_past (zeros count) r (pos 0) (omega (arith, past, length-replicate count (pos 0))))
     (cases_lt r count)
 
 blank_files_hold : (sizes : List ℕ) (q r : ℕ) → nth (nth (map zeros sizes) q []) r (pos 0) ≡ pos 0
@@ -150,7 +149,7 @@ blank_files_hold sizes q r =
     ∙ zeros_hold (slice_index_or sizes q 0) r)
     (λ (past : length sizes ≤ q).
     ap (λ file. nth file r (pos 0))
-    (nth_past (map zeros sizes) q [] (omega (arith, past, length-map sizes zeros))))
+    (get_or_past (map zeros sizes) q [] (omega (arith, past, length-map sizes zeros))))
     (cases_lt q (length sizes))
 
 pub blank_holds : (d : Datapath) (place : Place) → held (map blank_unit d.units) place ≡ pos 0
@@ -161,7 +160,7 @@ blank_holds d (Register u q r) =
     ∙ blank_files_hold (unit_of d u).files q r)
     (λ (past : length d.units ≤ u).
     ap (λ x. nth (nth x.files q []) r (pos 0))
-    (nth_past (map blank_unit d.units) u no_unit (omega (arith, past, length-map d.units blank_unit))))
+    (get_or_past (map blank_unit d.units) u no_unit (omega (arith, past, length-map d.units blank_unit))))
     (cases_lt u (length d.units))
 blank_holds d (Cell u c) =
     ⊎_elim
@@ -170,7 +169,7 @@ blank_holds d (Cell u c) =
     ∙ zeros_hold (unit_of d u).cells c)
     (λ (past : length d.units ≤ u).
     ap (λ x. nth x.cells c (pos 0))
-    (nth_past (map blank_unit d.units) u no_unit (omega (arith, past, length-map d.units blank_unit))))
+    (get_or_past (map blank_unit d.units) u no_unit (omega (arith, past, length-map d.units blank_unit))))
     (cases_lt u (length d.units))
 blank_holds d (Latch j) = refl
 
@@ -229,12 +228,12 @@ module _ (d : Datapath) (p : Plan) (ready : IsReady d p) where
         absurd (omega (
           arith,
           some,
-          ap (λ unit. slice_index_or unit.files q 0) (nth_past d.units u no_path_unit past),
+          ap (λ unit. slice_index_or unit.files q 0) (get_or_past d.units u no_path_unit past),
         )))
         (cases_lt u (length d.units)),
     ⊎_elim (λ (there : q < length (unit_of d u).files). there)
         (λ (past : length (unit_of d u).files ≤ q).
-        absurd (omega (arith, some, nth_past (unit_of d u).files q 0 past)))
+        absurd (omega (arith, some, get_or_past (unit_of d u).files q 0 past)))
         (cases_lt q (length (unit_of d u).files)),
   )
 
@@ -407,7 +406,7 @@ module _ (d : Datapath) (p : Plan) (ready : IsReady d p) where
       let there : line.ram < length d.units =
       ⊎_elim (λ (below : line.ram < length d.units). below)
       (λ (past : length d.units ≤ line.ram).
-      absurd (omega (arith, room, ap (λ unit. unit.cells) (nth_past d.units line.ram no_path_unit past))))
+      absurd (omega (arith, room, ap (λ unit. unit.cells) (get_or_past d.units line.ram no_path_unit past))))
       (cases_lt line.ram (length d.units)) in
       omega (arith, room, number-is, most, (are.each line.ram there).cells)
 

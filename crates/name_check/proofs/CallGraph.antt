@@ -16,6 +16,7 @@ use Rattle.name_rules.specs.Calls.{called_by, Calls}
 use Rattle.name_rules.specs.Private.CallLists.{place, places, call_lists}
 use Rattle.name_rules.proofs.FirstPlaces.{first_place, place_found, top_stands}
 use Rattle.lists.proofs.Places.{none_there, only_there}
+use Rattle.lists.proofs.Options.{some_mapped}
 
 -- what has a value in a list, and what the value is of
 module _ {X Y : Type 0} (h : X → Option Y) where
@@ -47,12 +48,6 @@ module _ {X Y : Type 0} (h : X → Option Y) where
         (Contains-append_left (y ∷ []) (filter_map h xs) y (Contains-push [] y)))
     | inr there ↦ behind (h z) (filter_map h xs) y (value_in xs x y there e)
   ]
-
-some_mapped : {A B : Type 0} (f : A → B) (o : Option A) (y : B)
-    → option_map f o ≡ Some y
-    → (x : A) × (o ≡ Some x) × (f x ≡ y)
-some_mapped f (Some x) y e = (x, refl, (cc))
-some_mapped f None y e = absurd (cc)
 
 module _ (p : Program) where
   abbrev callees : Top → List ℕ

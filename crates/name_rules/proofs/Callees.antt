@@ -1,13 +1,8 @@
 -- The position of a function's name.
-use Rattle.std.proofs.Common.{◌≡◌, ◌↔◌, ℕ, List, Option, Some, None, unwrap_or, refl, sym, ap}
-use Rattle.std.specs.Prelude.{IsSome}
+use Rattle.std.proofs.Common.{◌≡◌, ◌↔◌, ℕ, List, Option, Some, unwrap_or, refl, sym, ap}
 use Rattle.silage_syntax.specs.Tree.{Program}
 use Rattle.name_rules.specs.TopNames.{top_names, position_of, IsFirstPlace}
 use Rattle.name_rules.proofs.FirstPlaces.{place_found}
-
-pub is_there : {A : Type 0} (o : Option A) → o ≡ None → IsSome o → ⊥
-is_there None none there = absurd (cc (there))
-is_there (Some x) none there = absurd (cc (none))
 
 pub is_position : (p : Program) (name : List ℕ) (names : List (List ℕ)) (k : ℕ)
     → names ≡ top_names p

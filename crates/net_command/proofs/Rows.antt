@@ -1,6 +1,5 @@
 -- The rows of SAMPLES.
-use Rattle.std.proofs.Common.{◌≡◌, ◌+◌, ◌<◌, ◌≤◌, ◌∙◌, ℕ, List, [], ◌∷◌, length, ap, subst, inl, inr, ⊎_elim, arith}
-use Rattle.std.proofs.Common.{ℤ}
+use Rattle.std.proofs.Common.{◌≡◌, ◌+◌, ◌≤◌, ◌∙◌, ℕ, List, [], ◌∷◌, length, ap, subst, inl, inr, arith}
 use Rattle.std.proofs.lemmas.List.{length-append, length_push}
 use Rattle.lists.specs.Rows.{Rows}
 use Rattle.desk_core.specs.View.{Name, Content, View}
@@ -10,13 +9,9 @@ use Rattle.net_command.specs.Net.{net_samples_limit}
 use Rattle.net_command.specs.Private.Reading.{HasRowList, IsStreamRead}
 use Rattle.net_solution.specs.declared.row_list.RowList.{RowList}
 use Rattle.sample_io.specs.declared.channel.Channel.{Channel}
-use Rattle.sample_io.specs.Samples.{IsLine, Lines, RowsOf}
+use Rattle.sample_io.specs.Samples.{Lines, RowsOf}
 use Rattle.sample_io.proofs.Streams.{RowsOf-stream}
-
-line_some : (channels : List Channel) (line : List ℕ) (row : List ℤ) → IsLine channels line row → 0 < length line
-line_some channels line row h =
-    let all = ap length h.line_is ∙ length-append h.text h.end in
-    ⊎_elim (λ lf. omega (arith, all, ap length lf)) (λ crlf. omega (arith, all, ap length crlf)) h.line_end
+use Rattle.sample_io.proofs.Files.{line_some}
 
 lines_few : (bytes : List ℕ) (channels : List Channel) (rows : Rows)
     → Lines bytes channels rows

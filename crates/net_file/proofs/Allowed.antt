@@ -1,14 +1,14 @@
 -- A net that a file describes is within the ranges of a net.
-use Rattle.std.proofs.Common.{◌≡◌, ◌≢◌, ℕ, suc, ◌+◌, ◌<◌, ◌≤◌, Bool, true, List, [], ◌∷◌, length, Option}
+use Rattle.std.proofs.Common.{◌≡◌, ◌≢◌, ℕ, ◌+◌, ◌<◌, ◌≤◌, true, List, [], ◌∷◌, length, Option}
 use Rattle.std.proofs.Common.{Some, None}
-use Rattle.std.proofs.Common.{Result, Ok, Err, inl, inr, refl, arith}
-use Rattle.std.specs.Prelude.{IfOk, find, Contains}
+use Rattle.std.proofs.Common.{Result, Ok, Err, refl, arith}
+use Rattle.std.specs.Prelude.{IfOk}
 use Rattle.std.specs.List.{All}
 use Rattle.std.specs.Option.{ok_or}
 use Rattle.std.specs.Str.{bytes_eq}
-use Rattle.std.proofs.lemmas.Bool.{cases_Bool}
 use Rattle.std.proofs.lemmas.Bool.Decides.{nat_tests}
 use Rattle.toml.specs.Data.{Data, Members, string, integer, float, boolean, datetime, array, table}
+use Rattle.lists.proofs.Places.{found_member}
 use Rattle.toml_rows.specs.declared.misfit.Misfit.{Misfit}
 use Rattle.toml_rows.specs.declared.misfit.Misfit.TheVariants.{Range}
 use Rattle.toml_rows.specs.Values.{a_table}
@@ -35,20 +35,6 @@ named (datetime t) name h = absurd (cc)
 named (array ds) name h = absurd (cc)
 named (table t) name h = absurd (cc)
 
-found_in : {A : Type 0} (test : A → Bool) (xs : List A) (x : A) → find test xs ≡ Some x → Contains xs x
-found_in test [] x h = absurd (cc)
-found_in test (y ∷ xs) x h =
-    elim (cases_Bool (test y)) [
-      | inl here ↦
-          let found : Some y ≡ Some x = rw here at h in
-          let same : y ≡ x = cc in
-          (0, omega arith, same)
-      | inr not_here ↦
-          let found : find test xs ≡ Some x = rw not_here at h in
-          let (k, within, is) = found_in test xs x found in
-          (suc k, omega arith, is)
-    ]
-
 some_of : {A : Type 0} (o : Option A) (e : Misfit) (x : A)
     → ◌≡◌ {A = Result A Misfit} (ok_or o e) (Ok x)
     → o ≡ Some x
@@ -64,7 +50,7 @@ module _ (inputs p : ℕ) (few : inputs ≤ 16) (small : p < 8) where
   unfolding wire_spelled
   spelled_wire s w h =
       let (short, is) = from_wires inputs p w few small
-      (found_in (λ v. bytes_eq s (spelling v)) (wires inputs p) w h) in
+      (found_member (λ v. bytes_eq s (spelling v)) (wires inputs p) w h) in
       allowed_wire inputs p w short is
 
   wired : (d : Data) (w : Wire) → wire inputs p d ≡ Ok w → IsWire inputs p w

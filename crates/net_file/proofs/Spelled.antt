@@ -13,6 +13,7 @@ use Rattle.std.proofs.lemmas.Fmt.{decimal_digit}
 use Rattle.std.proofs.lemmas.List.Elements.{Contains-append_left, Contains-append_right, Contains-append_cases}
 use Rattle.std.proofs.lemmas.List.FromFn.{get_or-map-range_with_len, length-map-range_with_len}
 use Rattle.std.proofs.lemmas.Slice.Eq.{bytes_eq-Decides}
+use Rattle.lists.proofs.Options.{some_mapped}
 use Rattle.toml_rows.specs.Values.{is_within}
 use Rattle.toml_rows.proofs.Judged.{within_is}
 use Rattle.net_core.specs.Allowed.{most_words}
@@ -92,12 +93,6 @@ abbrev pub IsShort : Wire → Type 0
 IsShort (Input j) = j < 16
 IsShort (From q j) = (q < 10) × (j < 16)
 
-mapped : {A B : Type 0} (f : A → B) (o : Option A) (y : B)
-    → option_map f o ≡ Some y
-    → (x : A) × (o ≡ Some x) × (f x ≡ y)
-mapped f (Some x) y h = (x, refl, cc)
-mapped f None y h = absurd (cc)
-
 joined : (q j : Option ℕ) (wire : Wire)
     → from q j ≡ Some wire
     → (r : ℕ) × (i : ℕ) × (q ≡ Some r) × (j ≡ Some i) × (wire ≡ From r i)
@@ -130,7 +125,7 @@ spelling_of text wire h =
     elim (cases_Bool (is_input text)) [
       | inl input ↦
           let read : option_map Input (number (drop 3 text)) ≡ Some wire = rw input at h in
-          let (j, is_j, is) = mapped Input (number (drop 3 text)) wire read in
+          let (j, is_j, is) = some_mapped Input (number (drop 3 text)) wire read in
           let (rest, small) = number_of (drop 3 text) j is_j in
           rw (← is) (input_is text input ∙ ap (λ (l : List ℕ). codes "in." ++ l) rest, small)
       | inr other ↦

@@ -1,5 +1,5 @@
 -- In a round before all samples are run some processor runs: the first of those that have run the fewest samples.
-use Rattle.std.proofs.Common.{◌≡◌, ℕ, zero, suc, ◌+◌, ◌<◌, ◌≤◌, ◌⊎◌, Bool, true, false, not, ◌&&◌, ◌||◌, ◌==◌, nat_le}
+use Rattle.std.proofs.Common.{◌≡◌, ℕ, zero, suc, ◌+◌, ◌<◌, ◌≤◌, Bool, true, false, not, ◌&&◌, ◌||◌, ◌==◌, nat_le}
 use Rattle.std.proofs.Common.{List}
 use Rattle.std.proofs.Common.{[], ◌∷◌, length, get_or, refl, inl, inr, arith, sym, ◌∙◌, subst}
 use Rattle.std.specs.List.{All, Contains}
@@ -10,6 +10,7 @@ use Rattle.std.proofs.lemmas.List.Elements.{All-contains, All-contains_itself}
 use Rattle.std.proofs.lemmas.List.Folds.{list_any_none}
 use Rattle.std.proofs.lemmas.List.FromFn.{length-range_with_len, get_or-range_with_len}
 use Rattle.std.proofs.lemmas.List.Sums.{AllPass-from_list_all, list_all-from_AllPass}
+use Rattle.lists.proofs.Numbers.{same_or_below}
 use Rattle.net_core.specs.declared.types.Wire.{Wire}
 use Rattle.net_core.specs.declared.types.Wire.TheVariants.{Input, From}
 use Rattle.net_turns.specs.Turns.{NetShape, Point, start, point_of, queued, feed_of, processors, reads}
@@ -47,14 +48,11 @@ pub record IsFirstLeast (f : ℕ → ℕ) (n p : ℕ) : Type 0 where
   pub least : (q : ℕ) → q < n → f p ≤ f q
   pub first : (q : ℕ) → q < p → f p < f q
 
-last_or : (q n : ℕ) → q < suc n → (q < n) ⊎ (q ≡ n)
-last_or q n h = elim (cases_lt q n) [ inl early ↦ inl early | inr late ↦ inr (omega arith) ]
-
 takes_last : (f : ℕ → ℕ) (n p : ℕ) → f n < f p → IsFirstLeast f n p → IsFirstLeast f (suc n) n
 takes_last f n p less is = record {
   within = omega arith;
   least = λ q h.
-      elim (last_or q n h) [
+      elim (same_or_below q n h) [
         | inl early ↦ omega (arith, less, is.least q early)
         | inr same ↦ rw same (omega arith)
       ];
@@ -65,7 +63,7 @@ keeps_first : (f : ℕ → ℕ) (n p : ℕ) → f p ≤ f n → IsFirstLeast f n
 keeps_first f n p no_less is = record {
   within = omega (arith, is.within);
   least = λ q h.
-      elim (last_or q n h) [
+      elim (same_or_below q n h) [
         | inl early ↦ is.least q early
         | inr same ↦ rw same no_less
       ];

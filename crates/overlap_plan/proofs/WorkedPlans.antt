@@ -2,6 +2,7 @@
 use Rattle.std.proofs.Common.{◌≡◌, refl, sym, subst, arith, ℕ, zero, suc, ◌<◌, List, [], ◌∷◌, length, true}
 use Rattle.datapath.specs.declared.types.Datapath.{Datapath}
 use Rattle.signal_graph.specs.declared.graph.Graph.{Graph}
+use Rattle.signal_graph.proofs.Examples.{edge}
 use Rattle.plan_core.specs.Lowered.{AreLines, IsNextLine, IsLineOf, IsLoweredOver}
 use Rattle.plan_core.specs.Stages.{IsStageSchedule}
 use Rattle.plan_core.specs.declared.plan.Plan.{Plan}
@@ -13,11 +14,12 @@ use Rattle.plan_core.proofs.ScheduleTests.{are_heights}
 use Rattle.plan_core.proofs.RegisterTests.{is_unroll, is_first_fit}
 use Rattle.plan_core.proofs.PlanTests.{are_in_files}
 use Rattle.plan_core.proofs.StagedRules.{are_staged, staged, are_stage_arcs}
-use Rattle.plan_core.proofs.Rows.{plain_path, filter_path, edge, at, over, life, heights, increment, increment_plan}
+use Rattle.plan_core.proofs.Rows.{plain_path, filter_path, at, over, life, heights, increment, increment_plan}
 use Rattle.plan_core.proofs.Rows.{line_cells, line_cells_plan, its_line}
 use Rattle.plan_core.proofs.WorkedStages.{next_of, increment_delays, three_cycles, two_cycles, one_stage_short}
 use Rattle.plan_core.proofs.WorkedStages.{bus_bound}
 use Rattle.plan_core.proofs.WorkedRefusals.{no_spare_cell}
+use Rattle.plan_core.proofs.WorkedPlans.{delays as delay_delays}
 use Rattle.delay_memory.specs.declared.fault.LineFault.TheVariants.{LinesFull}
 use Rattle.overlap_plan.specs.IsStagePlan.{IsStagePlan}
 use Rattle.overlap_plan.specs.Faults.{IsStageFault}
@@ -154,9 +156,6 @@ delay_plan = record line_cells_plan {
   arcs =
       life 4 2 0 1 2 1 ∷ life 3 5 0 0 1 1 ∷ life 1 5 0 1 2 1 ∷ life 0 5 1 0 2 1 ∷ life 5 7 0 2 32 1 ∷ [];
 }
-
-abbrev delay_delays : List (List ℕ)
-delay_delays = (3 ∷ []) ∷ [] ∷ [] ∷ []
 
 delay_next : IsNextLine 2 delay_path delay_delays [] 0 (3 ∷ []) its_line
 delay_next = record {

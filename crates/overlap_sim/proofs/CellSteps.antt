@@ -3,6 +3,7 @@ use Rattle.std.proofs.Common.{◌≡◌, ℕ, ◌+◌, ◌<◌, ◌≤◌, ⊎_e
 use Rattle.std.proofs.Common.{slice_index_or}
 use Rattle.std.proofs.Common.{map, ℤ}
 use Rattle.std.proofs.lemmas.Bool.{cases_lt}
+use Rattle.std.proofs.lemmas.List.{get_or_past}
 use Rattle.datapath.specs.declared.types.Datapath.{Datapath}
 use Rattle.signal_graph.specs.GraphSolves.{no_node}
 use Rattle.signal_graph.specs.Rules.{word_before}
@@ -18,7 +19,6 @@ use Rattle.plan_soundness.specs.Parts.{nodes_of, lines_of, node_at, line_at}
 use Rattle.plan_soundness.specs.Feasible.{IsFeasibleOver}
 use Rattle.plan_soundness.specs.ImageOf.{IsCellPreload}
 use Rattle.plan_soundness.specs.Overlap.{reach}
-use Rattle.plan_soundness.proofs.Elements.{nth_past}
 use Rattle.microcode_asm.specs.Units.{blank_unit, held, Writes}
 use Rattle.microcode_asm.specs.Private.Starts.{AreUnitsOf, inits_of, no_init}
 use Rattle.microcode_asm.proofs.HeldSteps.{place_cases, units_kept}
@@ -94,7 +94,7 @@ module _ (d : Datapath) (sp : StagePlan) (ready : IsStageReady d sp) where
       let there : line.ram < length d.units =
       ⊎_elim (λ (below : line.ram < length d.units). below)
       (λ (past : length d.units ≤ line.ram).
-      absurd (omega (arith, room, ap (λ unit. unit.cells) (nth_past d.units line.ram no_path_unit past))))
+      absurd (omega (arith, room, ap (λ unit. unit.cells) (get_or_past d.units line.ram no_path_unit past))))
       (cases_lt line.ram (length d.units)) in (
         omega (arith, there, are.count),
         omega (arith, room, number-is, most, (are.each line.ram there).cells),
@@ -311,7 +311,7 @@ module _ (d : Datapath) (sp : StagePlan) (ready : IsStageReady d sp) where
             (λ (in-i : i < length (inits_of p l)). absent.none i in-i (sample ∙ same))
             (λ (past : length (inits_of p l) ≤ i).
             let none : (slice_index_or (inits_of p l) i no_init).0 ≡ 0 =
-            ap (λ (x : ℕ × ℤ). x.0) (nth_past (inits_of p l) i no_init past) in
+            ap (λ (x : ℕ × ℤ). x.0) (get_or_past (inits_of p l) i no_init past) in
             omega (arith, none, sample, of'.before))
             (cases_lt i (length (inits_of p l))))
             ∙ sym absent.word)

@@ -7,11 +7,12 @@ use Rattle.std.proofs.Common.{map, nat_le, ℤ}
 use Rattle.std.specs.List.{Contains, AllPairs, filter, find}
 use Rattle.std.specs.Int.{int_rem_euclid}
 use Rattle.std.specs.Prelude.{pos, ◌-ℤ◌, ◌+ℤ◌}
-use Rattle.std.proofs.lemmas.Bool.{cases_lt, eq-eqb, le-leb, leb-true}
+use Rattle.std.proofs.lemmas.Bool.{cases_lt, eq-eqb, le-leb, leb-true, eqb-true}
 use Rattle.std.proofs.lemmas.Nat.{div-mul-add}
 use Rattle.std.proofs.lemmas.Int.{ints}
 use Rattle.std.proofs.Math.Nat.{mod-lt, mod-zero, mod-mod, mod-add-mod, mod-eq_of_lt, add-mul}
 use Rattle.std.proofs.Math.Nat.{mod-mod_of_dvd, dvd_of_mod-eq-zero, add-mul-mod_self_right, mul-le-mul_left}
+use Rattle.std.proofs.lemmas.List.{get_or_past}
 use Rattle.fix_word.specs.declared.operation.Op.{Op}
 use Rattle.fix_word.specs.declared.operation.Op.TheVariants as op
 use Rattle.datapath.specs.declared.types.Datapath.{Datapath}
@@ -34,8 +35,8 @@ use Rattle.plan_soundness.specs.Overlap.{shift_of}
 use Rattle.plan_soundness.specs.Feasible.{IsFeasibleOver}
 use Rattle.plan_soundness.specs.Executes.{ExecutesOver, IsIssueIn, IsTakeIn, IsEnableOf}
 use Rattle.plan_soundness.specs.Private.Cells.{cell_in}
-use Rattle.plan_soundness.proofs.Elements.{Contains-from_In, nth_past, found, find_among}
-use Rattle.plan_soundness.proofs.FromImage.{is_number, pairs_then, enables_differ, takes_differ, word_number}
+use Rattle.plan_soundness.proofs.Elements.{Contains-from_In, found, find_among}
+use Rattle.plan_soundness.proofs.FromImage.{pairs_then, enables_differ, takes_differ, word_number}
 use Rattle.plan_soundness.proofs.Lines.{cancel, addr-cell}
 use Rattle.plan_soundness.proofs.Samples.{split}
 use Rattle.plan_soundness.proofs.Writes.{in_turn}
@@ -323,7 +324,7 @@ module _ (stages : ℕ) (d : Datapath) (p : Plan) (plan : IsFeasibleOver (overla
       let from = is_due m (staged_at m c).issues first.it first.among in
       let only = word.issue_only from.staged from.among in
       let node : only.0 ≡ v = one_node only.0 v only.1 in-v
-      (sym only.3.unit ∙ ap (λ (issue : Issue). issue.unit) from.is ∙ is_number _ _ first.passes) only.2 in (
+      (sym only.3.unit ∙ ap (λ (issue : Issue). issue.unit) from.is ∙ eqb-true _ _ first.passes) only.2 in (
         first.it,
         ap (λ (w : Word). find (λ (issue : Issue). issue.unit == unit_at p v) w.issues) (obeyed_in n (cycle_at p v))
             ∙ first.is,
@@ -354,7 +355,7 @@ module _ (stages : ℕ) (d : Datapath) (p : Plan) (plan : IsFeasibleOver (overla
         only.0,
         m - stage (cycle_at p only.0),
         only.1,
-        sym only.3.unit ∙ ap (λ (issue : Issue). issue.unit) from.is ∙ is_number _ _ first.1,
+        sym only.3.unit ∙ ap (λ (issue : Issue). issue.unit) from.is ∙ eqb-true _ _ first.1,
         at_cycle t (cycle_at p only.0) (omega (arith, only.3.stage, from.begun)) only.2,
       )
 
@@ -413,7 +414,7 @@ module _ (stages : ℕ) (d : Datapath) (p : Plan) (plan : IsFeasibleOver (overla
       let other : IsEnableOf p only.0 first.it = only.3 in
       let node : only.0 ≡ v = plan.bus_free only.0 v (stage (ends_at d p v)) (stage (ends_at d p only.0))
       other.transfer.0 transfer other.node arc.node other.transfer.1 of.among
-      (meet (ends_at d p only.0) (ends_at d p v) only.1) (other.transfer.2 ∙ is_number _ _ first.passes) in (
+      (meet (ends_at d p only.0) (ends_at d p v) only.1) (other.transfer.2 ∙ eqb-true _ _ first.passes) in (
         first.it,
         ap (λ (w : Word). find (λ (e : Enable). e.bus == transfer.bus) w.enables) (obeyed_in n (ends_at d p v))
             ∙ first.is,
@@ -517,7 +518,7 @@ module _ (stages : ℕ) (d : Datapath) (p : Plan) (plan : IsFeasibleOver (overla
   unit_fact f g u below past' = ⊎_elim (below u) (past' u) (cases_lt u (length d.units))
 
   no_unit_at : (u : ℕ) → length d.units ≤ u → unit_of micro u ≡ no_desc
-  no_unit_at u le = nth_past guarded.units u _ (omega (arith, le, is.unit_count))
+  no_unit_at u le = get_or_past guarded.units u _ (omega (arith, le, is.unit_count))
 
   -- the guarded image of a plan does at each cycle what the plan has there
   pub executes_guarded : ExecutesOver (overlap_of stages) d p (of_guarded guarded)
@@ -526,14 +527,16 @@ module _ (stages : ℕ) (d : Datapath) (p : Plan) (plan : IsFeasibleOver (overla
     latency = λ u. unit_fact (λ (unit : UnitDesc). unit.latency) (latency_on d) u
         (λ u below. (is.units u below).latency)
         (λ u le. ap (λ unit. unit.latency) (no_unit_at u le)
-        ∙ sym (ap (λ unit. unit.latency) (nth_past d.units u no_unit le)));
+        ∙ sym (ap (λ unit. unit.latency) (get_or_past d.units u no_unit le)));
     gap = λ u. unit_fact (λ unit. unit.gap) (gap_on d) u (λ u below. (is.units u below).gap)
-        (λ u le. ap (λ unit. unit.gap) (no_unit_at u le) ∙ sym (ap (λ unit. unit.gap) (nth_past d.units u no_unit le)));
+        (λ u le.
+            ap (λ unit. unit.gap) (no_unit_at u le) ∙ sym (ap (λ unit. unit.gap) (get_or_past d.units u no_unit le)));
     cells = λ u. unit_fact (λ unit. length unit.cells) (cells_on d) u (λ u below. (is.units u below).cells)
         (λ u le. ap (λ unit. length unit.cells) (no_unit_at u le)
-        ∙ sym (ap (λ unit. unit.cells) (nth_past d.units u no_unit le)));
+        ∙ sym (ap (λ unit. unit.cells) (get_or_past d.units u no_unit le)));
     ram = λ u. unit_fact (λ unit. unit.ram) (tie_of d) u (λ u below. (is.units u below).ram)
-        (λ u le. ap (λ unit. unit.ram) (no_unit_at u le) ∙ sym (ap (λ unit. unit.ram) (nth_past d.units u no_unit le)));
+        (λ u le.
+            ap (λ unit. unit.ram) (no_unit_at u le) ∙ sym (ap (λ unit. unit.ram) (get_or_past d.units u no_unit le)));
     known = λ v in-v. omega (arith, plan.units v in-v, is.unit_count);
     issue = issue_then;
     issue_only = issue_only;

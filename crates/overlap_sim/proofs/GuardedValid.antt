@@ -67,7 +67,8 @@ module _ (stages : ℕ) (g : Graph) (d : Datapath) (p : Plan) (sound : IsGraph g
       absurd (never (subst IsMachineWord
       (sym (is.starts.other_cell ram cell (λ l ago (of : IsCellPreload p ram cell l ago).
       never (subst IsMachineWord (sym (is.starts.cell ram cell l ago of))
-      (word_of_node g d p sound plan.lowered plan.assigned (line_at p l).node ago (feasible.memory.lines l of.there).node)))))
+      (word_of_node g d p sound plan.lowered plan.assigned (line_at p l).node ago
+       (feasible.memory.lines l of.there).node)))))
       zero_word)))
       (word_cases (initial (of_guarded guarded) (Cell ram cell)))
 

@@ -4,7 +4,7 @@ use Rattle.std.proofs.Common.{◌∙◌, subst, arith, List, [], ◌∷◌, leng
 use Rattle.std.specs.Prelude.{◌+ℤ◌}
 use Rattle.std.specs.Int.{int_rem_euclid}
 use Rattle.std.proofs.lemmas.Bool.{cases_lt}
-use Rattle.std.proofs.lemmas.List.{get_or-map, length-map}
+use Rattle.std.proofs.lemmas.List.{get_or-map, length-map, get_or_past}
 use Rattle.std.proofs.Math.Nat.{mod-lt}
 use Rattle.operations.proofs.Ports.{few_ports}
 use Rattle.fix_word.specs.declared.operation.Op.{Op}
@@ -35,7 +35,7 @@ use Rattle.plan_soundness.specs.Machine.{IsMachine}
 use Rattle.plan_soundness.specs.ImageOf.{IsUnitOf, enable_of, take_of}
 use Rattle.plan_soundness.specs.Overlap.{shift_of}
 use Rattle.plan_soundness.specs.Feasible.{IsFeasibleOver, IsFeasiblePlanOver}
-use Rattle.plan_soundness.proofs.Elements.{default_any, nth_past}
+use Rattle.plan_soundness.proofs.Elements.{default_any}
 use Rattle.plan_soundness.proofs.FromLowered.{made_at, made_as, own_below, graph_node}
 use Rattle.plan_soundness.proofs.ValidWords.{most_takes, few, rising_units, some_at, argument_for, adjacent}
 use Rattle.plan_soundness.proofs.ValidWords.{format_by, argument_by, enable_number, take_number, in_file, some_register}
@@ -181,7 +181,9 @@ module _ (stages : ℕ) (g : Graph) (d : Datapath) (p : Plan) (sound : IsGraph g
         does = ap kind_of of.op
             ∙ sym ((plan.assigned.right v in-v).kind.kind)
             ∙ sym (its_unit u below).kind;
-        fmt = format_by issue.op (node_at p v).op issue.fmt (node_at p v).fmt of.op of.fmt (made_format g d p sound plan.lowered plan.assigned v in-v);
+        fmt =
+            format_by issue.op (node_at p v).op issue.fmt (node_at p v).fmt of.op of.fmt
+            (made_format g d p sound plan.lowered plan.assigned v in-v);
         arg = subst (λ outs. valid.IsArgument issue.op (length guarded.inputs) outs issue.arg) (sym outs_are)
             (subst (λ inputs. valid.IsArgument issue.op inputs g.outs issue.arg) (sym inputs_are)
             (argument_by issue.op (node_at p v).op (length g.inputs) g.outs issue.arg (arg_by (node_at p v).op d p v)
@@ -332,7 +334,7 @@ module _ (stages : ℕ) (g : Graph) (d : Datapath) (p : Plan) (sound : IsGraph g
           file_there files q some =
               ⊎_elim
               (λ (there : q < length files). there)
-              (λ (past' : length files ≤ q). absurd (omega (arith, some, nth_past files q 0 past')))
+              (λ (past' : length files ≤ q). absurd (omega (arith, some, get_or_past files q 0 past')))
               (cases_lt q (length files))
 
           unit_there : (u q : ℕ) → 0 < slice_index_or (unit_of d u).files q 0 → u < length d.units
@@ -344,7 +346,7 @@ module _ (stages : ℕ) (g : Graph) (d : Datapath) (p : Plan) (sound : IsGraph g
                 arith,
                 some,
                 ap (λ unit. slice_index_or unit.files q 0)
-                    (nth_past d.units u no_unit past'),
+                    (get_or_past d.units u no_unit past'),
               )))
               (cases_lt u (length d.units))
 

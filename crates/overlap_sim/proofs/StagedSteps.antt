@@ -7,9 +7,9 @@ use Rattle.std.specs.Int.{int_rem_euclid}
 use Rattle.std.specs.List.{AllPairs}
 use Rattle.std.proofs.lemmas.Bool.{cases_lt}
 use Rattle.std.proofs.lemmas.List.{get_or_default, get_or-map, length-map, get_or_append_left, get_or-append_right}
-use Rattle.std.proofs.lemmas.List.{length-append}
+use Rattle.std.proofs.lemmas.List.{length-append, get_or_past}
 use Rattle.std.proofs.lemmas.List.Elements.{Contains-append_left, Contains-append_right}
-use Rattle.lists.proofs.Places.{only_there as is_one}
+use Rattle.lists.proofs.Places.{only_there as is_one, in_first}
 use Rattle.datapath.specs.declared.types.Datapath.{Datapath}
 use Rattle.datapath.specs.declared.types.Unit as of_unit
 use Rattle.fix_word.specs.declared.operation.Op.TheVariants as op
@@ -23,7 +23,6 @@ use Rattle.plan_core.specs.declared.registers.Arc.{Arc}
 use Rattle.plan_core.specs.declared.schedule.Slot.{Slot}
 use Rattle.plan_core.specs.declared.schedule.Transfer.{Transfer}
 use Rattle.plan_core.specs.declared.plan.Plan.{Plan}
-use Rattle.plan_core.proofs.Sorted.{in_head}
 use Rattle.micro_image.specs.declared.image.Enable.{Enable}
 use Rattle.micro_image.specs.declared.image.Issue.{Issue}
 use Rattle.micro_image.specs.declared.image.Take.{Take}
@@ -33,7 +32,6 @@ use Rattle.plan_soundness.specs.Parts.{ReadsThrough, IsTransferOf, ends_at, IsCo
 use Rattle.plan_soundness.specs.ImageOf.{take_of}
 use Rattle.plan_soundness.specs.Overlap.{shift_of}
 use Rattle.plan_soundness.specs.Feasible.{IsFeasibleOver}
-use Rattle.plan_soundness.proofs.Elements.{nth_past}
 use Rattle.plan_soundness.proofs.SomeWord.{copy_once, in_mapped}
 use Rattle.bucket_sort.specs.Linked.{IsNext}
 use Rattle.bucket_sort.specs.declared.Buckets.{Buckets}
@@ -121,7 +119,7 @@ module _ (d : Datapath) (sp : StagePlan) (ready : IsStageReady d sp) where
           next_reached (issued_in d p order) IssueIn IsIssue IssueBefore (length order) c k next issues (issue ∷ [])
           below things
           (next_after (issued_in d p order) d.period (length order) by links k next below after) (record {
-            has = (issue, Contains-append_right issues (issue ∷ []) issue (in_head issue []), is-k);
+            has = (issue, Contains-append_right issues (issue ∷ []) issue (in_first issue []), is-k);
             of = λ a among. subst (IsIssue k) (is_one issue a among) is-k;
             rise = one_pair IssueBefore issue;
           }) to
@@ -319,7 +317,7 @@ module _ (d : Datapath) (sp : StagePlan) (ready : IsStageReady d sp) where
         (next_after (written_in d p) d.period (length p.arcs) by links k next in-k after) (record {
           has = λ transfer of.
               subst (Contains (takes ++ take ∷ [])) (same_take k take transfer is of)
-              (Contains-append_right takes (take ∷ []) take (in_head take []));
+              (Contains-append_right takes (take ∷ []) take (in_first take []));
           of = λ a among. subst (λ take. IsTakeFor d p k m take) (is_one take a among) is;
           rise = one_pair WriteBefore take;
         }) to
@@ -447,7 +445,7 @@ module _ (d : Datapath) (sp : StagePlan) (ready : IsStageReady d sp) where
             (each q (omega (arith, edges, through.reads.port, count))).read k i through copy;
         unread = λ q unread.
             ⊎_elim (λ (in-q : q < length regs). (each q in-q).unread unread)
-            (λ (past' : length regs ≤ q). nth_past regs q 0 past')
+            (λ (past' : length regs ≤ q). get_or_past regs q 0 past')
             (cases_lt q (length regs));
       })
     where

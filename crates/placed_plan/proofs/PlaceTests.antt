@@ -7,17 +7,18 @@ use Rattle.plan_core.specs.Hardware.{gap_on, port_of}
 use Rattle.plan_core.specs.Operands.{node_of, delay_at, Reads}
 use Rattle.plan_core.specs.Assigned.{unit_in, IsRightUnit}
 use Rattle.plan_core.specs.Heights.{ReadsNow, latency_of, IsPlacedBefore}
-use Rattle.plan_core.specs.Reservations.{IsGapApart, IsUnitFreeOver, IsFileFreeOver, result_on}
+use Rattle.plan_core.specs.Reservations.{IsUnitFreeOver, IsFileFreeOver, result_on}
 use Rattle.plan_core.specs.ListSchedule.{slot_of, cycle_of, AreOperandsThere, IsDestination, IsPortBefore}
 use Rattle.plan_core.specs.ListSchedule.{IsTakenBefore}
 use Rattle.plan_core.specs.declared.schedule.Assigned.{Assigned}
 use Rattle.plan_core.specs.declared.schedule.Schedule.{Schedule}
 use Rattle.plan_core.specs.declared.schedule.Slot.{Slot}
 use Rattle.plan_core.specs.declared.schedule.Transfer.{Transfer}
-use Rattle.plan_core.proofs.Tests.{Test, passed, lt, le, eq, like, nay, both, either, implies, below, each_of}
+use Rattle.plan_core.proofs.Tests.{Test, passed, lt, le, eq, like, nay, both, implies, below, each_of}
 use Rattle.plan_core.proofs.OperandTests.{same_port, each_operand, each_consumer}
 use Rattle.plan_core.proofs.AssignedTests.{is_right_unit}
 use Rattle.plan_core.proofs.ScheduleTests.{placed_before, port_before, are_heights, is_placed_over, taken_to, dest_to}
+use Rattle.plan_core.proofs.ScheduleTests.{gap_apart}
 use Rattle.placed_plan.specs.Places.{place_of, CanBeOn, AreOnGivenUnits, AtPlace, IsPlacedAt}
 use Rattle.placed_plan.specs.Faults.{IsFirstUnplaced}
 use Rattle.placed_plan.specs.declared.place.Place.{Place}
@@ -26,9 +27,6 @@ abbrev pub can_be_on : (d : Datapath) (node : Node) (u : ℕ) → Test (CanBeOn 
 can_be_on d node u =
     like {P = (node.width ≤ d.word) × IsRightUnit d node u} (λ h. record { width = h.0; right = h.1 })
     (λ h. (h.width, h.right)) (both (le node.width d.word) (is_right_unit d node u))
-
-abbrev pub gap_apart : (gap t u : ℕ) → Test (IsGapApart gap t u)
-gap_apart gap t u = either (le (t + gap) u) (le (u + gap) t)
 
 module _ (places : List Place) (d : Datapath) (a : Assigned) where
   abbrev Given : ℕ → Type 0

@@ -4,7 +4,9 @@ use Rattle.std.proofs.Common.{arith, List, [], ◌∷◌, length, take, All, Con
 use Rattle.std.specs.Prelude.{slice_index_or}
 use Rattle.std.proofs.lemmas.Bool.{cases_lt}
 use Rattle.std.proofs.lemmas.List.{get_or_default}
+use Rattle.lists.proofs.Places.{only_there, one_in}
 use Rattle.operations.specs.declared.units.PortRef.{PortRef}
+use Rattle.signal_graph.proofs.Members.{in_none}
 use Rattle.datapath.specs.declared.types.Datapath.{Datapath}
 use Rattle.plan_core.specs.Hardware.{port_of}
 use Rattle.plan_core.specs.Assigned.{unit_in}
@@ -34,18 +36,6 @@ use Rattle.placed_plan.specs.declared.fault.PlaceFault.{PlaceFault}
 use Rattle.placed_plan.specs.declared.fault.PlaceFault.TheVariants.{Line as Unstored, Missing, Surplus, TooWide}
 use Rattle.placed_plan.specs.declared.fault.PlaceFault.TheVariants.{WrongUnit, Late, Past, Busy, FileWritten}
 use Rattle.placed_plan.specs.declared.fault.PlaceFault.TheVariants.{NoBus, FileFull, Memory}
-
-none_in : {A : Type 0} (x : A) → Contains [] x → ⊥
-none_in x h = absurd (omega (arith, h.1))
-
-one_in : {A : Type 0} (x : A) → Contains (x ∷ []) x
-one_in x = (0, omega arith, refl)
-
-in_one : {A : Type 0} (x y : A) → Contains (x ∷ []) y → x ≡ y
-in_one x y h = sym (ap (λ (i : ℕ). slice_index_or (x ∷ []) i y) (zero_at h.0 h.1)) ∙ h.2
-  where
-    zero_at : (i : ℕ) → i < 1 → i ≡ 0
-    zero_at i less = omega (arith, less)
 
 -- where a result is there in the cycle, it does not go to the port
 abbrev Unwritten : Datapath → (w : ℕ) → PortRef → (unit : ℕ) → Slot → Type 0
@@ -111,8 +101,8 @@ module _ (places : List Place) (d : Datapath) (a : Assigned) (is : IsProblem d a
               free slot
               (over.taken_back IsGapApart IsOneCycle d.period (AtPlace places) (MayAt places d a) d a is short
               (at_alike places d a) at_is order k p.slots p.table b within s (λ x e. refl) u slot taken);
-          files = λ port none. absurd (none_in port none);
-          buses = λ port none. absurd (none_in port none);
+          files = λ port none. absurd (in_none port none);
+          buses = λ port none. absurd (in_none port none);
         })
 
     free_here : Fits d a p v t [] → IsUnitFree d (IsTakenBefore a s b.height v) u t
@@ -161,11 +151,11 @@ module _ (places : List Place) (d : Datapath) (a : Assigned) (is : IsProblem d a
           period = ends;
           unit = λ slot x. free slot (back u slot x);
           files = λ q one.
-              subst (λ (r : PortRef). IsFileFree d (IsTaken p.table.placed) (result_on d u t) r) (in_one port q one)
+              subst (λ (r : PortRef). IsFileFree d (IsTaken p.table.placed) (result_on d u t) r) (only_there port q one)
               (λ w slot x. has.file w slot (back w slot x));
           buses = λ q one.
               subst (λ (r : PortRef). (c : ℕ) × IsFreeRoute d (IsTaken p.table.placed) u (result_on d u t) r c)
-              (in_one port q one) (
+              (only_there port q one) (
                 has.bus.0,
                 record {
                   route = has.bus.1.route;

@@ -5,6 +5,7 @@ use Rattle.fix_word.specs.declared.operation.Op.TheVariants as op
 use Rattle.datapath.specs.declared.types.Datapath.{Datapath}
 use Rattle.signal_graph.specs.declared.graph.Graph.{Graph}
 use Rattle.signal_graph.specs.declared.graph.Node.{Node}
+use Rattle.signal_graph.proofs.Examples.{edge, input_node, byte}
 use Rattle.plan_core.specs.Hardware.{port_of}
 use Rattle.plan_core.specs.Operands.{node_of}
 use Rattle.plan_core.specs.Lowered.{IsLowered}
@@ -17,10 +18,10 @@ use Rattle.plan_core.proofs.Tests.{passed, refuted, below, eq}
 use Rattle.plan_core.proofs.OperandTests.{reads}
 use Rattle.plan_core.proofs.AssignedTests.{is_right_unit}
 use Rattle.plan_core.proofs.LoweredTests.{are_all_long, held_edge}
-use Rattle.plan_core.proofs.ScheduleTests.{scheduled_over}
+use Rattle.plan_core.proofs.ScheduleTests.{scheduled_over, gap_apart}
 use Rattle.plan_core.proofs.RegisterTests.{are_arcs, is_unroll, is_first_fit}
 use Rattle.plan_core.proofs.PlanTests.{are_in_files}
-use Rattle.plan_core.proofs.Rows.{plain_path, edge, at, over, life, heights, byte, input_node, constant_node, sum_node}
+use Rattle.plan_core.proofs.Rows.{plain_path, at, over, life, heights, constant_node, sum_node}
 use Rattle.plan_core.proofs.Rows.{output_node}
 use Rattle.placed_plan.specs.Places.{place_of, IsPlanAt, AreOnGivenUnits}
 use Rattle.placed_plan.specs.Causes.{IsLate, IsPast, IsBusy, IsFileWritten, IsBusless}
@@ -29,7 +30,7 @@ use Rattle.placed_plan.specs.declared.fault.PlaceFault.TheVariants.{Missing, Sur
 use Rattle.placed_plan.specs.declared.fault.PlaceFault.TheVariants.{Busy, FileWritten, NoBus}
 use Rattle.placed_plan.specs.declared.place.Place.{Place}
 use Rattle.placed_plan.proofs.GivenUnits.{on_right}
-use Rattle.placed_plan.proofs.PlaceTests.{can_be_on, gap_apart, on_units, at_cycle, unplaced, operands_there}
+use Rattle.placed_plan.proofs.PlaceTests.{can_be_on, on_units, at_cycle, unplaced, operands_there}
 use Rattle.placed_plan.proofs.PlaceTests.{operands_before, unit_free, file_free, first_port}
 
 -- The graph: both operands are passed on before they are added.

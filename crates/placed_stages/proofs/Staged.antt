@@ -2,6 +2,7 @@
 use Rattle.std.proofs.Common.{ℕ, ◌+◌, ◌-◌, ◌*◌, ◌<◌, ◌≤◌, ◌≡◌, ◌↔◌, ⊎_elim, ap, arith, Bool, IsTrue, List, length}
 use Rattle.std.proofs.Math.Nat.{mul-le-mul}
 use Rattle.std.proofs.lemmas.Bool.{cases_lt}
+use Rattle.std.proofs.lemmas.List.{get_or_past}
 use Rattle.datapath.specs.Allowed.{IsDatapath}
 use Rattle.datapath.specs.declared.types.Datapath.{Datapath}
 use Rattle.plan_core.specs.Heights.{latency_of}
@@ -9,7 +10,6 @@ use Rattle.plan_core.specs.ListSchedule.{cycle_of, no_slot}
 use Rattle.plan_core.specs.declared.schedule.Assigned.{Assigned}
 use Rattle.plan_core.specs.declared.schedule.Schedule.{Schedule}
 use Rattle.plan_core.specs.declared.schedule.Slot.{Slot}
-use Rattle.plan_soundness.proofs.Elements.{nth_past}
 use Rattle.list_schedule.specs.Placing.{slot_at, last_cycle}
 use Rattle.overlap_plan.specs.Staged.{IsLate, EndsInStages, EndsBeforeLoads}
 use Rattle.placed_plan.specs.declared.place.Place.{Place}
@@ -28,7 +28,7 @@ module _ (places : List Place) (stages : ℕ) (d : Datapath) (a : Assigned) (all
       let most : stages * d.period ≤ 4 * 4096 = mul-le-mul few allowed.period.1 in
       omega (arith, end_in x (omega (arith, there, scheduled.count)), most))
       (λ (past : length s.slots ≤ x).
-      let none = ap (λ (slot : Slot). slot.cycle) (nth_past s.slots x no_slot past) in
+      let none = ap (λ (slot : Slot). slot.cycle) (get_or_past s.slots x no_slot past) in
       omega (arith, none))
       (cases_lt x (length s.slots))
 

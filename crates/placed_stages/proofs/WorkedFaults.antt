@@ -3,6 +3,7 @@
 use Rattle.std.proofs.Common.{◌≡◌, refl, arith, ℕ, zero, suc, ◌*◌, ◌%◌, ◌<◌, ◌≤◌, List, [], ◌∷◌, ◌++◌, length, true}
 use Rattle.std.proofs.Common.{inl}
 use Rattle.std.proofs.lemmas.Option.{none-some}
+use Rattle.signal_graph.proofs.Examples.{edge}
 use Rattle.datapath.specs.declared.types.Datapath.{Datapath}
 use Rattle.plan_core.specs.Hardware.{gap_on, port_of}
 use Rattle.plan_core.specs.Assigned.{unit_in}
@@ -17,7 +18,7 @@ use Rattle.plan_core.proofs.OperandTests.{reads}
 use Rattle.plan_core.proofs.LoweredTests.{are_all_long, held_edge}
 use Rattle.plan_core.proofs.ScheduleTests.{placed_before, are_heights, is_placed_over, scheduled_over}
 use Rattle.plan_core.proofs.StagedRules.{gap_around}
-use Rattle.plan_core.proofs.Rows.{plain_path, edge, over}
+use Rattle.plan_core.proofs.Rows.{plain_path, over}
 use Rattle.placed_plan.specs.Places.{place_of, AreOnGivenUnits}
 use Rattle.placed_plan.specs.declared.place.Place.{Place}
 use Rattle.placed_plan.proofs.PlaceTests.{on_units, operands_there, unit_free}

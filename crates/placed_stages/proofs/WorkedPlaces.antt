@@ -1,11 +1,12 @@
 -- y = x + 1 on four units and one bus, in a period of three cycles and two stages, at the places of its plan.
 use Rattle.std.proofs.Common.{◌≡◌, refl, arith, ℕ, zero, suc, ◌<◌, subst, List, [], ◌∷◌, length, Some}
 use Rattle.std.proofs.lemmas.Option.{none-some}
+use Rattle.signal_graph.proofs.Examples.{edge}
 use Rattle.plan_core.specs.Lowered.{load, IsNumber, IsLoweredOver}
 use Rattle.plan_core.specs.Stages.{IsLoadOf}
 use Rattle.plan_core.proofs.LoweredTests.{are_all_long, held_edge}
 use Rattle.plan_core.proofs.OneLowered.{one_delays}
-use Rattle.plan_core.proofs.Rows.{edge, increment, increment_plan}
+use Rattle.plan_core.proofs.Rows.{increment, increment_plan}
 use Rattle.plan_core.proofs.Tests.{passed}
 use Rattle.plan_core.proofs.WorkedStages.{increment_delays, three_cycles}
 use Rattle.plan_soundness.specs.Parts.{unit_at, cycle_at}

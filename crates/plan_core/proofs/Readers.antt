@@ -3,25 +3,10 @@ use Rattle.std.proofs.Common.{◌≡◌, ap, arith, ℕ, ◌<◌, ◌≤◌, ⊎
 use Rattle.std.proofs.lemmas.Bool.{cases_lt}
 use Rattle.std.proofs.lemmas.List.{get_or_past}
 use Rattle.std.proofs.lemmas.List.Elements.{All-get_or}
-use Rattle.fix_word.specs.declared.operation.Op.{Op}
-use Rattle.fix_word.specs.declared.operation.Op.TheVariants as op
-use Rattle.operations.specs.Operations.{operands}
 use Rattle.signal_graph.specs.GraphSolves.{no_node}
 use Rattle.signal_graph.specs.declared.graph.Edge.{Edge}
 use Rattle.signal_graph.specs.declared.graph.Node.{Node}
 use Rattle.plan_core.specs.Operands.{node_of, edge_of, no_edge, Reads}
-
-pub operands_few : (o : Op) → operands o ≤ 3
-operands_few op.Sel = omega arith
-operands_few op.Input = omega arith
-operands_few op.Const = omega arith
-operands_few op.Addr = omega arith
-operands_few op.Output = omega arith
-operands_few op.Neg = omega arith
-operands_few op.Pass = omega arith
-operands_few op.Not = omega arith
-operands_few op.Load = omega arith
-operands_few _ = omega arith
 
 -- a node that reads is there
 pub reader_there : (nodes : List Node) (c q v : ℕ) → Reads nodes c q v → c < length nodes

@@ -3,9 +3,6 @@ use Rattle.std.proofs.Common.{ℕ, List, [], ◌∷◌, slice_index_or, codes}
 use Rattle.std.specs.Prelude.{ℤ, pos}
 use Rattle.fix_word.specs.declared.operation.Op.{Op}
 use Rattle.fix_word.specs.declared.operation.Op.TheVariants as op
-use Rattle.fix_word.specs.declared.types.Mode.TheVariants.{Trunc}
-use Rattle.fix_word.specs.declared.types.SigType.{SigType}
-use Rattle.fix_word.specs.declared.types.SigType.TheVariants as sig
 use Rattle.operations.specs.declared.units.Kind.{Kind}
 use Rattle.operations.specs.declared.units.Kind.TheVariants as kind
 use Rattle.operations.specs.declared.units.PortRef.{PortRef}
@@ -16,6 +13,7 @@ use Rattle.signal_graph.specs.Rules.{plain}
 use Rattle.signal_graph.specs.declared.graph.Edge.{Edge}
 use Rattle.signal_graph.specs.declared.graph.Node.{Node}
 use Rattle.signal_graph.specs.declared.graph.Graph.{Graph}
+use Rattle.signal_graph.proofs.Examples.{edge, input_node, byte}
 use Rattle.plan_core.specs.Hardware.{port_of}
 use Rattle.plan_core.specs.Lowered.{address_node, store_node, load_node}
 use Rattle.plan_core.specs.declared.delay_lines.Line.{Line}
@@ -23,12 +21,6 @@ use Rattle.plan_core.specs.declared.schedule.Transfer.{Transfer}
 use Rattle.plan_core.specs.declared.schedule.Slot.{Slot}
 use Rattle.plan_core.specs.declared.registers.Arc.{Arc}
 use Rattle.plan_core.specs.declared.plan.Plan.{Plan}
-
-abbrev pub byte : SigType
-byte = sig.Fix (record { shape = record { w = 8; f = 0 }; mode = Trunc })
-
-abbrev pub edge : (node delay : ℕ) → Edge
-edge node delay = record { node = node; delay = delay }
 
 abbrev unit_named : List ℕ → Kind → List ℕ → FunctionalUnit
 unit_named name kind files =
@@ -92,9 +84,6 @@ filter_path period cells = record {
       ∷ bus (codes "b6") (6 ∷ []) (port_of 5 0 ∷ [])
       ∷ [];
 }
-
-abbrev pub input_node : Node
-input_node = record { op = op.Input; fmt = plain 0; arg = pos 0; edges = []; inits = []; width = 8; ram = 0 }
 
 abbrev pub constant_node : (word width : ℕ) → Node
 constant_node word width =

@@ -238,7 +238,7 @@ module _ {IsAway : (gap t u : ℕ) → Type 0} {IsSame : (w x : ℕ) → Type 0}
   are_placed_over = below (length a.lowered.nodes) (λ v. is_placed_over v)
 
 -- the same where one sample is in flight at a time
-abbrev gap_apart : (gap t u : ℕ) → Test (IsGapApart gap t u)
+abbrev pub gap_apart : (gap t u : ℕ) → Test (IsGapApart gap t u)
 gap_apart gap t u = either (le (t + gap) u) (le (u + gap) t)
 
 abbrev any_cycle : (s : Schedule) (height : ℕ → ℕ) (v t : ℕ) → Test (AnyCycle s height v t)

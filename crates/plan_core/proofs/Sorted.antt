@@ -1,16 +1,7 @@
 -- A list in strict order is determined by its elements.
-use Rattle.std.proofs.Common.{◌≡◌, refl, sym, subst, ap, ◌∙◌, arith, zero, suc, ◌⊎◌, inl, inr, List, [], ◌∷◌, Contains}
+use Rattle.std.proofs.Common.{◌≡◌, refl, sym, subst, ap, ◌∙◌, arith, suc, ◌⊎◌, inl, inr, List, [], ◌∷◌, Contains}
 use Rattle.std.specs.List.{AllPairs}
-
-pub in_head : {A : Type 0} (x : A) (xs : List A) → Contains (x ∷ xs) x
-in_head x xs = (0, omega arith, refl)
-
-pub in_tail : {A : Type 0} (x y : A) (xs : List A) → Contains xs y → Contains (x ∷ xs) y
-in_tail x y xs h = let less = h.1 in (suc h.0, omega arith, h.2)
-
-pub head_or_tail : {A : Type 0} (x y : A) (xs : List A) → Contains (x ∷ xs) y → (x ≡ y) ⊎ Contains xs y
-head_or_tail x y xs (zero, less, h) = inl h
-head_or_tail x y xs (suc k, less, h) = inr (k, omega arith, h)
+use Rattle.lists.proofs.Places.{in_first, first_or_rest, in_rest}
 
 module _ {A : Type 0} (R : A → A → Type 0) (never_both : (x y : A) → R x y → R y x → ⊥) where
   tail_order : (x : A) (xs : List A) → AllPairs R (x ∷ xs) → AllPairs R xs
@@ -36,7 +27,7 @@ module _ {A : Type 0} (R : A → A → Type 0) (never_both : (x y : A) → R x y
       → (v : A)
       → Contains xs v
       → Contains ys v
-  moved x y xs ys r same to v h = by (head_or_tail y v ys (to v (in_tail x v xs h)))
+  moved x y xs ys r same to v h = by (first_or_rest y v ys (to v (in_rest x v xs h)))
     where
       by : (y ≡ v) ⊎ Contains ys v → Contains ys v
       by (inl e) =
@@ -51,11 +42,11 @@ module _ {A : Type 0} (R : A → A → Type 0) (never_both : (x y : A) → R x y
       → ((v : A) → Contains ys v → Contains xs v)
       → xs ≡ ys
   same_order [] [] r s to from = refl
-  same_order [] (y ∷ ys) r s to from = absurd (let h = from y (in_head y ys) in let less = h.1 in omega arith)
-  same_order (x ∷ xs) [] r s to from = absurd (let h = to x (in_head x xs) in let less = h.1 in omega arith)
+  same_order [] (y ∷ ys) r s to from = absurd (let h = from y (in_first y ys) in let less = h.1 in omega arith)
+  same_order (x ∷ xs) [] r s to from = absurd (let h = to x (in_first x xs) in let less = h.1 in omega arith)
   same_order (x ∷ xs) (y ∷ ys) r s to from =
-      let same = same_head x y xs ys r s (head_or_tail x y xs (from y (in_head y ys)))
-      (head_or_tail y x ys (to x (in_head x xs))) in
+      let same = same_head x y xs ys r s (first_or_rest x y xs (from y (in_first y ys)))
+      (first_or_rest y x ys (to x (in_first x xs))) in
       let rest = same_order xs ys (tail_order x xs r) (tail_order y ys s) (moved x y xs ys r same to)
       (moved y x ys xs s (sym same) from) in
       ap (λ (z : A). z ∷ xs) same ∙ ap (λ (zs : List A). y ∷ zs) rest

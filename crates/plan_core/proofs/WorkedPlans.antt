@@ -1,6 +1,7 @@
 -- The worked plans are plans.
 use Rattle.std.proofs.Common.{refl, subst, arith, ℕ, zero, suc, List, [], ◌∷◌}
 use Rattle.lists.proofs.Places.{some_is}
+use Rattle.signal_graph.proofs.Examples.{edge}
 use Rattle.plan_core.specs.Lowered.{AreLines, IsNextLine, IsLineOf, IsLowered}
 use Rattle.plan_core.specs.Hardware.{IsAcuOf}
 use Rattle.plan_core.specs.IsPlan.{IsPlan}
@@ -8,7 +9,7 @@ use Rattle.plan_core.proofs.Tests.{passed, nay, below, each_of, le, contains, eq
 use Rattle.plan_core.proofs.OperandTests.{is_acu_of}
 use Rattle.plan_core.proofs.LoweredTests.{are_all_long, has_room, held_edge, loaded_edge}
 use Rattle.plan_core.proofs.PlanTests.{planned}
-use Rattle.plan_core.proofs.Rows.{plain_path, filter_path, edge, heights, increment, increment_plan, accumulator}
+use Rattle.plan_core.proofs.Rows.{plain_path, filter_path, heights, increment, increment_plan, accumulator}
 use Rattle.plan_core.proofs.Rows.{accumulator_plan, held_difference, held_difference_plan, held_three, held_three_plan}
 use Rattle.plan_core.proofs.Rows.{line_cells, line_cells_plan, its_line}
 
@@ -157,7 +158,7 @@ held_three_planned =
     planned held_three (plain_path 3) held_three_plan (heights (3 ∷ 2 ∷ 1 ∷ [])) held_three_lowered
     refl refl refl refl refl refl refl refl refl refl
 
-abbrev delays : List (List ℕ)
+abbrev pub delays : List (List ℕ)
 delays = (3 ∷ []) ∷ [] ∷ [] ∷ []
 
 its_acu : IsAcuOf (filter_path 32 4) 5 6

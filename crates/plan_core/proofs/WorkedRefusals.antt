@@ -5,6 +5,7 @@ use Rattle.fix_word.specs.declared.operation.Op.TheVariants as op
 use Rattle.operations.specs.declared.units.Kind.TheVariants as kind
 use Rattle.datapath.specs.declared.types.Datapath.{Datapath}
 use Rattle.signal_graph.specs.declared.graph.Node.{Node}
+use Rattle.signal_graph.proofs.Examples.{edge, input_node}
 use Rattle.plan_core.specs.Hardware.{HasRoute, port_of}
 use Rattle.plan_core.specs.Operands.{node_of}
 use Rattle.plan_core.specs.Assigned.{unit_in, AreUnits}
@@ -19,15 +20,14 @@ use Rattle.plan_core.proofs.AssignedTests.{is_candidate, is_unit_for, is_right_u
 use Rattle.plan_core.proofs.LoweredTests.{are_all_long, has_room}
 use Rattle.plan_core.proofs.ScheduleTests.{are_heights, can_issue, is_placed, placed_before}
 use Rattle.plan_core.proofs.RegisterTests.{is_free, has_register}
-use Rattle.plan_core.proofs.Rows.{edge, heights, plain_path, filter_path, input_node, sum_node, output_node, line_cells}
+use Rattle.plan_core.proofs.Rows.{heights, plain_path, filter_path, sum_node, output_node, line_cells}
 use Rattle.plan_core.proofs.Rows.{increment_plan, held_difference_plan}
+use Rattle.plan_core.proofs.WorkedPlans.{delays}
+use Rattle.plan_core.proofs.WorkedStages.{three_cycles}
 
 -- no unit passes, where the statement names a unit that is there
 none_there : {P : ℕ → Type 0} (n : ℕ) → ((u : ℕ) → P u → u < n) → ((u : ℕ) → u < n → P u → ⊥) → (u : ℕ) → P u → ⊥
 none_there n there none u h = none u (there u h) h
-
-abbrev delays : List (List ℕ)
-delays = (3 ∷ []) ∷ [] ∷ [] ∷ []
 
 -- y = x@3 needs three cells and the spare ones, on any datapath, where no delay is held
 needs_line : (spare : ℕ) (d : Datapath) → NeedsLine 0 spare line_cells d [] 0 (3 + spare)
@@ -171,24 +171,20 @@ too_wide = record {
   wide = omega arith;
 }
 
--- three cycles are too few for four operations, one after another
-abbrev short_path : Datapath
-short_path = record (plain_path 0) { period = 3 }
-
 abbrev its_heights : ℕ → ℕ
 its_heights = heights (3 ∷ 3 ∷ 2 ∷ 1 ∷ [])
 
-no_cycle : IsWithoutCycle short_path increment_plan.assigned 3
+no_cycle : IsWithoutCycle three_cycles increment_plan.assigned 3
 no_cycle = record {
   height = its_heights;
-  heights = passed (are_heights short_path increment_plan.assigned its_heights) refl;
+  heights = passed (are_heights three_cycles increment_plan.assigned its_heights) refl;
   there = omega arith;
   schedule = increment_plan.schedule;
   before = λ u r. passed (below 4 (λ w. implies (placed_before its_heights w 3)
-      (λ z. is_placed short_path increment_plan.assigned increment_plan.schedule its_heights w))) refl u r.node
+      (λ z. is_placed three_cycles increment_plan.assigned increment_plan.schedule its_heights w))) refl u r.node
       r.before;
   none = λ t can. let most = can.fits.period in
-      passed (below 3 (λ w. nay (can_issue short_path increment_plan.assigned increment_plan.schedule its_heights 3
+      passed (below 3 (λ w. nay (can_issue three_cycles increment_plan.assigned increment_plan.schedule its_heights 3
       w))) refl t (omega arith) can;
 }
 

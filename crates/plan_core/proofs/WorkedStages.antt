@@ -6,6 +6,7 @@ use Rattle.lists.proofs.Places.{some_is}
 use Rattle.fix_word.specs.declared.operation.Op.TheVariants as op
 use Rattle.datapath.specs.declared.types.Datapath.{Datapath}
 use Rattle.signal_graph.specs.declared.graph.Graph.{Graph}
+use Rattle.signal_graph.proofs.Examples.{edge, input_node, byte}
 use Rattle.plan_core.specs.Assigned.{IsAssigned}
 use Rattle.plan_core.specs.Arcs.{IsUnroll}
 use Rattle.plan_core.specs.FirstFit.{IsFirstFit}
@@ -21,7 +22,7 @@ use Rattle.plan_core.proofs.RegisterTests.{is_unroll, is_first_fit}
 use Rattle.plan_core.specs.Stages.{IsStageSchedule, IsWithoutStage, AreStageArcs}
 use Rattle.plan_core.proofs.StagedRules.{staged, without_stage, are_stage_arcs}
 use Rattle.plan_core.proofs.Rows.{plain_path, increment_plan}
-use Rattle.plan_core.proofs.Rows.{filter_path, byte, edge, heights, input_node, sum_node, output_node, at, over, life}
+use Rattle.plan_core.proofs.Rows.{filter_path, heights, sum_node, output_node, at, over, life}
 
 -- v = x@1 + v@1 with v@@1 = 5, u = v + v, y = u + x
 

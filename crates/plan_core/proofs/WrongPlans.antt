@@ -1,6 +1,7 @@
 -- Plans that a rule refuses: a worked plan with one thing changed.
 use Rattle.std.proofs.Common.{refl, ℕ, List, [], ◌∷◌, ◌++◌, slice_index_or}
 use Rattle.fix_word.specs.declared.operation.Op.TheVariants as op
+use Rattle.signal_graph.proofs.Examples.{edge, input_node}
 use Rattle.datapath.specs.declared.types.Datapath.{Datapath}
 use Rattle.plan_core.specs.Hardware.{port_of, no_unit}
 use Rattle.plan_core.specs.Lowered.{AreLongDelays}
@@ -15,7 +16,7 @@ use Rattle.plan_core.proofs.AssignedTests.{is_assigned}
 use Rattle.plan_core.proofs.LoweredTests.{are_long_delays}
 use Rattle.plan_core.proofs.ScheduleTests.{is_placed}
 use Rattle.plan_core.proofs.RegisterTests.{is_arc, is_first_fit}
-use Rattle.plan_core.proofs.Rows.{plain_path, edge, heights, at, over, life, input_node, sum_node, output_node}
+use Rattle.plan_core.proofs.Rows.{plain_path, heights, at, over, life, sum_node, output_node}
 use Rattle.plan_core.proofs.Rows.{increment_plan, accumulator, held_difference_plan}
 
 -- where nothing is held, a delay of one sample is a long one

@@ -1,10 +1,9 @@
 -- An example: the image of the accumulator y = y@1 + x with y@@1 = 5, whose delay a register holds.
 use Rattle.std.proofs.Common.{◌≡◌, ℕ, zero, suc, ◌+◌, ◌*◌, ◌<◌, ◌≤◌, refl, sym, ap, ◌∙◌, subst, arith, List, [], ◌∷◌}
-use Rattle.std.proofs.Common.{length, replicate, map, Contains, ℤ, pos, inl}
+use Rattle.std.proofs.Common.{length, replicate, map, Contains, pos, inl}
 use Rattle.std.specs.List.{AllPairs}
-use Rattle.lists.proofs.Places.{only_there}
+use Rattle.lists.proofs.Places.{only_there, one_in, none_there}
 use Rattle.fix_word.specs.Values.{wrap_of}
-use Rattle.operations.specs.declared.units.Kind.{Kind}
 use Rattle.operations.specs.declared.units.Kind.TheVariants as kind
 use Rattle.operations.specs.declared.units.PortRef.{PortRef}
 use Rattle.datapath.specs.declared.types.Datapath.{Datapath}
@@ -13,16 +12,17 @@ use Rattle.plan_core.specs.Hardware.{port_of, unit_of}
 use Rattle.plan_core.specs.declared.schedule.Transfer.{Transfer}
 use Rattle.plan_core.specs.declared.plan.Plan.{Plan}
 use Rattle.plan_core.proofs.Rows.{plain_path, over, accumulator_plan}
+use Rattle.plan_core.proofs.Tests.{no_pairs}
 use Rattle.micro_image.specs.declared.image.Enable.{Enable}
 use Rattle.micro_image.specs.declared.image.Issue.{Issue}
 use Rattle.micro_image.specs.declared.image.Take.{Take}
-use Rattle.micro_image.specs.declared.image.UnitDesc.{UnitDesc}
 use Rattle.micro_image.specs.declared.image.Word.{Word}
 use Rattle.micro_image.specs.declared.image.Image.{Image}
 use Rattle.micro_image.specs.Fields.{microprogram_of, nth, no_word, unit_of as described_unit}
 use Rattle.micro_image.specs.Log.{Register, Cell, initial, entries_by, value}
 use Rattle.micro_image.specs.Run.{row_of}
 use Rattle.micro_image.specs.Valid.{EnableBefore, TakeBefore}
+use Rattle.micro_image.proofs.Increment.{zeros, plain_unit}
 use Rattle.plan_soundness.specs.Parts.{nodes_of, node_at, unit_at, cycle_at, transfers_at, arc_at, register_at}
 use Rattle.plan_soundness.specs.Parts.{IsTransferOf}
 use Rattle.plan_soundness.specs.Parts.{ends_at}
@@ -38,12 +38,6 @@ plan = accumulator_plan
 
 abbrev to : (unit port : ℕ) → Transfer
 to unit port = over 0 unit port
-
-abbrev described : Kind → List (List ℤ) → UnitDesc
-described kind files = record { kind = kind; latency = 1; gap = 1; files = files; cells = []; ram = 0 }
-
-abbrev zeros : ℕ → List ℤ
-zeros n = replicate n (pos 0)
 
 abbrev issue_of : (v unit : ℕ) → List ℕ → Issue
 issue_of v unit regs = record {
@@ -83,10 +77,10 @@ image = record {
   inputs = 8 ∷ [];
   outs = 1;
   units =
-      described kind.Input []
-      ∷ described kind.Rom []
-      ∷ described kind.Alu ((pos 5 ∷ zeros 7) ∷ zeros 8 ∷ [])
-      ∷ described kind.Output (zeros 2 ∷ [])
+      plain_unit kind.Input []
+      ∷ plain_unit kind.Rom []
+      ∷ plain_unit kind.Alu ((pos 5 ∷ zeros 7) ∷ zeros 8 ∷ [])
+      ∷ plain_unit kind.Output (zeros 2 ∷ [])
       ∷ [];
   buses = 1;
   words = fetch ∷ sum ∷ put ∷ replicate 13 no_word;
@@ -124,12 +118,6 @@ is_issue v unit n regs on count zeros = record {
   read = λ q k i through copy. zeros q ∙ sym (zero_register k i);
   unread = λ q past. zeros q;
 }
-
-pub one_in : {A : Type 0} (x : A) → Contains (x ∷ []) x
-one_in x = (0, omega arith, refl)
-
-no_pairs : {A : Type 0} (R : A → A → Type 0) → AllPairs R []
-no_pairs R j k default less below = absurd (omega (arith, below))
 
 pub one_pair : {A : Type 0} (R : A → A → Type 0) (x : A) → AllPairs R (x ∷ [])
 one_pair R x j k default less below = absurd (omega (arith, less, below))
@@ -249,9 +237,6 @@ sum_word = record {
     two_rise (suc j) (suc zero) default less below = absurd (omega (arith, less))
     two_rise (suc j) (suc (suc k)) default less below = absurd (omega (arith, below))
 
-none_there_of : {A B : Type 0} (x : A) → Contains [] x → B
-none_there_of x among = absurd (omega (arith, among.1))
-
 put_word : IsWordOf path plan 0 2 put
 put_word = record {
   issue = λ v in-v e. three (Issues put 2) v in-v
@@ -261,12 +246,12 @@ put_word = record {
       (2, omega arith, refl, is_issue 2 3 0 (0 ∷ []) refl refl (zero_regs 1));
   enable = λ v transfer in-v e among. three (Enables put 2) v in-v
       (λ transfer e. absurd (omega (arith, e))) (λ transfer e. absurd (omega (arith, e)))
-      (λ transfer e among. none_there_of transfer among) transfer e among;
-  enable_only = λ enable among. none_there_of enable among;
+      (λ transfer e among. none_there transfer among) transfer e among;
+  enable_only = λ enable among. none_there enable among;
   take = λ k transfer of w. three (Takes put 2) k of.there
       (λ transfer of w. absurd (omega (arith, w))) (λ transfer of w. absurd (omega (arith, w)))
       (λ transfer of w. absurd (omega (arith, w))) transfer of w;
-  take_only = λ take among. none_there_of take among;
+  take_only = λ take among. none_there take among;
   issues_rise = one_pair IssueBefore _;
   enables_rise = no_pairs EnableBefore;
   takes_rise = no_pairs TakeBefore;
@@ -278,15 +263,15 @@ quiet_word c from = record {
   issue = λ v in-v e. three (Issues no_word c) v in-v
       (λ e. absurd (omega (arith, e, from))) (λ e. absurd (omega (arith, e, from)))
       (λ e. absurd (omega (arith, e, from))) e;
-  issue_only = λ issue among. none_there_of issue among;
+  issue_only = λ issue among. none_there issue among;
   enable = λ v transfer in-v e among. three (Enables no_word c) v in-v
       (λ transfer e. absurd (omega (arith, e, from))) (λ transfer e. absurd (omega (arith, e, from)))
       (λ transfer e. absurd (omega (arith, e, from))) transfer e among;
-  enable_only = λ enable among. none_there_of enable among;
+  enable_only = λ enable among. none_there enable among;
   take = λ k transfer of w. three (Takes no_word c) k of.there
       (λ transfer of w. absurd (omega (arith, w, from))) (λ transfer of w. absurd (omega (arith, w, from)))
       (λ transfer of w. absurd (omega (arith, w, from))) transfer of w;
-  take_only = λ take among. none_there_of take among;
+  take_only = λ take among. none_there take among;
   issues_rise = no_pairs IssueBefore;
   enables_rise = no_pairs EnableBefore;
   takes_rise = no_pairs TakeBefore;

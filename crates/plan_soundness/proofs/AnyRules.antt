@@ -7,6 +7,7 @@ use Rattle.std.proofs.lemmas.Bool.{cases_order}
 use Rattle.std.proofs.lemmas.List.{get_or-map, length-map}
 use Rattle.std.proofs.lemmas.List.Elements.{All-contains}
 use Rattle.operations.specs.declared.units.PortRef.{PortRef}
+use Rattle.signal_graph.proofs.Sizes.{few_operands}
 use Rattle.datapath.specs.declared.types.Datapath.{Datapath}
 use Rattle.plan_core.specs.Hardware.{gap_on, port_of}
 use Rattle.plan_core.specs.Heights.{IsPlacedBefore}
@@ -21,7 +22,7 @@ use Rattle.plan_core.specs.declared.schedule.Transfer.{Transfer}
 use Rattle.plan_core.specs.declared.registers.Arc.{Arc}
 use Rattle.plan_core.specs.declared.plan.Plan.{Plan}
 use Rattle.plan_core.proofs.OneArcs.{ports_differ}
-use Rattle.plan_core.proofs.Readers.{operands_few, reader_there}
+use Rattle.plan_core.proofs.Readers.{reader_there}
 use Rattle.micro_image.specs.Operations.{gives}
 use Rattle.plan_soundness.specs.Parts.{nodes_of, node_at, edge_at, unit_at, cycle_at, transfers_at, arc_at}
 use Rattle.plan_soundness.specs.Parts.{ReadsThrough, IsTransferOf, ends_at}
@@ -323,7 +324,7 @@ module _ {IsAway : (gap t u : ℕ) → Type 0} {IsSame : (w x : ℕ) → Type 0}
   ports k in-k =
       let by = reader k in-k in
       let port : (arc_at p k).port.port < length (node_at p by.0).edges = by.2.reads.port in
-      omega (arith, port, lowered.operand_count by.0 by.1, operands_few (node_at p by.0).op)
+      omega (arith, port, lowered.operand_count by.0 by.1, few_operands (node_at p by.0).op)
 
   pub read : (v q : ℕ)
       → v < length (nodes_of p)

@@ -5,7 +5,7 @@ use Rattle.std.specs.List.{AllPairs}
 use Rattle.std.proofs.lemmas.Bool.{cases_lt}
 use Rattle.std.proofs.lemmas.List.Kept.{AllPairs-cons}
 use Rattle.std.proofs.lemmas.List.Elements.{Contains-append_left, Contains-append_right, Contains-append_cases}
-use Rattle.plan_core.proofs.Sorted.{in_head, in_tail, head_or_tail}
+use Rattle.lists.proofs.Places.{in_first, first_or_rest, in_rest}
 use Rattle.plan_soundness.proofs.Elements.{default_any}
 
 -- an element for each number below n
@@ -101,13 +101,13 @@ module _ {A : Type 0} (R : A → A → Type 0) (through : (x y z : A) → R x y 
     x ∷ [],
     record {
       order = λ j k default less below. absurd (omega (arith, less, below));
-      new = in_head x [];
+      new = in_first x [];
       old = λ z among. absurd (omega (arith, among.1));
-      only = λ z among. head_or_tail x z [] among;
+      only = λ z among. first_or_rest x z [] among;
     },
   )
   insert x (y ∷ ys) order cases =
-      let rest = insert x ys (tail_order y ys order) (λ z among. cases z (in_tail y z ys among)) in
+      let rest = insert x ys (tail_order y ys order) (λ z among. cases z (in_rest y z ys among)) in
       ⊎_elim
       (λ apart.
       ⊎_elim
@@ -119,11 +119,11 @@ module _ {A : Type 0} (R : A → A → Type 0) (through : (x y z : A) → R x y 
               ⊎_elim
               (λ (same : y ≡ z). subst (R x) same before)
               (λ later. through x y z before (head_before y ys order z later))
-              (head_or_tail y z ys among)))
+              (first_or_rest y z ys among)))
               order;
-          new = in_head x (y ∷ ys);
-          old = λ z among. in_tail x z (y ∷ ys) among;
-          only = λ z among. head_or_tail x z (y ∷ ys) among;
+          new = in_first x (y ∷ ys);
+          old = λ z among. in_rest x z (y ∷ ys) among;
+          only = λ z among. first_or_rest x z (y ∷ ys) among;
         },
       ))
       (λ (after : R y x). (
@@ -136,17 +136,17 @@ module _ {A : Type 0} (R : A → A → Type 0) (through : (x y z : A) → R x y 
               (λ old. head_before y ys order z old)
               (rest.1.only z among)))
               rest.1.order;
-          new = in_tail y x rest.0 rest.1.new;
+          new = in_rest y x rest.0 rest.1.new;
           old = λ z among.
               ⊎_elim
-              (λ (same : y ≡ z). subst (Contains (y ∷ rest.0)) same (in_head y rest.0))
-              (λ later. in_tail y z rest.0 (rest.1.old z later))
-              (head_or_tail y z ys among);
+              (λ (same : y ≡ z). subst (Contains (y ∷ rest.0)) same (in_first y rest.0))
+              (λ later. in_rest y z rest.0 (rest.1.old z later))
+              (first_or_rest y z ys among);
           only = λ z among.
               ⊎_elim
-              (λ (same : y ≡ z). inr (subst (Contains (y ∷ ys)) same (in_head y ys)))
-              (λ later. ⊎_elim (λ new. inl new) (λ old. inr (in_tail y z ys old)) (rest.1.only z later))
-              (head_or_tail y z rest.0 among);
+              (λ (same : y ≡ z). inr (subst (Contains (y ∷ ys)) same (in_first y ys)))
+              (λ later. ⊎_elim (λ new. inl new) (λ old. inr (in_rest y z ys old)) (rest.1.only z later))
+              (first_or_rest y z rest.0 among);
         },
       ))
       apart)
@@ -154,12 +154,12 @@ module _ {A : Type 0} (R : A → A → Type 0) (through : (x y z : A) → R x y 
         y ∷ ys,
         record {
           order = order;
-          new = subst (Contains (y ∷ ys)) (sym same) (in_head y ys);
+          new = subst (Contains (y ∷ ys)) (sym same) (in_first y ys);
           old = λ z among. among;
           only = λ z among. inr among;
         },
       ))
-      (cases y (in_head y ys))
+      (cases y (in_first y ys))
 
   -- the elements in order, each once
   pub record IsInOrder (xs ys : List A) : Type 0 where
@@ -179,9 +179,9 @@ module _ {A : Type 0} (R : A → A → Type 0) (through : (x y z : A) → R x y 
     },
   )
   in_order (x ∷ xs) cases =
-      let rest = in_order xs (λ y z in-y in-z. cases y z (in_tail x y xs in-y) (in_tail x z xs in-z)) in
+      let rest = in_order xs (λ y z in-y in-z. cases y z (in_rest x y xs in-y) (in_rest x z xs in-z)) in
       let put = insert x rest.0 rest.1.order
-      (λ y among. cases x y (in_head x xs) (in_tail x y xs (rest.1.only y among))) in (
+      (λ y among. cases x y (in_first x xs) (in_rest x y xs (rest.1.only y among))) in (
         put.0,
         record {
           order = put.1.order;
@@ -189,11 +189,11 @@ module _ {A : Type 0} (R : A → A → Type 0) (through : (x y z : A) → R x y 
               ⊎_elim
               (λ (same : x ≡ z). subst (Contains put.0) same put.1.new)
               (λ later. put.1.old z (rest.1.all z later))
-              (head_or_tail x z xs among);
+              (first_or_rest x z xs among);
           only = λ z among.
               ⊎_elim
-              (λ (same : x ≡ z). subst (Contains (x ∷ xs)) same (in_head x xs))
-              (λ later. in_tail x z xs (rest.1.only z later))
+              (λ (same : x ≡ z). subst (Contains (x ∷ xs)) same (in_first x xs))
+              (λ later. in_rest x z xs (rest.1.only z later))
               (put.1.only z among);
         },
       )

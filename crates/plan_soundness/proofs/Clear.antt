@@ -1,10 +1,11 @@
 -- No cycle of the run has a conflict.
 use Rattle.std.proofs.Common.{◌≡◌, ℕ, ◌+◌, ◌-◌, ◌*◌, ◌<◌, ◌≤◌, ◌==◌, refl, sym, ap, ap₂, ◌∙◌, arith, ⊎_elim, ◌⊎◌, inl}
-use Rattle.std.proofs.Common.{inr, [], length, ℤ, pos, true, Option, Some, None, subst}
+use Rattle.std.proofs.Common.{inr, [], length, ℤ, pos, true, Some, subst}
 use Rattle.std.specs.List.{count_by}
 use Rattle.std.specs.Option.{IsSome, IsNone, is_some}
 use Rattle.std.proofs.Math.Nat.{add-mul, mod-lt}
 use Rattle.lists.specs.Rows.{Rows}
+use Rattle.lists.proofs.Options.{some_of, not_none}
 use Rattle.fix_word.specs.declared.operation.Op.{Op}
 use Rattle.fix_word.specs.declared.operation.Op.TheVariants as op
 use Rattle.operations.specs.Operations.{operands}
@@ -35,13 +36,6 @@ use Rattle.plan_soundness.proofs.LiveWords.{port_eq}
 use Rattle.plan_soundness.proofs.ReadsRight.{AllRight, address_right, result_right}
 use Rattle.plan_soundness.proofs.Writes.{some_same}
 use Rattle.plan_soundness.proofs.Contents.{all_right}
-
-some_of : {A : Type 0} (o : Option A) → IsSome o → (a : A) × (o ≡ Some a)
-some_of None h = absurd (cc)
-some_of (Some a) h = (a, refl)
-
-not_none : {A : Type 0} (o : Option A) (a : A) → o ≡ Some a → IsNone o → ⊥
-not_none o a e h = absurd (cc)
 
 memory_case : (o : Op) → IsMemory o → (o ≡ op.Load) ⊎ (o ≡ op.Store)
 memory_case op.Load m = inl refl

@@ -4,6 +4,7 @@ use Rattle.std.proofs.Common.{length, slice_index_or, Bool, true, false, Some, c
 use Rattle.std.specs.List.{Contains, AllPairs, find, filter, count_by, range_with_len}
 use Rattle.std.proofs.lemmas.Bool.{cases_order}
 use Rattle.std.proofs.lemmas.List.Sums.{length-filter}
+use Rattle.plan_core.proofs.Tests.{tail_pairs}
 use Rattle.micro_image.proofs.Each.{In, here, there}
 
 -- an element stands at an index
@@ -119,10 +120,6 @@ two_filter test (x ∷ xs) some = two_by test x xs (test x) refl some (two_filte
 pub two : {A : Type 0} (test : A → Bool) (xs : List A) → 2 ≤ count_by test xs → Two test xs
 two test xs some = two_filter test xs (omega (arith, some, length-filter test xs))
 
-pairs_tail : {A : Type 0} (R : A → A → Type 0) (x : A) (xs : List A) → AllPairs R (x ∷ xs) → AllPairs R xs
-pairs_tail R x xs pairs j k default less below =
-    pairs (suc j) (suc k) default (omega (arith, less)) (omega (arith, below))
-
 pairs_head : {A : Type 0} (R : A → A → Type 0) (x y : A) (xs : List A)
     → AllPairs R (x ∷ xs)
     → In y xs
@@ -138,7 +135,7 @@ pub two_related : {A B : Type 0} (R : A → A → Type 0) (test : A → Bool) {x
     → Two test xs
     → B
 two_related R test pairs use' (later {y = y} {xs = ys} rest) =
-    two_related R test (pairs_tail R y ys pairs) (λ a b in-a in-b. use' a b (there in-a) (there in-b)) rest
+    two_related R test (tail_pairs R y ys pairs) (λ a b in-a in-b. use' a b (there in-a) (there in-b)) rest
 two_related R test pairs use' (these {x = x} {y = y} {xs = ys} p in' q) =
     use' x y here (there in') p q (pairs_head R x y ys pairs in')
 
@@ -159,12 +156,6 @@ find_filter test y (x ∷ xs) is = find_count_by test x y xs (test x) refl is (f
 -- what is found counts
 pub find_count : {A : Type 0} (test : A → Bool) (y : A) (xs : List A) → find test xs ≡ Some y → 0 < count_by test xs
 find_count test y xs is = omega (arith, find_filter test y xs is, length-filter test xs)
-
--- past the end stands the default
-pub nth_past : {A : Type 0} (xs : List A) (k : ℕ) (default : A) → length xs ≤ k → slice_index_or xs k default ≡ default
-nth_past [] k default le = refl
-nth_past (x ∷ xs) zero default le = absurd (omega (arith, le))
-nth_past (x ∷ xs) (suc k) default le = nth_past xs k default (omega (arith, le))
 
 -- within the list the default does not count
 pub default_any : {A : Type 0} (xs : List A) (k : ℕ) (default other : A)

@@ -4,6 +4,7 @@ use Rattle.std.proofs.Common.{◌≡◌, ap, arith, ℕ, ◌+◌, ◌-◌, ◌*�
 use Rattle.std.proofs.Common.{length, slice_index_or, All, Contains, true}
 use Rattle.std.proofs.lemmas.Bool.{cases_lt}
 use Rattle.std.proofs.lemmas.List.Elements.{All-contains}
+use Rattle.std.proofs.lemmas.List.{get_or_past}
 use Rattle.fix_word.specs.declared.operation.Op.TheVariants as op
 use Rattle.operations.specs.Ranges.{to_nat}
 use Rattle.datapath.specs.declared.types.Datapath.{Datapath}
@@ -28,7 +29,7 @@ use Rattle.plan_soundness.specs.Lifetimes.{IsLifetime}
 use Rattle.plan_soundness.specs.Memory.{store_of, LoadsFrom}
 use Rattle.plan_soundness.specs.Feasible.{IsFeasibleOver}
 use Rattle.plan_soundness.proofs.Around.{apart_around, own_apart, same_around}
-use Rattle.plan_soundness.proofs.Elements.{nth_past, default_any}
+use Rattle.plan_soundness.proofs.Elements.{default_any}
 use Rattle.plan_soundness.proofs.SoundLowered.{IsSoundLowered, AreSoundLines}
 
 -- each unit has a gap, no longer than its latency
@@ -43,7 +44,7 @@ gaps_from d all u =
     ⊎_elim
     (λ (there : u < length d.units). all u no_unit there)
     (λ (past' : length d.units ≤ u).
-    let e : unit_of d u ≡ no_unit = nth_past d.units u no_unit past' in
+    let e : unit_of d u ≡ no_unit = get_or_past d.units u no_unit past' in
     let gap : gap_on d u ≡ 1 = ap (λ unit. unit.gap) e in
     let latency : latency_on d u ≡ 1 = ap (λ unit. unit.latency) e in
     (omega (arith, gap), omega (arith, gap, latency)))
@@ -288,7 +289,8 @@ module _ (o : Overlap) (d : Datapath) (p : Plan) where
           → Contains (transfers_at p v) t
           → (t.bus < length d.buses) × (gives (node_at p v).op ≡ true)
       transfer_at v t in-v in-t =
-          All-contains (λ (t : Transfer). (t.bus < length d.buses) × (gives (node_at p v).op ≡ true)) (transfers_at p v) t
+          All-contains (λ (t : Transfer). (t.bus < length d.buses) × (gives (node_at p v).op ≡ true)) (transfers_at p v)
+          t
           (passed are_nodes nodes v in-v).1.1.1.1.1.1 in-t
 
       units_free : (u v s n : ℕ)

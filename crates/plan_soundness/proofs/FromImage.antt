@@ -4,10 +4,11 @@ use Rattle.std.proofs.Common.{length, List, slice_index_or, Some, true, subst}
 use Rattle.std.specs.List.{Contains, AllPairs}
 use Rattle.std.specs.Int.{int_rem_euclid}
 use Rattle.std.specs.Prelude.{pos, ◌-ℤ◌}
-use Rattle.std.proofs.lemmas.Bool.{cases_lt}
+use Rattle.std.proofs.lemmas.Bool.{cases_lt, eqb-true}
 use Rattle.std.proofs.lemmas.Nat.{div-mul-add}
 use Rattle.std.proofs.Math.Nat.{mod-lt, mul-le-mul_right, add-mul, mod-add-mod, mul-add-mod_self_right, mod-eq_of_lt}
 use Rattle.std.proofs.Math.Nat.{mod-mod_of_dvd, dvd_of_mod-eq-zero}
+use Rattle.std.proofs.lemmas.List.{get_or_past}
 use Rattle.datapath.specs.declared.types.Datapath.{Datapath}
 use Rattle.plan_core.specs.Hardware.{latency_on, gap_on, cells_on, tie_of, no_unit}
 use Rattle.plan_core.specs.declared.schedule.Transfer.{Transfer}
@@ -31,7 +32,7 @@ use Rattle.plan_soundness.specs.Overlap.{shift_of}
 use Rattle.plan_soundness.specs.Feasible.{IsFeasible}
 use Rattle.plan_soundness.specs.Executes.{Executes, IsIssueIn, IsTakeIn, IsEnableOf, register_in}
 use Rattle.plan_soundness.proofs.Ordinary as ordinary
-use Rattle.plan_soundness.proofs.Elements.{Contains-from_In, nth_past, found, find_among}
+use Rattle.plan_soundness.proofs.Elements.{Contains-from_In, found, find_among}
 use Rattle.plan_soundness.proofs.Samples.{split, one_more}
 use Rattle.plan_soundness.proofs.Spans.{sample_start}
 use Rattle.plan_soundness.proofs.Writes.{in_turn}
@@ -42,9 +43,6 @@ described image u = unit_of (microprogram_of image) u
 
 same_number : (n : ℕ) → (n == n) ≡ true
 same_number n = grind arith
-
-pub is_number : (n m : ℕ) → (n == m) ≡ true → n ≡ m
-is_number n m h = grind (arith, h)
 
 pub pairs_then : {A : Type 0} {R S : A → A → Type 0} (xs : List A)
     → ((x y : A) → R x y → S x y)
@@ -197,7 +195,7 @@ module _ (d : Datapath) (p : Plan) (plan : IsFeasible d p) (image : Image) (is :
       (In-from_Contains _ own.0 own.1)
       (ap (λ u. u == unit_at p v) own.2.unit ∙ same_number (unit_at p v)) in
       let only = word.issue_only first.it (Contains-from_In first.among) in
-      let node : only.0 ≡ v = one_node only.0 v only.1 in-v (sym only.3.unit ∙ is_number _ _ first.passes) only.2 in (
+      let node : only.0 ≡ v = one_node only.0 v only.1 in-v (sym only.3.unit ∙ eqb-true _ _ first.passes) only.2 in (
         first.it,
         first.is,
         issue_in v n first.it in-v (subst (λ w. IsIssueOf d p w (n % p.unroll) first.it) node only.3),
@@ -212,7 +210,7 @@ module _ (d : Datapath) (p : Plan) (plan : IsFeasible d p) (image : Image) (is :
   issue_only t u issue at =
       let first = find_among (λ (issue : Issue). issue.unit == u) issue (word_at image t).issues at in
       let only = (word_any t).issue_only issue (Contains-from_In first.0) in
-      (only.0, t / d.period, only.1, sym only.3.unit ∙ is_number _ _ first.1, at_cycle t (cycle_at p only.0) only.2)
+      (only.0, t / d.period, only.1, sym only.3.unit ∙ eqb-true _ _ first.1, at_cycle t (cycle_at p only.0) only.2)
 
   -- a word has the enables of the results of its cycle
   enable_in : (n c : ℕ) (e : Enable)
@@ -255,7 +253,7 @@ module _ (d : Datapath) (p : Plan) (plan : IsFeasible d p) (image : Image) (is :
       let only = enable_in n c first.it below (Contains-from_In first.among) in
       let other : IsEnableOf p only.0 first.it = only.2 in
       let node : only.0 ≡ v = ordinary.bus_free d p plan only.0 v other.transfer.0 transfer other.node arc.node
-      other.transfer.1 of.among only.1 (other.transfer.2 ∙ is_number _ _ first.passes) in
+      other.transfer.1 of.among only.1 (other.transfer.2 ∙ eqb-true _ _ first.passes) in
       (first.it, first.is, sym other.unit ∙ ap (unit_at p) node)
 
   take_in : (k n : ℕ) (transfer : Transfer) (take : Take)
@@ -321,10 +319,10 @@ module _ (d : Datapath) (p : Plan) (plan : IsFeasible d p) (image : Image) (is :
   unit_fact f g u there past' = ⊎_elim (there u) (past' u) (cases_lt u (length d.units))
 
   no_unit_at : (u : ℕ) → length d.units ≤ u → unit_of micro u ≡ no_desc
-  no_unit_at u le = nth_past image.units u _ (omega (arith, le, is.unit_count))
+  no_unit_at u le = get_or_past image.units u _ (omega (arith, le, is.unit_count))
 
   no_path_unit : (u : ℕ) → length d.units ≤ u → slice_index_or d.units u no_unit ≡ no_unit
-  no_path_unit u le = nth_past d.units u no_unit le
+  no_path_unit u le = get_or_past d.units u no_unit le
 
   preload : (k s : ℕ)
       → k < length p.arcs

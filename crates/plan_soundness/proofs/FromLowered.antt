@@ -2,13 +2,16 @@
 use Rattle.std.proofs.Common.{◌≡◌, ◌≢◌, ℕ, zero, suc, ◌+◌, ◌-◌, ◌<◌, ◌≤◌, ◌==◌, nat_lt, cond, ◌⊎◌, inl, inr, ⊎_elim}
 use Rattle.std.proofs.Common.{refl, sym, ap, ◌∙◌, subst, arith, List, [], ◌∷◌, length, slice_index_or, Contains, Bool}
 use Rattle.std.proofs.Common.{true, false, pos}
-use Rattle.std.specs.Prelude.{slice_get, filter, take, Option, Some, None, IsSomeAnd}
-use Rattle.std.specs.List.{enumerate_from, AllZip}
+use Rattle.std.specs.Prelude.{slice_get, filter, take, Option, Some, IsSomeAnd}
+use Rattle.std.specs.List.{enumerate_from}
 use Rattle.std.proofs.lemmas.Bool.{cases_lt, cases_order}
 use Rattle.std.proofs.lemmas.Option.{slice_get_within, slice_get-get_or, get_or_from_slice_get, same_Some, none-some}
+use Rattle.std.proofs.lemmas.Option.{slice_get_past}
 use Rattle.std.proofs.lemmas.List.Sums.{sum_by-cons}
 use Rattle.std.proofs.lemmas.List.Elements.{All-contains}
+use Rattle.std.proofs.lemmas.List.{get_or_past}
 use Rattle.lists.proofs.Places.{contains_at}
+use Rattle.lists.proofs.Zips.{zip_at as zip_edge}
 use Rattle.signal_graph.proofs.Members.{from_enumerate, from_filter, zip_length, zip_at}
 use Rattle.fix_word.specs.declared.operation.Op.{Op}
 use Rattle.fix_word.specs.declared.operation.Op.TheVariants as op
@@ -35,7 +38,7 @@ use Rattle.plan_soundness.specs.Overlap.{Overlap, AreDisjoint}
 use Rattle.plan_soundness.specs.Memory.{store_of, HasAddress, LoadsFrom, StoresTo}
 use Rattle.plan_soundness.specs.Units.{AreOnRightUnits}
 use Rattle.plan_soundness.specs.Feasible.{IsFeasibleLine}
-use Rattle.plan_soundness.proofs.Elements.{nth_past, default_any}
+use Rattle.plan_soundness.proofs.Elements.{default_any}
 use Rattle.plan_soundness.proofs.Origins.{IsNumbered, first_of, numbered, own_once, store_number, store_once}
 use Rattle.plan_soundness.proofs.SoundLowered.{IsSoundLowered, AreSoundLines}
 
@@ -62,16 +65,9 @@ graph_reader g c q port =
     (λ (there : c < length g.nodes). there)
     (λ (past' : length g.nodes ≤ c).
     absurd (let none : length (node_of g.nodes c).edges ≡ 0 =
-    ap (λ (node : Node). length node.edges) (nth_past g.nodes c _ past') in
+    ap (λ (node : Node). length node.edges) (get_or_past g.nodes c _ past') in
     omega (arith, port, none)))
     (cases_lt c (length g.nodes))
-
--- a list whose elements are related to a list of the same numbers
-pub zip_edge : {A B : Type 0} (R : A → B → Type 0) (xs : List A) (ys : List B) (q : ℕ) (x : A) (y : B)
-    → AllZip R xs ys
-    → q < length xs
-    → R (slice_index_or xs q x) (slice_index_or ys q y)
-zip_edge R xs ys q x y zip below = zip_at R xs ys q (slice_index_or xs q x) y zip (slice_get-get_or xs q x below)
 
 used_first : (spare : ℕ) (x : Line) (xs : List Line) (m ram : ℕ)
     → used spare (take (suc m) (x ∷ xs)) ram ≡ cond (x.ram == ram) (x.depth + spare) 0 + used spare (take m xs) ram
@@ -112,11 +108,6 @@ in_take (x ∷ xs) (suc n) zero default less below = (0, omega arith, refl)
 in_take (x ∷ xs) (suc n) (suc k) default less below =
     let rest = in_take xs n k default (omega (arith, less)) (omega (arith, below)) in
     (suc rest.0, omega (arith, rest.1), rest.2)
-
-pub none_past : {A : Type 0} (xs : List A) (k : ℕ) → length xs ≤ k → slice_get xs k ≡ None
-none_past [] k le = refl
-none_past (x ∷ xs) zero le = absurd (omega (arith, le))
-none_past (x ∷ xs) (suc k) le = none_past xs k (omega (arith, le))
 
 abbrev has_long : ℕ × List ℕ → Bool
 has_long x = nat_lt 0 (length x.1)
@@ -260,7 +251,7 @@ module _ {hold spare : ℕ} (g : Graph) (d : Datapath) (p : Plan) (sound : IsGra
             below,
             some_is NoOutput (slice_get g.nodes v) (node_of g.nodes v) (slice_get-get_or g.nodes v _ below) some,
           )
-          there v (inr past') some = absurd (subst (λ o. IsSomeAnd o NoOutput) (none_past g.nodes v past') some)
+          there v (inr past') some = absurd (subst (λ o. IsSomeAnd o NoOutput) (slice_get_past g.nodes v past') some)
 
   -- a node that is read has a result in the lowered list
   own_result : (v i : ℕ)

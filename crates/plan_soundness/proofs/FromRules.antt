@@ -2,10 +2,11 @@
 use Rattle.std.proofs.Common.{◌≡◌, ◌≢◌, ℕ, ◌+◌, ◌*◌, ◌%◌, ◌<◌, ◌≤◌, refl, sym, ap, ◌∙◌, arith, ⊎_elim, ◌⊎◌, inl, inr}
 use Rattle.std.proofs.Common.{length, slice_index_or, map, All, Contains, subst}
 use Rattle.std.proofs.lemmas.Bool.{cases_eq, cases_lt, cases_order}
-use Rattle.std.proofs.lemmas.List.{get_or-map, length-map}
+use Rattle.std.proofs.lemmas.List.{get_or-map, length-map, get_or_past}
 use Rattle.std.proofs.Math.Nat.{mul-le-mul_right}
 use Rattle.std.proofs.lemmas.List.Elements.{All-contains}
 use Rattle.operations.specs.declared.units.PortRef.{PortRef}
+use Rattle.signal_graph.proofs.Sizes.{few_operands}
 use Rattle.datapath.specs.declared.types.Datapath.{Datapath}
 use Rattle.datapath.specs.Allowed.{IsUnit}
 use Rattle.plan_core.specs.Hardware.{latency_on, gap_on, unit_of, no_unit, port_of}
@@ -19,7 +20,7 @@ use Rattle.plan_core.specs.FirstFit.{IsFirstFit, IsCopyBefore}
 use Rattle.plan_core.specs.declared.schedule.Transfer.{Transfer}
 use Rattle.plan_core.specs.declared.schedule.Schedule.{Schedule}
 use Rattle.plan_core.specs.declared.plan.Plan.{Plan}
-use Rattle.plan_core.proofs.Readers.{operands_few, reader_there}
+use Rattle.plan_core.proofs.Readers.{reader_there}
 use Rattle.plan_soundness.specs.Parts.{nodes_of, node_at, edge_at, unit_at, cycle_at, transfers_at, arc_at}
 use Rattle.plan_soundness.specs.Parts.{ReadsThrough}
 use Rattle.plan_soundness.specs.Parts.{IsTransferOf, ends_at}
@@ -28,7 +29,6 @@ use Rattle.plan_soundness.specs.Overlap.{one_by_one}
 use Rattle.plan_soundness.specs.Lifetimes.{IsLifetime}
 use Rattle.plan_soundness.specs.Units.{AreOnRightUnits, IsRouted}
 use Rattle.plan_soundness.specs.Feasible.{IsFeasible, IsFeasibleArc, AreRegistersApart}
-use Rattle.plan_soundness.proofs.Elements.{nth_past}
 use Rattle.plan_soundness.proofs.Ordinary.{no_shift, end_below, unit_free_in_all, ends_same, ends_early, ends_before}
 use Rattle.plan_soundness.proofs.SoundLowered.{IsSoundLowered, AreSoundLines}
 use Rattle.plan_soundness.proofs.AnyRules as rules
@@ -51,7 +51,7 @@ gaps_of d units u =
     (λ (there : u < length d.units).
     let unit = units u no_unit there in (omega (arith, unit.gap.0), unit.gap.1))
     (λ (past' : length d.units ≤ u).
-    let e : unit_of d u ≡ no_unit = nth_past d.units u no_unit past' in
+    let e : unit_of d u ≡ no_unit = get_or_past d.units u no_unit past' in
     let gap : gap_on d u ≡ 1 = ap (λ unit. unit.gap) e in
     let latency : latency_on d u ≡ 1 = ap (λ unit. unit.latency) e in
     (omega (arith, gap), omega (arith, gap, latency)))
@@ -274,7 +274,7 @@ module _ {Allows : Schedule → (height : ℕ → ℕ) → (v t : ℕ) → Type 
   ports k in-k =
       let by = reader k in-k in
       let port : (arc_at p k).port.port < length (node_at p by.0).edges = by.2.reads.port in
-      omega (arith, port, lowered.operand_count by.0 by.1, operands_few (node_at p by.0).op)
+      omega (arith, port, lowered.operand_count by.0 by.1, few_operands (node_at p by.0).op)
 
   ends_in_period : (v : ℕ) → v < length (nodes_of p) → ends_at d p v < d.period
   ends_in_period = end_below d p gaps fits

@@ -22,6 +22,7 @@ use Rattle.micro_image.specs.Run.{spread}
 use Rattle.micro_image.proofs.Each.{In, In-append_left, In-append_right, In-append_cases, Each, Each-at, Each-then}
 use Rattle.micro_image.proofs.LogLaws.{IsOfCycle, IsBefore, IsElsewhere, entries-of_cycle, Log-before}
 use Rattle.micro_image.proofs.Newest.{is_of, IsNewest, unwritten, greatest, newest-greatest}
+use Rattle.micro_image.proofs.LogWrites.{cycle_le}
 use Rattle.plan_soundness.specs.Parts.{nodes_of, node_at, edge_at, unit_at, cycle_at, arc_at, ends_at}
 use Rattle.plan_soundness.specs.Machine.{IsMachine}
 use Rattle.plan_soundness.specs.ImageOf.{IsImageOf}
@@ -77,9 +78,6 @@ neither b p q = absurd (cc)
 stamps_equal : (e f : Entry) → stamp_le e f ≡ true → stamp_le f e ≡ true → e.cycle ≡ f.cycle
 stamps_equal e f h k = grind (arith, h, k)
 
-stamp_cycle : (e f : Entry) → stamp_le e f ≡ true → e.cycle ≤ f.cycle
-stamp_cycle e f h = grind (arith, h)
-
 -- a cycle that does not write the place leaves its newest write
 newest_kept : (place : Place) (t : ℕ) (new log : List Entry) {r s : Option Entry}
     → Each (IsElsewhere place) new
@@ -115,7 +113,7 @@ newest_written place t new log e among same now before (unwritten never) =
     neither _ (is_now place t e same (Each-at now e among)) (Each-at never e (In-append_left log among))
 newest_written place t new log e among same now before (greatest {e = f} among' of most) =
     let le : e.cycle ≤ f.cycle =
-    stamp_cycle e f (Each-at most e (In-append_left log among) (is_now place t e same (Each-at now e among))) in
+    cycle_le e f (Each-at most e (In-append_left log among) (is_now place t e same (Each-at now e among))) in
     ⊎_elim
     (λ here. ap Some (Each-at now f here))
     (λ there. absurd (omega (arith, le, Each-at now e among, Each-at before f there)))

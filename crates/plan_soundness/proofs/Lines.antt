@@ -10,7 +10,7 @@ use Rattle.plan_soundness.proofs.Samples.{sample_upto}
 
 -- m cells, of which sample number s uses one less with each sample; sample 0 has the number `base`
 
-enough : (m s : ℕ) → 0 < m → s ≤ s * m
+pub enough : (m s : ℕ) → 0 < m → s ≤ s * m
 enough m s some = let one : s * 1 ≤ s * m = mul-le-mul_left s some in omega (arith, one)
 
 -- a number that is added to both sides drops out

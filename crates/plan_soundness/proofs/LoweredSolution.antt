@@ -61,7 +61,7 @@ pub now_is : (n : ℕ) → past + n - past ≡ n
 now_is n = omega arith
 
 -- the operands that an operation has
-same_meaning : (o : Op) (node : Node) (stream : Rows) (words : Words) (n : ℕ)
+pub same_meaning : (o : Op) (node : Node) (stream : Rows) (words : Words) (n : ℕ)
     → IsOfGraphs (class_of o)
     → given_by (class_of o) stream words n (record node { op = o })
     ≡ meaning_by o node stream n (λ q. operand (operand_words words n node.edges) q)
@@ -73,17 +73,17 @@ same_meaning op.Store node stream words n of = absurd of
 same_meaning op.Addr node stream words n of = absurd of
 same_meaning _ node stream words n of = refl
 
-is_of_graph : (o : Op) → IsOfGraphs (class_of o) → IsOfGraph o
+pub is_of_graph : (o : Op) → IsOfGraphs (class_of o) → IsOfGraph o
 is_of_graph op.Load of = absurd of
 is_of_graph op.Store of = absurd of
 is_of_graph op.Addr of = absurd of
 is_of_graph op.Input of = tt {0}
 is_of_graph _ of = tt {0}
 
-back_pos : (n ago : ℕ) → ago ≤ n → pos n -ℤ pos ago ≡ pos (n - ago)
+pub back_pos : (n ago : ℕ) → ago ≤ n → pos n -ℤ pos ago ≡ pos (n - ago)
 back_pos n ago le = omega (arith, ints, le)
 
-back_neg : (n ago : ℕ) → n < ago → pos n -ℤ pos ago ≡ negsuc (ago - n - 1)
+pub back_neg : (n ago : ℕ) → n < ago → pos n -ℤ pos ago ≡ negsuc (ago - n - 1)
 back_neg n ago less = omega (arith, ints, less)
 
 module _ (g : Graph) (stream : Rows) (words : Words) (sound : IsGraph g) (solves : GraphSolves g stream words) where

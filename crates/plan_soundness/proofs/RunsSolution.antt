@@ -4,7 +4,7 @@ use Rattle.std.specs.Prelude.{slice_get, pos, ◌-ℤ◌, IsSomeAnd}
 use Rattle.std.proofs.lemmas.Int.{ints}
 use Rattle.std.proofs.lemmas.Bool.{cases_lt}
 use Rattle.std.specs.List.{range_with_len}
-use Rattle.std.proofs.lemmas.Option.{slice_get-get_or}
+use Rattle.std.proofs.lemmas.Option.{slice_get-get_or, slice_get_past}
 use Rattle.lists.specs.Rows.{Rows}
 use Rattle.operations.specs.Ranges.{to_nat}
 use Rattle.plan_soundness.specs.Machine.{IsMachine}
@@ -35,7 +35,7 @@ use Rattle.plan_soundness.specs.Placed.{IsPlacedPlan}
 use Rattle.plan_soundness.specs.Feasible.{IsFeasiblePlanOver, IsFeasiblePlan}
 use Rattle.plan_soundness.specs.Executes.{ExecutesOver}
 use Rattle.plan_soundness.proofs.FromImage.{executes}
-use Rattle.plan_soundness.proofs.FromLowered.{sound_lowered, sound_lines, made_as, number_below, some_is, none_past}
+use Rattle.plan_soundness.proofs.FromLowered.{sound_lowered, sound_lines, made_as, number_below, some_is}
 use Rattle.plan_soundness.proofs.FromRules.{feasible, gaps_of, count_of_unroll, first_fit_apart, routed}
 use Rattle.plan_soundness.proofs.Units.{on_right_units}
 use Rattle.plan_soundness.proofs.SoundLowered.{IsSoundLowered}
@@ -121,7 +121,7 @@ module _ {o : Overlap} {hold spare : ℕ} (g : Graph) (d : Datapath) (p : Plan) 
       by v some =
           ⊎_elim (λ (below : v < length g.nodes). below)
           (λ (past' : length g.nodes ≤ v).
-          absurd (subst (λ o. IsSomeAnd o (IsOutput j)) (none_past g.nodes v past') some))
+          absurd (subst (λ o. IsSomeAnd o (IsOutput j)) (slice_get_past g.nodes v past') some))
           (cases_lt v (length g.nodes))
 
   abbrev out_node : ℕ → ℕ

@@ -1,7 +1,8 @@
 -- Items are put into slots, and each is wanted there for some cycles. Where no two are wanted in one slot in one cycle,
 -- and only items are put, each slot holds what is wanted of it.
-use Rattle.std.proofs.Common.{◌≡◌, ℕ, zero, suc, ◌+◌, ◌<◌, ◌≤◌, sym, ◌∙◌, arith, ⊎_elim, ◌⊎◌, inl, inr, subst}
+use Rattle.std.proofs.Common.{◌≡◌, ℕ, zero, suc, ◌+◌, ◌<◌, ◌≤◌, sym, ◌∙◌, arith, ⊎_elim, subst}
 use Rattle.std.proofs.lemmas.Bool.{cases_lt}
+use Rattle.lists.proofs.Numbers.{same_or_up_to}
 
 -- An item is put at the end of a cycle, and wanted at the start of the next ones up to its last. These cycles are
 -- counted from some cycle before the run, whose cycle 0 is their cycle `first`. The run has `limit` cycles, and
@@ -37,9 +38,6 @@ module _ {Item Slot Value : Type 0} (slot : Item → Slot) (put last : Item → 
         → put b ≡ first + t
         → content (slot b) (suc t) ≡ value b
 
-  upto : (t s : ℕ) → s ≤ suc t → (s ≤ t) ⊎ (s ≡ suc t)
-  upto t s le = ⊎_elim (λ below. inl (omega arith)) (λ from. inr (omega arith)) (cases_lt s (suc t))
-
   -- what was put before cycle t, and is wanted in the next one, is kept: what is put in t would be wanted there too
   old_kept : Keeps
       → (t : ℕ) (a : Item)
@@ -70,4 +68,4 @@ module _ {Item Slot Value : Type 0} (slot : Item → Slot) (put last : Item → 
       (λ (old : put a < first + t). old_kept k t a (omega arith) earlier old (omega arith))
       (λ (new : first + t ≤ put a). k.written a t (omega arith) earlier (omega arith))
       (cases_lt (put a) (first + t))))
-      (upto t s le)
+      (same_or_up_to t s le)

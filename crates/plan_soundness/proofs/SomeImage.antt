@@ -3,7 +3,7 @@ use Rattle.std.proofs.Common.{◌≡◌, ℕ, zero, suc, ◌+◌, ◌-◌, ◌*�
 use Rattle.std.proofs.Common.{ap, ap₂, ◌∙◌, subst, arith, List, [], length, slice_index_or, map, ext_get_or, ℤ, pos}
 use Rattle.std.proofs.lemmas.Bool.{cases_eq, cases_lt}
 use Rattle.std.proofs.lemmas.Nat.{div-mul-add, mod-mul-add}
-use Rattle.std.proofs.lemmas.List.{get_or-map, length-map}
+use Rattle.std.proofs.lemmas.List.{get_or-map, length-map, get_or_past}
 use Rattle.std.proofs.Math.Nat.{mod-eq_of_lt, mul-le-mul_right, mul-le-mul_left, add-mul}
 use Rattle.operations.specs.declared.units.PortRef.{PortRef}
 use Rattle.datapath.specs.declared.types.Datapath.{Datapath}
@@ -27,7 +27,6 @@ use Rattle.plan_soundness.specs.Overlap.{one_by_one, reach}
 use Rattle.plan_soundness.specs.Feasible.{IsFeasible, IsFeasiblePlan}
 use Rattle.plan_soundness.proofs.Ordinary.{room}
 use Rattle.plan_soundness.proofs.Choices.{choose}
-use Rattle.plan_soundness.proofs.Elements.{nth_past}
 use Rattle.plan_soundness.proofs.FromImage.{copy_before}
 use Rattle.plan_soundness.proofs.LiveWords.{port_eq, registers_apart}
 use Rattle.plan_soundness.proofs.RunsSolution.{plan_feasible}
@@ -391,12 +390,12 @@ module _ (g : Graph) (d : Datapath) (p : Plan) (machine : IsMachine d) (plan : I
           absurd (omega (
             arith,
             some,
-            ap (λ unit. slice_index_or unit.files q 0) (nth_past d.units u no_unit past'),
+            ap (λ unit. slice_index_or unit.files q 0) (get_or_past d.units u no_unit past'),
           )))
           (cases_lt u (length d.units)),
       ⊎_elim (λ (there : q < length (unit_of d u).files). there)
           (λ (past' : length (unit_of d u).files ≤ q).
-          absurd (omega (arith, some, nth_past (unit_of d u).files q 0 past')))
+          absurd (omega (arith, some, get_or_past (unit_of d u).files q 0 past')))
           (cases_lt q (length (unit_of d u).files)),
     )
 
@@ -433,14 +432,14 @@ module _ (g : Graph) (d : Datapath) (p : Plan) (machine : IsMachine d) (plan : I
         ⊎_elim
         (λ (in-r : r < slice_index_or (unit_of d u).files q 0). absurd (never in-u in-q in-r))
         (λ (past' : slice_index_or (unit_of d u).files q 0 ≤ r).
-        nth_past (nth (nth units u no_desc).files q []) r (pos 0) (omega (arith, past', file.size)))
+        get_or_past (nth (nth units u no_desc).files q []) r (pos 0) (omega (arith, past', file.size)))
         (cases_lt r (slice_index_or (unit_of d u).files q 0)))
         (λ (past' : length (unit_of d u).files ≤ q).
         ap (λ file. nth file r (pos 0))
-        (nth_past (nth units u no_desc).files q [] (omega (arith, past', file_count u in-u))))
+        (get_or_past (nth units u no_desc).files q [] (omega (arith, past', file_count u in-u))))
         (cases_lt q (length (unit_of d u).files)))
         (λ (past' : length d.units ≤ u).
-        ap (λ unit. nth (nth unit.files q []) r (pos 0)) (nth_past units u no_desc (omega (arith, past', count))))
+        ap (λ unit. nth (nth unit.files q []) r (pos 0)) (get_or_past units u no_desc (omega (arith, past', count))))
         (cases_lt u (length d.units))
 
     cell_in : (u c l ago : ℕ)
@@ -453,7 +452,7 @@ module _ (g : Graph) (d : Datapath) (p : Plan) (machine : IsMachine d) (plan : I
         subst (λ u. c < (unit_of d u).cells) of.ram_is (omega (arith, of.cell_is, of.lives, room')) in (
           ⊎_elim (λ (there : u < length d.units). there)
               (λ (past' : length d.units ≤ u).
-              absurd (omega (arith, below, ap (λ unit. unit.cells) (nth_past d.units u no_unit past'))))
+              absurd (omega (arith, below, ap (λ unit. unit.cells) (get_or_past d.units u no_unit past'))))
               (cases_lt u (length d.units)),
           below,
         )
@@ -468,10 +467,10 @@ module _ (g : Graph) (d : Datapath) (p : Plan) (machine : IsMachine d) (plan : I
         ⊎_elim
         (λ (in-c : c < (unit_of d u).cells). absurd (never in-u in-c))
         (λ (past' : (unit_of d u).cells ≤ c).
-        nth_past (nth units u no_desc).cells c (pos 0) (omega (arith, past', made.is.cells)))
+        get_or_past (nth units u no_desc).cells c (pos 0) (omega (arith, past', made.is.cells)))
         (cases_lt c (unit_of d u).cells))
         (λ (past' : length d.units ≤ u).
-        ap (λ unit. nth unit.cells c (pos 0)) (nth_past units u no_desc (omega (arith, past', count))))
+        ap (λ unit. nth unit.cells c (pos 0)) (get_or_past units u no_desc (omega (arith, past', count))))
         (cases_lt u (length d.units))
 
     register_cases : (u q r : ℕ)

@@ -4,9 +4,9 @@ use Rattle.std.proofs.Common.{◌∙◌, subst, arith, Bool, true, List, [], ◌
 use Rattle.std.proofs.Common.{Contains}
 use Rattle.std.specs.List.{AllPairs}
 use Rattle.std.proofs.lemmas.Bool.{cases_eq, cases_lt, cases_order}
-use Rattle.std.proofs.lemmas.List.{get_or-map, length-map}
+use Rattle.std.proofs.lemmas.List.{get_or-map, length-map, get_or_past}
 use Rattle.std.proofs.Math.Nat.{mod-eq_of_lt}
-use Rattle.lists.proofs.Places.{only_there}
+use Rattle.lists.proofs.Places.{only_there, one_in}
 use Rattle.signal_graph.proofs.Members.{in_filter, from_filter}
 use Rattle.fix_word.specs.declared.operation.Op.TheVariants as op
 use Rattle.operations.specs.Units.{ports}
@@ -32,7 +32,6 @@ use Rattle.plan_soundness.specs.Samples.{past}
 use Rattle.plan_soundness.specs.Feasible.{IsFeasible, IsFeasiblePlan}
 use Rattle.plan_soundness.proofs.Ordinary.{unit_free, written, delay_in}
 use Rattle.plan_soundness.proofs.Choices.{choose, gather, in_order}
-use Rattle.plan_soundness.proofs.Elements.{nth_past}
 use Rattle.plan_soundness.proofs.FromImage.{copy_read}
 use Rattle.plan_soundness.proofs.AnyRules.{in_map}
 use Rattle.plan_soundness.proofs.Lines.{cancel}
@@ -205,7 +204,7 @@ module _ (g : Graph) (d : Datapath) (p : Plan) (machine : IsMachine d) (plan : I
           unread = λ q unread.
               ⊎_elim
               (λ (in-q : q < length (unit_of d u).files). (regs.2 q in-q).unread unread)
-              (λ (past' : length (unit_of d u).files ≤ q). nth_past regs.0 q 0 (omega (arith, past', regs.1)))
+              (λ (past' : length (unit_of d u).files ≤ q). get_or_past regs.0 q 0 (omega (arith, past', regs.1)))
               (cases_lt q (length (unit_of d u).files));
         },
       )
@@ -223,9 +222,6 @@ module _ (g : Graph) (d : Datapath) (p : Plan) (machine : IsMachine d) (plan : I
         → Contains issues issue
         → (v : ℕ) × (v < length (nodes_of p)) × (cycle_at p v ≡ c) × IsIssueOf d p v n issue
     pub order : AllPairs (λ (a b : Issue). a.unit < b.unit) issues
-
-  one_in : {A : Type 0} (x : A) → Contains (x ∷ []) x
-  one_in x = (0, omega arith, refl)
 
   abbrev no_issue : Issue
   no_issue = record { unit = 0; op = op.Const; fmt = (node_at p 0).fmt; arg = (node_at p 0).arg; regs = [] }

@@ -6,6 +6,8 @@ use Rattle.std.specs.Prelude.{◌-ℤ◌}
 use Rattle.std.specs.Int.{int_rem_euclid}
 use Rattle.std.specs.List.{find, AllPairs}
 use Rattle.std.proofs.Math.Nat.{add-mul-mod_self_left, add-mul-div_left, mod-eq_of_lt, div-eq_of_lt, mod-lt}
+use Rattle.std.proofs.lemmas.Bool.{eqb-true}
+use Rattle.lists.proofs.Places.{one_in}
 use Rattle.fix_word.specs.declared.operation.Op.TheVariants.{Addr}
 use Rattle.plan_core.specs.Hardware.{latency_on, gap_on, cells_on, tie_of, port_of}
 use Rattle.plan_core.specs.declared.schedule.Transfer.{Transfer}
@@ -19,6 +21,7 @@ use Rattle.micro_image.specs.declared.image.Take.{Take}
 use Rattle.micro_image.specs.declared.image.Word.{Word}
 use Rattle.micro_image.specs.Fields.{nth, unit_of, issue_at}
 use Rattle.micro_image.proofs.Each.{In, here, there}
+use Rattle.micro_image.proofs.Echo.{drive}
 use Rattle.plan_soundness.specs.Parts.{nodes_of, node_at, edge_at, unit_at, cycle_at, arc_at, line_at}
 use Rattle.plan_soundness.specs.Parts.{register_at, ends_at}
 use Rattle.plan_soundness.specs.Parts.{IsTransferOf}
@@ -26,8 +29,6 @@ use Rattle.plan_soundness.specs.Run.{RunsSolutionLate}
 use Rattle.plan_soundness.specs.Samples.{past}
 use Rattle.plan_soundness.specs.Overlap.{shift_of}
 use Rattle.plan_soundness.specs.Executes.{register_in, IsCellArg, IsIssueIn, IsTakeIn, IsEnableOf, ExecutesOver}
-use Rattle.plan_soundness.proofs.Accumulator.{one_in}
-use Rattle.plan_soundness.proofs.FromImage.{is_number}
 use Rattle.plan_soundness.proofs.Elements.{find_among}
 use Rattle.plan_soundness.proofs.RunsSolution.{executed_runs}
 use Rattle.plan_soundness.proofs.Samples.{split}
@@ -216,21 +217,21 @@ IssuesNode t u =
 first_issues : (m u : ℕ) (x : Issue) → In x (word_in m 0).issues → (x.unit == u) ≡ true → IssuesNode (m * 2 + 0) u
 first_issues zero u x among =
     of_two (λ (x : Issue). (x.unit == u) ≡ true → IssuesNode 0 u) (issue 0) (issue 3) x among
-    (λ e. (0, 0, omega arith, is_number 0 u e, refl)) (λ e. (3, 0, omega arith, is_number 6 u e, refl))
+    (λ e. (0, 0, omega arith, eqb-true 0 u e, refl)) (λ e. (3, 0, omega arith, eqb-true 6 u e, refl))
 first_issues (suc m) u x among =
     of_four (λ (x : Issue). (x.unit == u) ≡ true → IssuesNode (suc m * 2 + 0) u) (issue 0) (issue 2) (issue 3) (issue 5)
-    x among (λ e. (0, suc m, omega arith, is_number 0 u e, refl))
-    (λ e. (2, m, omega arith, is_number 5 u e, even_later m))
-    (λ e. (3, suc m, omega arith, is_number 6 u e, refl)) (λ e. (5, m, omega arith, is_number 2 u e, even_later m))
+    x among (λ e. (0, suc m, omega arith, eqb-true 0 u e, refl))
+    (λ e. (2, m, omega arith, eqb-true 5 u e, even_later m))
+    (λ e. (3, suc m, omega arith, eqb-true 6 u e, refl)) (λ e. (5, m, omega arith, eqb-true 2 u e, even_later m))
 
 second_issues : (m u : ℕ) (x : Issue) → In x (word_in m 1).issues → (x.unit == u) ≡ true → IssuesNode (m * 2 + 1) u
 second_issues zero u x among =
     of_two (λ (x : Issue). (x.unit == u) ≡ true → IssuesNode 1 u) (issue 1) (issue 4) x among
-    (λ e. (1, 0, omega arith, is_number 6 u e, refl)) (λ e. (4, 0, omega arith, is_number 5 u e, refl))
+    (λ e. (1, 0, omega arith, eqb-true 6 u e, refl)) (λ e. (4, 0, omega arith, eqb-true 5 u e, refl))
 second_issues (suc m) u x among =
     of_three (λ (x : Issue). (x.unit == u) ≡ true → IssuesNode (suc m * 2 + 1) u) (issue 1) (issue 4) (issue 6) x among
-    (λ e. (1, suc m, omega arith, is_number 6 u e, refl)) (λ e. (4, suc m, omega arith, is_number 5 u e, refl))
-    (λ e. (6, m, omega arith, is_number 7 u e, odd_later m))
+    (λ e. (1, suc m, omega arith, eqb-true 6 u e, refl)) (λ e. (4, suc m, omega arith, eqb-true 5 u e, refl))
+    (λ e. (6, m, omega arith, eqb-true 7 u e, odd_later m))
 
 issue_only : (t u : ℕ) (x : Issue) → issue_at delayed_micro t u ≡ Some x → IssuesNode t u
 issue_only t u x =
@@ -245,9 +246,6 @@ issue_only t u x =
 
 abbrev took : (unit port bus : ℕ) → Take
 took unit port bus = record { port = port_of unit port; bus = bus; reg = 0 }
-
-abbrev drive : (unit bus : ℕ) → Enable
-drive unit bus = record { unit = unit; bus = bus }
 
 -- who drives a bus in which cycle
 adr_first : (m : ℕ) → find (λ (e : Enable). e.bus == 6) (word_in m 0).enables ≡ Some (drive 6 6)

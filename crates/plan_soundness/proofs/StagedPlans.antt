@@ -5,9 +5,9 @@ use Rattle.fix_word.specs.declared.operation.Op.TheVariants as op
 use Rattle.signal_graph.specs.GraphRules.{IsGraph, IsNode, IsOutput, first_output}
 use Rattle.signal_graph.specs.Rules.{IsType}
 use Rattle.signal_graph.specs.declared.graph.Node.{Node}
+use Rattle.signal_graph.proofs.Examples.{edge}
 use Rattle.plan_core.proofs.Tests.{passed}
 use Rattle.plan_core.proofs.PlanTests.{are_in_files}
-use Rattle.plan_core.proofs.Rows.{edge}
 use Rattle.plan_core.proofs.WorkedStages.{sums, sums_path, sums_plan, sums_are_lowered, sums_assigned}
 use Rattle.plan_core.proofs.WorkedStages.{delayed, held_path, delayed_plan, delayed_is_lowered, delayed_assigned}
 use Rattle.micro_image.proofs.Each.{none, more, All-from_Each}

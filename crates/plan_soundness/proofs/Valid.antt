@@ -1,6 +1,6 @@
 -- The image of a plan is a valid image.
-use Rattle.std.proofs.Common.{◌≡◌, ℕ, zero, suc, ◌+◌, ◌*◌, ◌/◌, ◌%◌, ◌^◌, ◌<◌, ◌≤◌, ◌==◌, ◌⊎◌, inl, inr, ⊎_elim}
-use Rattle.std.proofs.Common.{refl, sym, ap, ◌∙◌, subst, arith, Bool, true, false, List, [], ◌∷◌, length}
+use Rattle.std.proofs.Common.{◌≡◌, ℕ, ◌+◌, ◌*◌, ◌/◌, ◌%◌, ◌^◌, ◌<◌, ◌≤◌, ◌==◌, ◌⊎◌, inl, inr, ⊎_elim}
+use Rattle.std.proofs.Common.{refl, sym, ap, ◌∙◌, subst, arith, Bool, true, false, List, [], length}
 use Rattle.std.proofs.Common.{slice_index_or, map, All, Option, Some, None, ℤ, pos}
 use Rattle.std.specs.Prelude.{slice_get, find, IsSomeAnd, neg_ℤ, ◌≤ℤ◌, ◌<ℤ◌, int_le, int_lt}
 use Rattle.std.proofs.lemmas.Int.{ints}
@@ -22,10 +22,12 @@ use Rattle.signal_graph.specs.Rules.{IsType, word_before, word_or_zero}
 use Rattle.signal_graph.specs.declared.graph.Node.{Node}
 use Rattle.signal_graph.specs.declared.graph.Graph.{Graph}
 use Rattle.signal_graph.proofs.Members.{found_member}
+use Rattle.datapath.proofs.DescribedKeys.{some_at}
 use Rattle.plan_core.specs.Arcs.{IsCount}
 use Rattle.plan_core.specs.Hardware.{unit_of, no_unit, port_of}
 use Rattle.plan_core.specs.IsPlan.{IsPlan}
-use Rattle.plan_core.specs.Lowered.{Origin, own, address, store, load, IsNumber, IsOwnOver, IsLoweredOver, IsAddress, IsStore, IsLoad}
+use Rattle.plan_core.specs.Lowered.{Origin, own, address, store, load, IsNumber, IsOwnOver, IsLoweredOver, IsAddress}
+use Rattle.plan_core.specs.Lowered.{IsStore, IsLoad}
 use Rattle.plan_core.specs.Operands.{node_of}
 use Rattle.plan_core.specs.declared.plan.Plan.{Plan}
 use Rattle.micro_image.specs.declared.image.UnitDesc.{UnitDesc}
@@ -127,14 +129,6 @@ module _ {hold spare : ℕ} (g : Graph) (d : Datapath) (p : Plan) (sound : IsGra
           made_as g d p sound lowered assigned (load v ago) i number in
           no_inits _ k (ap (λ (node : Node). node.inits) made.is)
 
-some_is_at : {A : Type 0} (P : A → Type 0) (xs : List A) (k : ℕ) (default : A)
-    → IsSomeAnd (slice_get xs k) P
-    → (k < length xs) × P (slice_index_or xs k default)
-some_is_at P [] k default h = absurd h
-some_is_at P (x ∷ xs) zero default h = (omega arith, h)
-some_is_at P (x ∷ xs) (suc k) default h =
-    let rest = some_is_at P xs k default h in (omega (arith, rest.0), rest.1)
-
 module _ (g : Graph) (d : Datapath) (p : Plan) (sound : IsGraph g) (machine : IsMachine d) (plan : IsFeasiblePlan g d p)
     (image : Image) (is : IsImageOf d p image) where
   feasible : IsFeasible d p
@@ -150,7 +144,8 @@ module _ (g : Graph) (d : Datapath) (p : Plan) (sound : IsGraph g) (machine : Is
       absurd (never (subst IsMachineWord
       (sym (is.starts.other_register port reg (λ k i ago (of : IsPreloadOf d p port reg k i ago).
       never (subst IsMachineWord (sym (is.starts.register port reg k i ago of))
-      (word_of_node g d p sound plan.lowered plan.assigned (arc_at p k).node ago (feasible.arcs k of.preload.there).node)))))
+      (word_of_node g d p sound plan.lowered plan.assigned (arc_at p k).node ago
+       (feasible.arcs k of.preload.there).node)))))
       zero_word)))
       (word_cases (initial (microprogram_of image) (Register port.unit port.port reg)))
 
@@ -162,7 +157,8 @@ module _ (g : Graph) (d : Datapath) (p : Plan) (sound : IsGraph g) (machine : Is
       absurd (never (subst IsMachineWord
       (sym (is.starts.other_cell ram cell (λ l ago (of : IsCellPreload p ram cell l ago).
       never (subst IsMachineWord (sym (is.starts.cell ram cell l ago of))
-      (word_of_node g d p sound plan.lowered plan.assigned (line_at p l).node ago (feasible.memory.lines l of.there).node)))))
+      (word_of_node g d p sound plan.lowered plan.assigned (line_at p l).node ago
+       (feasible.memory.lines l of.there).node)))))
       zero_word)))
       (word_cases (initial (microprogram_of image) (Cell ram cell)))
 
@@ -186,7 +182,7 @@ module _ (g : Graph) (d : Datapath) (p : Plan) (sound : IsGraph g) (machine : Is
         no_cells = λ other.
             nil_from_length (described image u).cells (its.cells ∙ unit.no_cells (λ ram. other (its.kind ∙ ram)));
         ram = λ acu.
-            let at = some_is_at (λ (other : of_unit.Unit). other.kind ≡ kind.Ram) d.units (unit_of d u).ram no_unit
+            let at = some_at (λ (other : of_unit.Unit). other.kind ≡ kind.Ram) d.units (unit_of d u).ram no_unit
             (unit.ram (sym its.kind ∙ acu)) in
             ram_there (described image u).ram (unit_of d u).ram its.ram at.0 at.1;
         no_ram = λ other. its.ram ∙ unit.no_ram (λ acu. other (its.kind ∙ acu));

@@ -5,7 +5,7 @@ use Rattle.std.specs.Prelude.{slice_get, IsSomeAnd}
 use Rattle.std.specs.List.{AllPairs, AllAdjacentBelow}
 use Rattle.std.specs.List.Sorted.{IsStrictlyIncreasing}
 use Rattle.std.proofs.lemmas.Bool.{cases_lt}
-use Rattle.std.proofs.lemmas.List.{get_or-map, length-map}
+use Rattle.std.proofs.lemmas.List.{get_or-map, length-map, get_or_past}
 use Rattle.std.proofs.lemmas.Option.{slice_get-get_or, same_Some}
 use Rattle.std.proofs.Math.Nat.{mod-lt, mod-eq_of_lt}
 use Rattle.std.proofs.lemmas.List.Elements.{All-contains}
@@ -22,7 +22,8 @@ use Rattle.signal_graph.specs.declared.graph.Node.{Node}
 use Rattle.signal_graph.specs.declared.graph.Graph.{Graph}
 use Rattle.plan_core.specs.Hardware.{unit_of, no_unit, file_size, cells_on, port_of}
 use Rattle.plan_core.specs.Operands.{node_of}
-use Rattle.plan_core.specs.Lowered.{Origin, own, address, store, load, IsNumber, IsOwn, IsOwnOver, IsLoweredOver, IsAddress, IsStore, IsLoad}
+use Rattle.plan_core.specs.Lowered.{Origin, own, address, store, load, IsNumber, IsOwn, IsOwnOver, IsLoweredOver}
+use Rattle.plan_core.specs.Lowered.{IsAddress, IsStore, IsLoad}
 use Rattle.plan_core.specs.declared.delay_lines.Line.{Line}
 use Rattle.plan_core.specs.declared.schedule.Transfer.{Transfer}
 use Rattle.plan_core.specs.declared.plan.Plan.{Plan}
@@ -43,7 +44,7 @@ use Rattle.plan_soundness.specs.Overlap.{Overlap}
 use Rattle.plan_soundness.specs.Units.{AreOnRightUnits}
 use Rattle.plan_soundness.specs.Feasible.{IsFeasible, IsFeasiblePlan, IsFeasiblePlanOver}
 use Rattle.plan_soundness.proofs.Ordinary.{delay_in, room}
-use Rattle.plan_soundness.proofs.Elements.{default_any, nth_past}
+use Rattle.plan_soundness.proofs.Elements.{default_any}
 use Rattle.plan_soundness.proofs.FromImage.{described, copy_read}
 use Rattle.plan_soundness.proofs.FromLowered.{made_at, made_as, own_below, graph_node, line_is, line_for}
 use Rattle.plan_soundness.proofs.Origins.{numbered}
@@ -98,7 +99,10 @@ some_at P xs k default below is = subst (λ o. IsSomeAnd o P) (sym (slice_get-ge
 
 -- The fields of issues.
 
-pub format_for : (o : Op) (fmt : Format) → IsOfGraphs (class_of o) → IsNodeFormat (class_of o) fmt → valid.IsFormatFor o fmt
+pub format_for : (o : Op) (fmt : Format)
+    → IsOfGraphs (class_of o)
+    → IsNodeFormat (class_of o) fmt
+    → valid.IsFormatFor o fmt
 format_for op.Load fmt of is = absurd of
 format_for op.Store fmt of is = absurd of
 format_for op.Addr fmt of is = absurd of
@@ -308,7 +312,9 @@ module _ (g : Graph) (d : Datapath) (p : Plan) (sound : IsGraph g) (machine : Is
         does = ap kind_of of.op
             ∙ sym ((plan.assigned.right v in-v).kind.kind)
             ∙ sym (its_unit u below).kind;
-        fmt = format_by issue.op (node_at p v).op issue.fmt (node_at p v).fmt of.op of.fmt (made_format g d p sound plan.lowered plan.assigned v in-v);
+        fmt =
+            format_by issue.op (node_at p v).op issue.fmt (node_at p v).fmt of.op of.fmt
+            (made_format g d p sound plan.lowered plan.assigned v in-v);
         arg = subst (λ outs. valid.IsArgument issue.op (length image.inputs) outs issue.arg) (sym outs_are)
             (subst (λ inputs. valid.IsArgument issue.op inputs g.outs issue.arg) (sym inputs_are)
             (argument_by issue.op (node_at p v).op (length g.inputs) g.outs issue.arg (node_at p v).arg of.op of.arg
@@ -439,7 +445,7 @@ module _ (g : Graph) (d : Datapath) (p : Plan) (sound : IsGraph g) (machine : Is
           file_there files q some =
               ⊎_elim
               (λ (there : q < length files). there)
-              (λ (past' : length files ≤ q). absurd (omega (arith, some, nth_past files q 0 past')))
+              (λ (past' : length files ≤ q). absurd (omega (arith, some, get_or_past files q 0 past')))
               (cases_lt q (length files))
 
           unit_there : (u q : ℕ) → 0 < slice_index_or (unit_of d u).files q 0 → u < length d.units
@@ -451,7 +457,7 @@ module _ (g : Graph) (d : Datapath) (p : Plan) (sound : IsGraph g) (machine : Is
                 arith,
                 some,
                 ap (λ unit. slice_index_or unit.files q 0)
-                    (nth_past d.units u no_unit past'),
+                    (get_or_past d.units u no_unit past'),
               )))
               (cases_lt u (length d.units))
 

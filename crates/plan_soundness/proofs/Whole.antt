@@ -20,7 +20,7 @@ use Rattle.plan_soundness.specs.Private.Solution.{Counted, LoweredSolves}
 use Rattle.plan_soundness.specs.Feasible.{IsFeasibleOver}
 use Rattle.plan_soundness.specs.Executes.{ExecutesOver}
 use Rattle.std.proofs.Math.Nat.{mul-le-mul_right}
-use Rattle.plan_soundness.proofs.Elements.{nth_past}
+use Rattle.std.proofs.lemmas.List.{get_or_past}
 use Rattle.plan_soundness.proofs.Contents.{latch_right, latch_first}
 use Rattle.plan_soundness.proofs.Clear.{clear}
 
@@ -61,10 +61,10 @@ sample_rows d micro stream period n c below =
     (λ (in-n : n < length stream).
     ap (λ q. nth (spread q stream) (n * d.period + c) []) period ∙ nth-spread d.period stream n c in-n below)
     (λ (le : length stream ≤ n).
-    nth_past (spread micro.period stream) (n * d.period + c) []
+    get_or_past (spread micro.period stream) (n * d.period + c) []
     (let whole : length stream * d.period ≤ n * d.period = mul-le-mul_right d.period le in
     omega (arith, whole, long))
-    ∙ sym (nth_past stream n [] le))
+    ∙ sym (get_or_past stream n [] le))
     (cases_lt n (length stream))
   where
     long : length (spread micro.period stream) ≡ length stream * d.period

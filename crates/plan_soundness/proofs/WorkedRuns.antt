@@ -7,7 +7,7 @@ use Rattle.operations.specs.Operations.{plain}
 use Rattle.operations.specs.Units.{ports}
 use Rattle.datapath.specs.Values.{is_name}
 use Rattle.std.proofs.lemmas.Int.{ints}
-use Rattle.fix_word.specs.Words.{IsWidth, IsWord, IsFormat}
+use Rattle.fix_word.specs.Words.{IsWord, IsFormat}
 use Rattle.fix_word.specs.declared.operation.Op.TheVariants as op
 use Rattle.operations.specs.declared.units.Kind.TheVariants as kind
 use Rattle.datapath.specs.Allowed.{IsUnit}
@@ -18,7 +18,9 @@ use Rattle.signal_graph.specs.Rules.{AreInits, IsType}
 use Rattle.signal_graph.specs.declared.graph.Edge.{Edge}
 use Rattle.signal_graph.specs.declared.graph.Node.{Node}
 use Rattle.signal_graph.specs.declared.graph.Graph.{Graph}
-use Rattle.plan_core.proofs.Rows.{plain_path, byte, edge, input_node, sum_node, output_node, accumulator}
+use Rattle.signal_graph.proofs.SoundExamples.{eight_bits as a_width}
+use Rattle.signal_graph.proofs.Examples.{edge, input_node, byte}
+use Rattle.plan_core.proofs.Rows.{plain_path, sum_node, output_node, accumulator}
 use Rattle.plan_core.proofs.Rows.{accumulator_plan, held_difference, held_difference_plan}
 use Rattle.plan_core.proofs.WorkedPlans.{accumulator_planned, held_difference_planned}
 use Rattle.micro_image.specs.declared.image.Image.{Image}
@@ -46,9 +48,6 @@ five = record {
   words = All-from_Each (λ (i : ℕ × ℤ). IsWord 8 i.1)
       (more (record { low = omega (arith, ints); high = omega (arith, ints) }) none);
 }
-
-a_width : IsWidth 8
-a_width = record { narrowest = omega arith; widest = omega arith }
 
 eight_bits : IsFormat (plain 8)
 eight_bits = record {

@@ -3,22 +3,17 @@ use Rattle.std.proofs.Common.{◌≡◌, refl, arith, ℕ, zero, suc, ◌+◌, �
 use Rattle.std.specs.Prelude.{ℤ, pos, negsuc}
 use Rattle.lists.specs.Rows.{Rows}
 use Rattle.fix_word.specs.Values.{wrap_of}
-use Rattle.fix_word.specs.declared.types.Mode.TheVariants.{Trunc}
-use Rattle.fix_word.specs.declared.types.SigType.{SigType}
-use Rattle.fix_word.specs.declared.types.SigType.TheVariants as sig
 use Rattle.fix_word.specs.declared.operation.Op.TheVariants as op
 use Rattle.signal_graph.specs.Rules.{plain, word_before}
 use Rattle.signal_graph.specs.Flat.{Expr, read, raw, calculation, no_part, part, Body, word, value, Element, Program}
 use Rattle.signal_graph.specs.Values.{Words, body_value}
 use Rattle.signal_graph.specs.FlatSolves.{element_of, FlatSolves, flat_out}
+use Rattle.signal_graph.proofs.Examples.{byte}
 use Rattle.rate_faults.specs.declared.FrameFault.TheVariants.{Word, Ports}
 use Rattle.rate_unfold.specs.Frames.{Rates, place, frame, fast, frame_out}
 use Rattle.rate_unfold.specs.Unfolded.{IsUnfolded, IsBefore}
 use Rattle.rate_unfold.specs.Faults.{IsFrameFault}
 use Rattle.rate_unfold.proofs.UnfoldedElements.{is_unfolded}
-
-abbrev byte : SigType
-byte = sig.Fix (record { shape = record { w = 8; f = 0 }; mode = Trunc })
 
 abbrev add : Expr → Expr → Expr
 add x y = calculation op.Add (plain 8) (part x (part y no_part))

@@ -1,5 +1,5 @@
 -- Frames whose words are in their types give rows whose words are in theirs.
-use Rattle.std.proofs.Common.{◌≡◌, ℕ, zero, suc, ◌+◌, ◌*◌, ◌/◌, ◌%◌, ◌<◌, ◌≤◌, List, [], ◌∷◌, length, get_or, refl, sym}
+use Rattle.std.proofs.Common.{◌≡◌, ℕ, suc, ◌+◌, ◌*◌, ◌/◌, ◌%◌, ◌<◌, ◌≤◌, List, [], ◌∷◌, length, get_or, refl, sym}
 use Rattle.std.proofs.Common.{arith, subst, Bool, true, false, ◌&&◌, if◌then◌else◌}
 use Rattle.std.specs.Prelude.{ℤ, pos, nat_lt, slice_index_or}
 use Rattle.std.specs.List.{AllZip}
@@ -19,6 +19,7 @@ use Rattle.rate_unfold.proofs.FrameRows.{length_frame, frame_at, place_rises, in
 use Rattle.rate_unfold.proofs.UnfoldedSolves.{placed}
 use Rattle.rate_unfold.proofs.UnfoldedValues.{length_fast, fast_row_at}
 use Rattle.std.proofs.lemmas.Nat.{div_below}
+use Rattle.lists.proofs.Zips.{zip_at}
 
 module _ {A B : Type 0} (R : A → B → Type 0) where
   zip_each : (xs : List A) (ys : List B) (d : A) (e : B)
@@ -30,15 +31,6 @@ module _ {A B : Type 0} (R : A → B → Type 0) where
   zip_each (x ∷ xs) [] d e same each = absurd (omega (arith, same))
   zip_each (x ∷ xs) (y ∷ ys) d e same each =
       (each 0 (omega arith), zip_each xs ys d e (omega (arith, same)) (λ i less. each (suc i) (omega arith)))
-
-  zip_at : (xs : List A) (ys : List B) (i : ℕ) (d : A) (e : B)
-      → AllZip R xs ys
-      → i < length xs
-      → R (get_or xs i d) (get_or ys i e)
-  zip_at [] ys i d e all less = absurd (omega arith)
-  zip_at (x ∷ xs) [] i d e all less = absurd all
-  zip_at (x ∷ xs) (y ∷ ys) zero d e all less = all.0
-  zip_at (x ∷ xs) (y ∷ ys) (suc i) d e all less = zip_at xs ys i d e all.1 (omega arith)
 
 zero_in_type : (ty : SigType) → IsInType ty (pos 0)
 zero_in_type (sig.Fix t) = zero_word t.shape.w

@@ -2,6 +2,7 @@
 use Rattle.std.proofs.Common.{◌≡◌, ◌<◌, ◌≤◌, ◌+◌, ◌⊎◌, inl, inr, ℕ, zero, suc, Bool, true, false, cond, refl, sym, ap}
 use Rattle.std.proofs.Common.{◌∙◌, arith}
 use Rattle.std.proofs.lemmas.Bool.{cases_lt}
+use Rattle.lists.proofs.Numbers.{bit_most}
 use Rattle.recurrences.specs.Systems.{System, DependsNow, direct, by_way_of, HasNoDelaylessLoop}
 use Rattle.recurrences.proofs.Determined.{IsDetermined, HasHeights}
 use Rattle.recurrences.proofs.Reach.{Via, last, more, reach, complete, sound}
@@ -14,10 +15,6 @@ counted (suc n) p = cond (p n) 1 0 + counted n p
 bit_le : (a b : Bool) → (a ≡ true → b ≡ true) → cond a 1 0 ≤ cond b 1 0
 bit_le true b h = rw (h refl) (omega arith)
 bit_le false b h = omega arith
-
-bit_most : (a : Bool) → cond a 1 0 ≤ 1
-bit_most true = omega arith
-bit_most false = omega arith
 
 pub counted_most : (n : ℕ) (p : ℕ → Bool) → counted n p ≤ n
 counted_most zero p = omega arith

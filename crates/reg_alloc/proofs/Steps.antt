@@ -43,14 +43,14 @@ on_circle d arc is =
     record { start = is.start; later = is.later; covered = omega (arith, covered, most); count = is.count }
 
 -- the registers of a lifetime before the last one
-register_before : (regs : List (List ℕ)) (last : List ℕ) (l j : ℕ)
+pub register_before : (regs : List (List ℕ)) (last : List ℕ) (l j : ℕ)
     → l < length regs
     → register_of (regs ++ last ∷ []) l j ≡ register_of regs l j
 register_before regs last l j less =
     ap (λ (rs : List ℕ). slice_index_or rs j 0) (get_or_append_left regs (last ∷ []) [] l less)
 
 -- and those of the last one
-register_last : (regs : List (List ℕ)) (last : List ℕ) (k j : ℕ)
+pub register_last : (regs : List (List ℕ)) (last : List ℕ) (k j : ℕ)
     → length regs ≡ k
     → register_of (regs ++ last ∷ []) k j ≡ slice_index_or last j 0
 register_last regs last k j is = ap (λ (rs : List ℕ). slice_index_or rs j 0) (get_or_push regs last [] k is)
@@ -75,24 +75,24 @@ no_register_more : (regs : List (List ℕ)) (last : List ℕ) (k l j : ℕ)
 no_register_more regs last k l j is (inl less) = sym (register_before regs last l j (omega arith))
 no_register_more regs last k l j is (inr here) = let less = here.1 in absurd (omega arith)
 
-listed_more : (l j k i : ℕ) → IsListedBefore l j k (i + 1) → IsListedBefore l j k i ⊎ ((l ≡ k) × (j ≡ i))
+pub listed_more : (l j k i : ℕ) → IsListedBefore l j k (i + 1) → IsListedBefore l j k i ⊎ ((l ≡ k) × (j ≡ i))
 listed_more l j k i (inl less) = inl (inl less)
 listed_more l j k i (inr here) =
     let less = here.1 in
     ⊎_elim (λ (below : j < i). inl (inr (here.0, below))) (λ (above : i ≤ j). inr (here.0, omega arith)) (cases_lt j i)
 
-listed_there : (l j k i n : ℕ) → k < n → IsListedBefore l j k i → l < n
+pub listed_there : (l j k i n : ℕ) → k < n → IsListedBefore l j k i → l < n
 listed_there l j k i n there (inl less) = omega arith
 listed_there l j k i n there (inr here) = let e = here.0 in omega arith
 
 -- of one lifetime, or a copy of a later one
-listed_next : (l j k i : ℕ) → (l ≡ k → j < i) → IsListedBefore l j (k + 1) 0 → IsListedBefore l j k i
+pub listed_next : (l j k i : ℕ) → (l ≡ k → j < i) → IsListedBefore l j (k + 1) 0 → IsListedBefore l j k i
 listed_next l j k i last (inl less) =
     ⊎_elim (λ (below : l < k). inl below)
     (λ (above : k ≤ l). let e : l ≡ k = omega arith in inr (e, last e)) (cases_lt l k)
 listed_next l j k i last (inr here) = let less = here.1 in absurd (omega arith)
 
-listed_back : (l j k i : ℕ) → IsListedBefore l j k i → IsListedBefore l j (k + 1) 0
+pub listed_back : (l j k i : ℕ) → IsListedBefore l j k i → IsListedBefore l j (k + 1) 0
 listed_back l j k i (inl less) = inl (omega arith)
 listed_back l j k i (inr here) = let e = here.0 in inl (omega arith)
 

@@ -3,7 +3,7 @@ mod Machine
 mod Runs
 mod Texts
 mod Bytes
-mod Files
+pub mod Files
 pub mod Streams
 pub mod Widths
 mod Lists

@@ -9,13 +9,14 @@ use Rattle.datapath.specs.declared.types.Unit.{Unit as FunctionalUnit}
 use Rattle.signal_graph.specs.GraphSolves.{no_node}
 use Rattle.signal_graph.specs.declared.graph.Edge.{Edge}
 use Rattle.signal_graph.specs.declared.graph.Node.{Node}
+use Rattle.signal_graph.proofs.Sizes.{few_operands}
 use Rattle.plan_core.specs.Hardware.{no_unit, unit_of, latency_on}
 use Rattle.plan_core.specs.Operands.{node_of, edge_of, no_edge, delay_at, Reads}
 use Rattle.plan_core.specs.Assigned.{unit_in}
 use Rattle.plan_core.specs.Heights.{ReadsNow, latency_of}
 use Rattle.plan_core.specs.declared.schedule.Assigned.{Assigned}
 use Rattle.plan_core.proofs.OneHeight.{live_of}
-use Rattle.plan_core.proofs.Readers.{operands_few, reader_there}
+use Rattle.plan_core.proofs.Readers.{reader_there}
 use Rattle.schedule_priority.specs.Problem.{IsProblem}
 use Rattle.node_order.specs.Topological.{HasOperand, CanBeOrdered}
 use Rattle.node_order.proofs.Operands.{edge_over, read_over}
@@ -78,7 +79,7 @@ module _ (d : Datapath) (a : Assigned) (is : IsProblem d a) where
 
   pub edges_few : (c : ℕ) → c < length a.lowered.nodes → length (node_of a.lowered.nodes c).edges ≤ 3
   edges_few c there =
-      let few = operands_few (node_of a.lowered.nodes c).op in
+      let few = few_operands (node_of a.lowered.nodes c).op in
       let count = is.schedulable.edge_count c no_node there in
       omega arith
 

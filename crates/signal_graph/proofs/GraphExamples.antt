@@ -1,8 +1,9 @@
 -- The graph of the accumulator, and the places of a program with an alias, a Pass and a constant that two parts share.
 use Rattle.std.proofs.Common.{◌≡◌, refl, subst, arith, ℕ, zero, suc, ◌+◌, ◌≤◌, [], ◌∷◌, length}
-use Rattle.std.specs.Prelude.{pos, Option, Some, None, slice_get, map}
+use Rattle.std.specs.Prelude.{pos, Some, slice_get, map}
 use Rattle.std.proofs.lemmas.Int.{ints}
 use Rattle.lists.proofs.Places.{some_is}
+use Rattle.lists.proofs.Options.{no_more}
 use Rattle.fix_word.specs.Words.{IsWord}
 use Rattle.fix_word.specs.declared.operation.Op.TheVariants as op
 use Rattle.signal_graph.specs.Rules.{plain}
@@ -12,9 +13,6 @@ use Rattle.signal_graph.specs.GraphOf.{Site, constant, input, operation, number,
 use Rattle.signal_graph.specs.GraphOf.{word_node, IsNumber, IsNodeOf, input_node, pass_node, own_node, read_alias}
 use Rattle.signal_graph.specs.GraphOf.{IsLeastWidth, IsMade, IsOutputOf, IsGraphOf}
 use Rattle.signal_graph.proofs.Examples.{byte, accumulator, edge, its_graph}
-
-pub no_more : {A : Type 0} (o : Option A) (y : A) → o ≡ None → o ≡ Some y → ⊥
-no_more o y e h = cc
 
 -- the node at a place is made as it stands there
 made_here : (s t : Site) (v : ℕ)

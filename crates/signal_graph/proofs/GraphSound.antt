@@ -70,7 +70,7 @@ width_sound truth fmt is h = record { narrowest = omega arith; widest = omega ar
 width_sound choice fmt is h = h.width
 width_sound _ fmt is h = absurd is
 
-no_inits : (P : ℤ → Type 0) → AreInits P []
+pub no_inits : (P : ℤ → Type 0) → AreInits P []
 no_inits P = record { samples = All-nil _; rise = λ k lt. absurd (omega arith); words = All-nil _ }
 
 module _ (p : Program) where

@@ -34,9 +34,9 @@ pub mod AnySolutions
 pub mod Marks
 pub mod Rows
 pub mod Sizes
-mod Examples
+pub mod Examples
 mod GraphExamples
-mod SoundExamples
+pub mod SoundExamples
 mod ModeExamples
 mod PrunedExample
 mod KeepsExample

@@ -11,17 +11,9 @@ use Rattle.std.proofs.lemmas.List.Quantifiers.{position-Some}
 use Rattle.std.proofs.lemmas.List.Sums.{fails_before_first}
 use Rattle.std.proofs.lemmas.Option.{slice_get-get_or, slice_get_within, get_or_from_slice_get, none-some, same_Some}
 pub use Rattle.lists.proofs.Places.{contains_at as at_member, place_of as member_at}
+pub use Rattle.lists.proofs.Places.{in_first, in_rest, first_or_rest, found_member}
 
 module _ {A : Type 0} where
-  pub in_first : (x : A) (xs : List A) → Contains (x ∷ xs) x
-  in_first x xs = (0, omega arith, refl)
-
-  pub in_rest : (x v : A) (xs : List A) → Contains xs v → Contains (x ∷ xs) v
-  in_rest x v xs (k, lt, h) = (suc k, omega arith, h)
-
-  pub first_or_rest : (x v : A) (xs : List A) → Contains (x ∷ xs) v → (x ≡ v) ⊎ Contains xs v
-  first_or_rest x v xs (zero, lt, h) = inl h
-  first_or_rest x v xs (suc k, lt, h) = inr (k, omega arith, h)
 
   pub in_none : (v : A) → Contains [] v → ⊥
   in_none v (k, lt, h) = omega arith
@@ -145,19 +137,6 @@ module _ {A : Type 0} where
       let number : 0 + k ≡ k = omega arith in
       subst (λ (j : ℕ). slice_get xs j ≡ Some i.1) (sym number ∙ ap (λ (j : ℕ × A). j.0) same)
       (slice_get-get_or xs k i.1 below ∙ ap (λ (j : ℕ × A). Some j.1) same)
-
-module _ {A : Type 0} (test : A → Bool) where
-  pub found_member : (xs : List A) (y : A) → find test xs ≡ Some y → Contains xs y
-  found_member [] y h = absurd (none-some y h)
-  found_member (z ∷ zs) y h = by (test z) refl (λ i. found_member zs y i) h
-    where
-      by : (b : Bool)
-          → test z ≡ b
-          → (find test zs ≡ Some y → Contains zs y)
-          → cond b (Some z) (find test zs) ≡ Some y
-          → Contains (z ∷ zs) y
-      by true e rest i = (0, omega arith, same_Some z y i)
-      by false e rest i = in_rest z y zs (rest i)
 
 -- lists that are related place by place
 pub zip_length : {A B : Type 0} (R : A → B → Type 0) (xs : List A) (ys : List B)

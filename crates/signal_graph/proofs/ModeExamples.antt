@@ -4,6 +4,7 @@ use Rattle.std.specs.Prelude.{ℤ, pos, negsuc, map}
 use Rattle.std.proofs.Math.Pow.{pow_mono}
 use Rattle.std.proofs.lemmas.Bool.{cases_lt}
 use Rattle.std.proofs.lemmas.Int.{ints}
+use Rattle.std.proofs.lemmas.List.Elements.{All-nil}
 use Rattle.fix_word.specs.Words.{IsWord, IsWidth, IsMachineWord}
 use Rattle.fix_word.specs.Values.{wrap_of, clip_of}
 use Rattle.fix_word.specs.declared.types.Format.{Format}
@@ -20,7 +21,8 @@ use Rattle.signal_graph.specs.GraphOf.{IsLeastWidth}
 use Rattle.signal_graph.specs.Values.{value_of}
 use Rattle.signal_graph.specs.declared.graph.Graph.{Graph}
 use Rattle.signal_graph.specs.declared.graph.Node.{Node}
-use Rattle.signal_graph.proofs.SoundExamples.{none, one, no_inits}
+use Rattle.signal_graph.proofs.SoundExamples.{one}
+use Rattle.signal_graph.proofs.GraphSound.{no_inits}
 
 abbrev fixed : (w f : ℕ) → Mode → SigType
 fixed w f mode = sig.Fix (record { shape = record { w = w; f = f }; mode = mode })
@@ -138,7 +140,7 @@ constant_sound g = record {
   fmt = refl;
   arg = highest_word;
   edge_count = refl;
-  edges = none _;
+  edges = All-nil _;
   inits = no_inits _;
   width = forty_bits;
 }

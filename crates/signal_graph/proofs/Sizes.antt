@@ -8,7 +8,7 @@ use Rattle.signal_graph.specs.Flat.{size_of_parts, Program, view_expr}
 use Rattle.signal_graph.specs.Expressions.{view_exprs, operation_count, operation_count_of_parts}
 use Rattle.signal_graph.specs.FlatRules.{IsExpr, AreExprs}
 
-few_operands : (o : Op) → operands o ≤ 3
+pub few_operands : (o : Op) → operands o ≤ 3
 few_operands o = search arith
 
 mutual

@@ -2,7 +2,7 @@
 use Rattle.std.proofs.Common.{◌≡◌, refl, arith, ℕ, zero, suc, ◌+◌, ◌<◌, [], ◌∷◌}
 use Rattle.std.specs.Prelude.{◌≢◌, ℤ, pos, All, IsSomeAnd, slice_get}
 use Rattle.std.proofs.lemmas.Int.{ints}
-use Rattle.std.proofs.lemmas.List.Elements.{All-cons}
+use Rattle.std.proofs.lemmas.List.Elements.{All-cons, All-nil}
 use Rattle.fix_word.specs.Words.{IsWord, IsWidth, IsFormat}
 use Rattle.fix_word.specs.declared.operation.Op.TheVariants as op
 use Rattle.signal_graph.specs.declared.graph.Node.{Node}
@@ -11,17 +11,15 @@ use Rattle.signal_graph.specs.Flat.{raw, read, calculation, no_part, part, word}
 use Rattle.signal_graph.specs.FlatRules.{IsExpr, Fits, IsElement, IsFlat}
 use Rattle.signal_graph.specs.GraphRules.{IsEdge, IsNode, first_output, IsOutput, IsGraph}
 use Rattle.signal_graph.proofs.Examples.{byte, sum, accumulator, edge, input_node, sum_node, output_node, its_graph}
-
-pub none : {A : Type 0} (P : A → Type 0) → All P []
-none P k d lt = absurd (omega arith)
+use Rattle.signal_graph.proofs.GraphSound.{no_inits}
 
 pub one : {A : Type 0} (P : A → Type 0) (x : A) → P x → All P (x ∷ [])
-one P x h = All-cons P x [] h (none P)
+one P x h = All-cons P x [] h (All-nil P)
 
 two : {A : Type 0} (P : A → Type 0) (x y : A) → P x → P y → All P (x ∷ y ∷ [])
 two P x y g h = All-cons P x (y ∷ []) g (one P y h)
 
-eight_bits : IsWidth 8
+pub eight_bits : IsWidth 8
 eight_bits = record { narrowest = omega arith; widest = omega arith }
 
 shape : IsType byte
@@ -32,9 +30,6 @@ format = record { lowest = omega (arith, ints); highest = omega (arith, ints); w
 
 five : IsWord 8 (pos 5)
 five = record { low = omega (arith, ints); high = omega (arith, ints) }
-
-pub no_inits : (P : ℤ → Type 0) → AreInits P []
-no_inits P = record { samples = none _; rise = λ k lt. absurd (omega arith); words = none _ }
 
 five_before : (P : ℤ → Type 0) → P (pos 5) → AreInits P ((1, pos 5) ∷ [])
 five_before P h = record {
@@ -100,7 +95,7 @@ input_node_sound = record {
   fmt = refl;
   arg = omega arith;
   edge_count = refl;
-  edges = none _;
+  edges = All-nil _;
   inits = no_inits _;
   width = eight_bits;
 }

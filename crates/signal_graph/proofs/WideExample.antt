@@ -5,6 +5,7 @@ use Rattle.std.specs.Prelude.{ℤ, pos, negsuc, slice_get, slice_index_or, Some}
 use Rattle.std.proofs.lemmas.Int.{ints}
 use Rattle.lists.proofs.Places.{some_is}
 use Rattle.lists.specs.Rows.{Rows}
+use Rattle.lists.proofs.Options.{no_more}
 use Rattle.recurrences.specs.Kept.{KeepsSolutions}
 use Rattle.fix_word.specs.Values.{wrap_of}
 use Rattle.fix_word.specs.declared.operation.Op.TheVariants as op
@@ -18,7 +19,6 @@ use Rattle.signal_graph.specs.Keeps.{IsElementNode, AreEqualWords}
 use Rattle.signal_graph.specs.declared.graph.Node.{Node}
 use Rattle.signal_graph.specs.declared.graph.Graph.{Graph}
 use Rattle.signal_graph.proofs.Examples.{byte, edge, input_node as input, output_node}
-use Rattle.signal_graph.proofs.GraphExamples.{no_more}
 
 abbrev late : Program
 late = record {

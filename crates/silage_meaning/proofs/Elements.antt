@@ -4,7 +4,8 @@ use Rattle.std.proofs.Common.{cond, List, [], ◌∷◌, ◌++◌, find, slice_g
 use Rattle.std.specs.Prelude.{bytes_eq}
 use Rattle.std.specs.List.{enumerate_from}
 use Rattle.std.proofs.lemmas.Nat.{row_fits}
-use Rattle.lists.proofs.Places.{some_once}
+use Rattle.std.proofs.NetLemmas.Options.{same_parts}
+use Rattle.lists.proofs.Places.{at_left}
 use Rattle.silage_syntax.specs.declared.tree.Decl.{Decl}
 use Rattle.silage_syntax.specs.Tree.{Manifest, Place, Expr, literal, read, negate, not, binary, shift, cast, choose}
 use Rattle.silage_syntax.specs.Tree.{Branches, no_branch, branch, Func, Program}
@@ -14,16 +15,7 @@ use Rattle.silage_meaning.specs.Instances.{Element, element, IsInstance, inside_
 use Rattle.silage_meaning.specs.Instances.{Call, made, result_of}
 use Rattle.silage_meaning.specs.Solves.{Source, IsDefined, input, equated, argument, array, table, result, array_result}
 use Rattle.silage_meaning.specs.Rules.{ReadsAt, reads_at, Reads, BranchesRead, SourceReads}
-use Rattle.silage_meaning.proofs.Outputs.{in_second, in_first}
-
-first_of_pair : {A B : Type 0} (a c : A) (b d : B)
-    → ◌≡◌ {A = Option (A × B)} (Some (a, b)) (Some (c, d))
-    → (a ≡ c) × (b ≡ d)
-first_of_pair {A} {B} a c b d e =
-    let left : A × B = (a, b) in
-    let right : A × B = (c, d) in
-    let same : left ≡ right = some_once refl e in
-    (ap (λ (x : A × B). x.0) same, ap (λ (x : A × B). x.1) same)
+use Rattle.silage_meaning.proofs.Outputs.{in_second}
 
 module _ {A : Type 0} (test : A → Bool) where
   abbrev numbered : ℕ → List A → Option (ℕ × A)
@@ -41,7 +33,7 @@ module _ {A : Type 0} (test : A → Bool) where
           → cond b (Some (n, y)) (numbered (n + 1) ys) ≡ Some (i, x)
           → (k : ℕ) × (i ≡ n + k) × (slice_get (y ∷ ys) k ≡ Some x)
       by_test true rest e =
-          let same : (n ≡ i) × (y ≡ x) = first_of_pair n i y x e in
+          let same : (n ≡ i) × (y ≡ x) = same_parts n i y x e in
           let number : n ≡ i = same.0 in
           (0, omega (arith, number), ap Some same.1)
       by_test false rest e =
@@ -123,7 +115,7 @@ module _ (p : Program) where
         instance = made_is s c;
         declared =
             in_second c.callee.params (c.callee.results ++ c.callee.locals) r
-            ∙ in_first c.callee.results c.callee.locals r decl at;
+            ∙ at_left c.callee.results c.callee.locals r decl at;
         offset = below;
       }
 

@@ -10,7 +10,7 @@ use Rattle.silage_meaning.specs.Instances.{inside_is, HasCallsApart, Site, Call,
 same_name : (ps qs : List Place) (f h : List ℕ) (xs ys : List Expr) (i j : ℕ) → call ps f xs i ≡ call qs h ys j → f ≡ h
 same_name ps qs f h xs ys i j e = cc
 
-inside_once : (i j : Instance) (a b : Step) → inside i a ≡ inside j b → (i ≡ j) × (a ≡ b)
+pub inside_once : (i j : Instance) (a b : Step) → inside i a ≡ inside j b → (i ≡ j) × (a ≡ b)
 inside_once i j a b e = (cc, cc)
 
 same_site : (i j : Instance) (f g : Func) (a b : Indices) (s t : Site)

@@ -1,5 +1,5 @@
 -- Words that are the same have the same output rows.
-use Rattle.std.proofs.Common.{◌≡◌, refl, sym, subst, ◌∙◌, ap, ap₂, arith, ℕ, zero, suc, ◌+◌, List, [], ◌∷◌}
+use Rattle.std.proofs.Common.{◌≡◌, refl, sym, subst, ◌∙◌, ap, ap₂, arith, ℕ, suc, ◌+◌, List, [], ◌∷◌}
 use Rattle.std.proofs.Common.{◌++◌, map, length, slice_get, Option, Some, None, ℤ, pos}
 use Rattle.std.specs.List.{range_with_len}
 use Rattle.std.proofs.lemmas.Int.{ints}
@@ -12,6 +12,7 @@ use Rattle.silage_meaning.specs.Instances.{Instance, main, Element, element, mai
 use Rattle.silage_meaning.specs.Instances.{results_of, outputs}
 use Rattle.silage_meaning.specs.Value.{Words}
 use Rattle.lists.specs.Rows.{Rows}
+use Rattle.lists.proofs.Places.{at_left}
 use Rattle.silage_meaning.specs.Solves.{AreSame, out}
 
 map_twice : (g : Element → ℤ) (i : Instance) (d : ℕ) (ks : List ℕ)
@@ -29,11 +30,6 @@ in_second (x ∷ xs) ys k = ap (slice_get (x ∷ xs ++ ys)) (more (length xs) k)
   where
     more : (n k : ℕ) → suc n + k ≡ suc (n + k)
     more n k = omega arith
-
-pub in_first : {A : Type 0} (xs ys : List A) (k : ℕ) (x : A) → slice_get xs k ≡ Some x → slice_get (xs ++ ys) k ≡ Some x
-in_first [] ys k x e = cc
-in_first (y ∷ xs) ys zero x e = e
-in_first (y ∷ xs) ys (suc k) x e = in_first xs ys k x e
 
 module _ (p : Program) (f : Func) (is : main_of p ≡ Some f) (g h : Element → ℤ)
     (same : (e : Element) → IsElement p e → g e ≡ h e) where
@@ -70,7 +66,7 @@ module _ (p : Program) (f : Func) (is : main_of p ≡ Some f) (g h : Element →
       ≡ map h (elements_from main (length f.params) f.results)
   results_same =
       elements_same f.results (length f.params)
-      (λ k x e. in_second f.params (f.results ++ f.locals) k ∙ in_first f.results f.locals k x e)
+      (λ k x e. in_second f.params (f.results ++ f.locals) k ∙ at_left f.results f.locals k x e)
 
 row_same : (p : Program) (o : Option Func)
     → main_of p ≡ o

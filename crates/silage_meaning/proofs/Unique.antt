@@ -14,6 +14,7 @@ use Rattle.silage_syntax.specs.Tree.{Program}
 use Rattle.silage_meaning.specs.Instances.{Element, IsElement}
 use Rattle.silage_meaning.specs.Value.{Words}
 use Rattle.lists.specs.Rows.{Rows}
+use Rattle.lists.proofs.Numbers.{now_is}
 use Rattle.silage_meaning.specs.Solves.{Source, IsDefined, IsPreset, IsInitial, Solves, AreSame}
 use Rattle.silage_meaning.specs.Rules.{HasSingleDefinitions, SourceReads, NeedsNow}
 use Rattle.silage_meaning.proofs.Values.{raw_word_once}
@@ -32,9 +33,6 @@ initial_once p e j v w x y = by_test (int_eq v w) (Decides-int_eq v w)
         let none : (l : Lit) (ty : SigType) → IsPreset p e j l ty → ⊥ = λ l ty given.
         apart (raw_word_once l ty v w (x.given l ty given) (y.given l ty given)) in
         x.absent none ∙ sym (y.absent none)
-
-now_is : (n : ℕ) → pos n ≡ pos n -ℤ pos 0
-now_is n = omega (arith, ints)
 
 -- where a read looks: at this sample, at an earlier one, or before all samples
 pub data When (n ago : ℕ) : Type 0 where

@@ -1,5 +1,5 @@
 -- An expression has one value at most.
-use Rattle.std.proofs.Common.{◌≡◌, refl, sym, subst, ◌∙◌, ap, ap₂, ℕ, ◌^◌, ◌⊎◌, inl, inr, true, false, List, [], ◌∷◌}
+use Rattle.std.proofs.Common.{◌≡◌, refl, sym, subst, ◌∙◌, ap, ap₂, ℕ, ◌^◌, ◌⊎◌, true, false, List, [], ◌∷◌}
 use Rattle.std.proofs.Common.{Option, Some, None, ℤ, pos, ◌+ℤ◌, ◌-ℤ◌, ◌*ℤ◌, neg_ℤ}
 use Rattle.lists.proofs.Places.{some_once}
 use Rattle.fix_word.specs.Operations.{IsTruth, IsSet, IsChoice}
@@ -8,6 +8,7 @@ use Rattle.fix_word.proofs.Forms.{fit_unique, form_unique}
 use Rattle.fix_word.specs.declared.types.FixType.{FixType}
 use Rattle.fix_word.specs.declared.types.SigType.{SigType}
 use Rattle.fix_word.specs.declared.types.SigType.TheVariants as sig
+use Rattle.fix_word.proofs.Operations.{truth_unique, choice_unique}
 use Rattle.silage_syntax.specs.declared.tree.BinOp.TheVariants as op
 use Rattle.silage_syntax.specs.declared.tree.ConstDef.{ConstDef}
 use Rattle.silage_syntax.specs.declared.tree.Decl.{Decl}
@@ -66,18 +67,6 @@ raw_word_once (Number negative digits places at) sig.Bool v w x y = absurd x
 raw_word_once (Truth value at) (sig.Fix t) v w x y = absurd x
 raw_word_once (Truth value at) sig.Bool v w x y = x ∙ sym y
 
-pub truth_once : (P : Type 0) (v w : ℤ) → IsTruth P v → IsTruth P w → v ≡ w
-truth_once P v w (inl x) (inl y) = x.1 ∙ sym y.1
-truth_once P v w (inl x) (inr y) = absurd (y.0 x.0)
-truth_once P v w (inr x) (inl y) = absurd (x.0 y.0)
-truth_once P v w (inr x) (inr y) = x.1 ∙ sym y.1
-
-pub choice_once : (a b c v w : ℤ) → IsChoice a b c v → IsChoice a b c w → v ≡ w
-choice_once a b c v w (inl x) (inl y) = x.1 ∙ sym y.1
-choice_once a b c v w (inl x) (inr y) = absurd (x.0 y.0)
-choice_once a b c v w (inr x) (inl y) = absurd (y.0 x.0)
-choice_once a b c v w (inr x) (inr y) = x.1 ∙ sym y.1
-
 pub fitted_once : (t : FixType) (q r v w : ℤ) → q ≡ r → IsFitted t q v → IsFitted t r w → v ≡ w
 fitted_once t q r v w e x y =
     fit_unique r t.shape.w t.mode v w y.shape.width.narrowest (subst (λ z. IsFitted t z v) e x).fitted y.fitted
@@ -122,7 +111,7 @@ comparison_once : (r : Option SigType) (R : ℤ → ℤ → Type 0) (x y : Part)
     → IsComparison r R x y w
     → v ≡ w
 comparison_once (Some (sig.Fix r)) R x y v w f g (a, b, xa, yb, h) (a', b', xa', yb', h') =
-    truth_once (R a' b') v w
+    truth_unique (R a' b') v w
     (subst (λ z. IsTruth (R z b') v) (f _ a a' xa xa') (subst (λ z. IsTruth (R a z) v) (g _ b b' yb yb') h)) h'
 comparison_once _ R x y v w f g h h' = absurd h
 
@@ -142,7 +131,7 @@ both_once : (R : ℤ → ℤ → Type 0) (x y : Part) (v w : ℤ)
     → (a b : ℤ) × x sig.Bool a × y sig.Bool b × IsTruth (R a b) w
     → v ≡ w
 both_once R x y v w f g (a, b, xa, yb, h) (a', b', xa', yb', h') =
-    truth_once (R a' b') v w
+    truth_unique (R a' b') v w
     (subst (λ z. IsTruth (R z b') v) (f _ a a' xa xa') (subst (λ z. IsTruth (R a z) v) (g _ b b' yb yb') h)) h'
 
 -- In the program, at a site, over words, at sample n.
@@ -175,7 +164,7 @@ module _ (p : Program) (s : Site) (words : Words) (n : ℕ) where
     value_once (negate at x) (sig.Fix t) v w (a, xa, h) (a', xa', h') =
         fitted_once t (neg_ℤ a) (neg_ℤ a') v w (ap neg_ℤ (value_once x _ a a' xa xa')) h h'
     value_once (not at x) sig.Bool v w (a, xa, h) (a', xa', h') =
-        truth_once (a' ≡ pos 0) v w (subst (λ z. IsTruth (z ≡ pos 0) v) (value_once x _ a a' xa xa') h) h'
+        truth_unique (a' ≡ pos 0) v w (subst (λ z. IsTruth (z ≡ pos 0) v) (value_once x _ a a' xa xa') h) h'
     value_once (binary at op.Add x y) (sig.Fix t) v w (a, b, xa, yb, h) (a', b', xa', yb', h') =
         fitted_once t (a +ℤ b) (a' +ℤ b') v w (ap₂ ◌+ℤ◌ (value_once x _ a a' xa xa') (value_once y _ b b' yb yb')) h h'
     value_once (binary at op.Sub x y) (sig.Fix t) v w (a, b, xa, yb, h) (a', b', xa', yb', h') =
@@ -213,6 +202,6 @@ module _ (p : Program) (s : Site) (words : Words) (n : ℕ) where
         let same_condition : i ≡ i' = value_once condition sig.Bool i i' ci ci' in
         let same_value : j ≡ j' = value_once x ty j j' xj xj' in
         let same_rest : l ≡ l' = chosen_once rest ty a b l l' e rl rl' in
-        choice_once i' j' l' v w
+        choice_unique i' j' l' v w
         (subst (λ z. IsChoice z j' l' v) same_condition
         (subst (λ z. IsChoice i z l' v) same_value (subst (λ z. IsChoice i j z v) same_rest h))) h'

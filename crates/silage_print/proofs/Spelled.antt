@@ -1,5 +1,5 @@
 -- How the bytes of a text are put together.
-use Rattle.std.proofs.Common.{◌≡◌, Bool, true, false, ℕ, zero, suc, List, [], ◌∷◌, ◌++◌, Some, refl, sym, ap, ◌∙◌}
+use Rattle.std.proofs.Common.{◌≡◌, Bool, true, false, ℕ, List, [], ◌∷◌, ◌++◌, Some, refl, sym, ap, ◌∙◌}
 use Rattle.std.proofs.Common.{get_or, arith}
 use Rattle.std.specs.List.{flat_map}
 use Rattle.std.specs.Prelude.{nat_eq, decimal, if◌then◌else◌, length, map, take, drop, ◌<◌, ◌≤◌, ◌+◌, ◌-◌, slice_get}
@@ -7,6 +7,7 @@ use Rattle.std.specs.Prelude.{Result, Ok, Err, OnOk}
 use Rattle.std.proofs.lemmas.Grind.{flat_map-append}
 use Rattle.std.proofs.lemmas.List.{append-nil, take_more, take_all}
 use mathlib.Core.List.{append_assoc}
+use Rattle.std.proofs.lemmas.Option.{get_or_from_slice_get}
 use Rattle.silage_lex.specs.Texts.{symbols}
 use Rattle.silage_lex.specs.declared.TokenKind.{TokenKind}
 use Rattle.silage_lex.specs.declared.TokenKind.TheVariants as kind
@@ -14,16 +15,11 @@ use Rattle.silage_print.specs.Text.{spaced, spelled, opened, closed, sign_text, 
 use Rattle.silage_print.specs.Text.{pointed}
 use Rattle.silage_print.specs.Private.Puts.{Puts}
 
-pub text_at : {A : Type 0} (xs : List A) (n : ℕ) (x d : A) → slice_get xs n ≡ Some x → get_or xs n d ≡ x
-text_at [] n x d e = cc
-text_at (y ∷ xs) zero x d e = cc
-text_at (y ∷ xs) (suc n) x d e = text_at xs n x d e
-
 pub symbol_spelled : (n : ℕ) (text : List ℕ)
     → slice_get symbols n ≡ Some text
     → spelled (kind.Symbol n ∷ []) ≡ text ++ 32 ∷ []
 unfolding spelled
-symbol_spelled n text e = append-nil (spaced (kind.Symbol n)) ∙ ap (λ t. t ++ 32 ∷ []) (text_at symbols n text [] e)
+symbol_spelled n text e = append-nil (spaced (kind.Symbol n)) ∙ ap (λ t. t ++ 32 ∷ []) (get_or_from_slice_get symbols n text [] e)
 
 pub spelled_append : (xs ys : List TokenKind) → spelled (xs ++ ys) ≡ spelled xs ++ spelled ys
 unfolding spelled

@@ -8,20 +8,20 @@ use Rattle.std.proofs.lemmas.List.{append-nil, length-append, get_or_default, ge
 use Rattle.std.proofs.lemmas.List.Sums.{AllPass-from_list_all}
 use Rattle.std.proofs.lemmas.List.Folds.{list_all-append}
 use mathlib.Core.List.{append_assoc}
+use Rattle.std.proofs.lemmas.Option.{get_or_from_slice_get}
 use Rattle.silage_lex.specs.Bytes.{is_blank, is_digit, is_name_byte}
 use Rattle.silage_lex.specs.Texts.{symbols, reserved_words, IsText, IsTokenText, IsName}
 use Rattle.silage_lex.specs.Tokens.{CanEndAt, IsSpan, line_at, Gap, none, blank, Spaced, HasTokens}
 use Rattle.silage_lex.specs.declared.Token.{Token}
 use Rattle.silage_lex.specs.declared.TokenKind.{TokenKind}
 use Rattle.silage_lex.specs.declared.TokenKind.TheVariants as kind
-use Rattle.silage_lex.proofs.TextLemmas.{digits_some, digits_all, digits_byte, word_byte, word_some, point_place}
-use Rattle.silage_lex.proofs.TextLemmas.{row_passes, symbol_text, digit_count-digits, digit_count-pointed}
-use Rattle.silage_lex.proofs.Longest.{span_byte, span_size}
+use Rattle.silage_lex.proofs.TextLemmas.{digits_some, digits_all, digits_byte, word_byte, point_place}
+use Rattle.silage_lex.proofs.TextLemmas.{row_passes, digit_count-digits, digit_count-pointed}
+use Rattle.silage_lex.proofs.Longest.{span_byte, span_size, token_text_some}
 use Rattle.silage_lex.proofs.OneKind.{token_text as kind_text}
 use Rattle.silage_syntax.specs.Grammar.{kind_of}
 use Rattle.silage_print.specs.Text.{token_text, spelled}
 use Rattle.silage_print.proofs.Numbers.{whole_written, point_written, value_small}
-use Rattle.silage_print.proofs.Spelled.{text_at}
 use Rattle.silage_print.proofs.KindsAt.{AreAt, IsWritten, AreWritten, no_kind, one_kind, TokensWritten}
 
 plus_one : (a b : ℕ) → a + suc b ≡ a + (1 + b)
@@ -53,8 +53,8 @@ written_of (kind.Point digits places) text h =
     let digits_are = h.digits_are in
     let places_are = h.places_are in
     point_written digits places (omega arith) (omega arith) (omega arith)
-written_of (kind.Reserved n) text h = h ∙ ap (λ t. Some t) (sym (text_at reserved_words n text [] h))
-written_of (kind.Symbol n) text h = h ∙ ap (λ t. Some t) (sym (text_at symbols n text [] h))
+written_of (kind.Reserved n) text h = h ∙ ap (λ t. Some t) (sym (get_or_from_slice_get reserved_words n text [] h))
+written_of (kind.Symbol n) text h = h ∙ ap (λ t. Some t) (sym (get_or_from_slice_get symbols n text [] h))
 
 none_written : TokensWritten []
 none_written i k e = cc
@@ -104,13 +104,6 @@ no_blank text (inr (inr symbol)) k lt e =
     let passes = AllPass-from_list_all (λ b. not (is_blank b)) text all k 0 lt in
     both_ways _ (ap (λ b. not (is_blank b)) e) passes
 
-token_some : (text : List ℕ) → IsTokenText text → 0 < length text
-token_some text (inl word) = word_some text word
-token_some text (inr (inl (inl digits))) = digits_some text digits
-token_some text (inr (inl (inr pointed))) =
-    let place = point_place pointed.0 pointed.1 text pointed.2 in let behind = place.behind in omega arith
-token_some text (inr (inr symbol)) = (symbol_text text symbol).some
-
 -- Pieces of a text.
 drop_front : (front rest : List ℕ) → drop (length front) (front ++ rest) ≡ rest
 drop_front [] rest = refl
@@ -150,7 +143,7 @@ span_of : (front rest : List ℕ) (k : TokenKind)
 span_of front rest k h =
     let text = token_text k in
     let bytes = front ++ (text ++ 32 ∷ rest) in
-    let some = token_some text (kind_text k text h) in
+    let some = token_text_some text (kind_text k text h) in
     let inner : length bytes ≡ length front + length (text ++ 32 ∷ rest) = length-append front (text ++ 32 ∷ rest) in
     let outer : length (text ++ 32 ∷ rest) ≡ length text + (1 + length rest) =
     length-append text (32 ∷ rest) ∙ plus_one (length text) (length rest) in

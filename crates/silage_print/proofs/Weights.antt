@@ -5,6 +5,7 @@ use Rattle.std.proofs.Common.{◌≡◌, ℕ, zero, suc, ◌+◌, ◌≤◌, Boo
 use Rattle.std.proofs.Common.{None, nat_lt, refl, ap, ◌∙◌, subst, arith}
 use Rattle.std.specs.Prelude.{nat_eq, if◌then◌else◌}
 use Rattle.std.proofs.lemmas.Bool.Decides.{nat_tests}
+use mathlib.Core.Bool.{or-false}
 use Rattle.fix_word.specs.declared.types.FixType.{FixType}
 use Rattle.fix_word.specs.declared.types.Mode.{Mode}
 use Rattle.silage_lex.specs.declared.Token.{Token}
@@ -159,10 +160,6 @@ pub record IsFree (count : TokenKind → ℕ) : Type 0 where
   pub truth : (b : Bool) → count (word (truth_word b)) ≡ 0
   pub trunc : count (word keyword.TRUNC) ≡ 0
   pub comma : count (symbol punctuation.COMMA) ≡ 0
-
-or_false : (b : Bool) → (b || false) ≡ b
-or_false true = refl
-or_false false = refl
 
 -- Where each kind of token counts so much.
 module _ (count : TokenKind → ℕ) where
@@ -514,7 +511,7 @@ module _ (count : TokenKind → ℕ) where
     operand_by ts false e i j u x alone =
         let same : extra (is_loose_operand e) ≡ extra (nat_lt (expr_precedence e) 6) =
         ap (λ t. extra (nat_lt (expr_precedence e) 6 || t)) u
-        ∙ ap extra (or_false (nat_lt (expr_precedence e) 6)) in
+        ∙ ap extra (or-false (nat_lt (expr_precedence e) 6)) in
         omega (arith, same, x)
 
     mutual

@@ -4,7 +4,7 @@ use Rattle.std.proofs.Common.{List, [], ◌∷◌, ◌++◌, find, filter_map, o
 use Rattle.std.proofs.Common.{Some, None, Result, Ok, Err}
 use Rattle.std.specs.Prelude.{All, IsSome, is_some, is_none, unwrap_or, nat_eq, ◌||◌, not as opposite}
 use Rattle.std.specs.Option.{option_or}
-use Rattle.std.proofs.lemmas.List.Elements.{All-cons}
+use Rattle.std.proofs.lemmas.List.Elements.{All-cons, All-tail, All-head}
 use Rattle.std.proofs.lemmas.Option.{slice_get-map}
 use Rattle.lists.proofs.Bools.{second_true}
 use Rattle.lists.proofs.Places.{some_once}
@@ -140,12 +140,6 @@ argument_sound c (Some d) x h s = by (nat_eq (length d.dims) 0) h
     by true g = expr_sound c x g s
     by false g = array_sound c d.dims x g
 
-all_rest : {A : Type 0} (P : A → Type 0) (x : A) (xs : List A) → All P (x ∷ xs) → All P xs
-all_rest P x xs h k d below = h (suc k) d (omega (arith, below))
-
-all_first : {A : Type 0} (P : A → Type 0) (x : A) (xs : List A) → All P (x ∷ xs) → P x
-all_first P x xs h = h 0 x (omega arith)
-
 arguments_sound : (c : Context) (params : List Decl) (k : ℕ) (xs : List Expr)
     → MetRow (each_from (rules.passing_rules c params) k xs)
     → All HasShortNumbers xs
@@ -155,10 +149,10 @@ arguments_sound c params k (x ∷ xs) h s =
     All-cons IsSound x xs
     (argument_sound c (slice_get params k) x
     (head_met (rules.passing_rules c params k x) (each_from (rules.passing_rules c params) (k + 1) xs) h)
-    (all_first HasShortNumbers x xs s))
+    (All-head HasShortNumbers x xs s))
     (arguments_sound c params (k + 1) xs
     (tail_met (rules.passing_rules c params k x) (each_from (rules.passing_rules c params) (k + 1) xs) h)
-    (all_rest HasShortNumbers x xs s))
+    (All-tail HasShortNumbers x xs s))
 
 mutual
   item_sound : (c : Context) (x : Item) → Met (rules.item_rules c x) → IsItemShort x → IsSoundItem x

@@ -12,7 +12,6 @@ use Rattle.plan_core.specs.Operands.{node_of, edge_of, no_edge}
 use Rattle.plan_core.specs.Assigned.{unit_in, AreUnits}
 use Rattle.plan_core.specs.Refusals.{LacksOperand}
 use Rattle.plan_core.specs.declared.delay_lines.Lowered.{Lowered}
-use Rattle.plan_core.proofs.Readers.{operands_few}
 use Rattle.unit_assign.specs.Wired.{IsWired}
 use Rattle.unit_assign.specs.Private.UnitSets.{Has, none_of_32, set_at}
 use Rattle.unit_assign.specs.Private.Drivers.{most_ports, place}
@@ -21,6 +20,7 @@ use Rattle.unit_assign.specs.Private.Missing.{LacksFrom}
 use Rattle.bit_sets.specs.declared.set32.Set32.{Set32}
 use Rattle.unit_assign.specs.declared.wiring.Wiring.{Wiring}
 use Rattle.bit_sets.proofs.Bits.{has_or_not}
+use Rattle.signal_graph.proofs.Sizes.{few_operands}
 
 pub routes_at : (d : Datapath) (l : Lowered) (wiring : Wiring)
     → IsProblem d l wiring
@@ -60,7 +60,7 @@ pub port_few : (l : Lowered)
     → q < most_ports
 port_few l wired v q there less =
     let count = wired.edge_count v no_node there in
-    let few = operands_few (node_of l.nodes v).op in
+    let few = few_operands (node_of l.nodes v).op in
     omega arith
 
 pub operand_there : (l : Lowered)

@@ -1,5 +1,6 @@
 use Rattle.std.proofs.Common.{◌≡◌, ◌+◌, ◌-◌, ◌<◌, ◌≤◌, ℕ, Option, Some, None, IsSome, IsTrue, arith, below_more, refl}
 use Rattle.std.proofs.Common.{subst}
+use Rattle.lists.proofs.Options.{not_some}
 use Rattle.image_labels.specs.Labels.{issued_in, word_in}
 use Rattle.image_labels.specs.Private.Checked.{IsIssuedBefore}
 use Rattle.image_labels.proofs.fits.is_free.Goals as goal
@@ -7,9 +8,6 @@ use Rattle.image_labels.proofs.fits.is_free.Goals as goal
 none_of : {A : Type 0} (o : Option A) → (IsSome o → ⊥) → o ≡ None
 none_of None h = refl
 none_of (Some a) h = absurd (h refl)
-
-not_some : {A : Type 0} (o : Option A) → o ≡ None → IsSome o → ⊥
-not_some o e h = absurd (cc)
 
 pub loop-back-preserved : goal.loop-back-preserved
 loop-back-preserved c =

@@ -1,8 +1,9 @@
 use Rattle.std.proofs.Common.{None}
+use Rattle.lists.proofs.Options.{not_some}
 use Rattle.silage_syntax.specs.Names.{function_named}
 use Rattle.silage_syntax.specs.Tree.{view}
 use Rattle.name_rules.proofs.ApartNames.{function_is}
-use Rattle.name_rules.proofs.Callees.{is_there, is_position}
+use Rattle.name_rules.proofs.Callees.{is_position}
 use Rattle.name_rules.proofs.FoundNames.{no_top}
 use Rattle.name_rules.proofs.tops.Tops.callee.Goals as goal
 
@@ -11,7 +12,7 @@ unreachable-requires c =
     let tops = c.args.self.now in
     let p = view tops.program.now in
     let none = no_top tops.program.now.tops tops.names.now c.args.name.now tops.named c.in_default.ensures.some in
-    is_there (function_named p c.args.name.now) (function_is p c.args.name.now None tops.apart none) c.requires
+    not_some (function_named p c.args.name.now) (function_is p c.args.name.now None tops.apart none) c.requires
 
 pub returns-clause-position : goal.returns-clause-position
 returns-clause-position c =
