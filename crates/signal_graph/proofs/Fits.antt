@@ -40,7 +40,9 @@ type_word sig.Bool m h = record { low = omega (arith, ints, h.0, h.1); high = om
 pub zero_word : (w : ℕ) → IsWord w (pos 0)
 zero_word w = let some = pow_pos (w - 1) in record { low = omega (arith, ints, some); high = omega (arith, ints, some) }
 
-pub word_or_zero_fits : (w : ℕ) (o : Option (ℕ × ℤ)) → ((i : ℕ × ℤ) → o ≡ Some i → IsWord w i.1) → IsWord w (word_or_zero o)
+pub word_or_zero_fits : (w : ℕ) (o : Option (ℕ × ℤ))
+    → ((i : ℕ × ℤ) → o ≡ Some i → IsWord w i.1)
+    → IsWord w (word_or_zero o)
 word_or_zero_fits w None h = zero_word w
 word_or_zero_fits w (Some i) h = h i refl
 

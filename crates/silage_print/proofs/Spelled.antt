@@ -19,7 +19,8 @@ pub symbol_spelled : (n : ℕ) (text : List ℕ)
     → slice_get symbols n ≡ Some text
     → spelled (kind.Symbol n ∷ []) ≡ text ++ 32 ∷ []
 unfolding spelled
-symbol_spelled n text e = append-nil (spaced (kind.Symbol n)) ∙ ap (λ t. t ++ 32 ∷ []) (get_or_from_slice_get symbols n text [] e)
+symbol_spelled n text e =
+    append-nil (spaced (kind.Symbol n)) ∙ ap (λ t. t ++ 32 ∷ []) (get_or_from_slice_get symbols n text [] e)
 
 pub spelled_append : (xs ys : List TokenKind) → spelled (xs ++ ys) ≡ spelled xs ++ spelled ys
 unfolding spelled
