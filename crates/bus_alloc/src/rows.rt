@@ -84,8 +84,7 @@ impl Rows {
     }
 
     /// The cycle in which the result is there of an operation on the unit that is issued at the cycle, if that is in
-    /// the
-    /// period.
+    /// the period.
     pub fn result_cycle(&self, unit: u8, cycle: u16) -> Option<u16>
         requires rows { AreRows self.now }
         requires unit { unit < length self.now.units }
@@ -160,8 +159,8 @@ impl Rows {
         blocked & (1 << (cycle % WORD_CYCLES)) == 0
     }
 
-    /// The first cycle from this one on in which an operation on the unit can end, with its result going to these
-    /// ports.
+    /// The first cycle from this one on in which an operation on the unit can end, with its result going to
+    /// these ports.
     pub fn first_open(&self, unit: u8, dests: &[PortRef], from: u16) -> Option<u16>
         requires rows { AreRows self.now }
         requires unit { unit < length self.now.units }

@@ -23,8 +23,8 @@ use Rattle.datapath.specs.Reading.{keys_among}
 use Rattle.datapath.specs.Names.{unit_named, ram_named, last_dot, ports_at, port_of}
 use Rattle.datapath.specs.PathOf.{kind_known, is_known_acu}
 
--- The values that the rules speak of. Where a value has a fault of its own, another stands for it: its fault comes
--- first.
+-- The values that the rules speak of. Where a value has a fault of its own, another stands for it: its fault
+-- comes first.
 
 -- what the table has at the key of the row, judged, if the key is there
 abbrev pub judged_at : {A : Type 0} → Row A → Members → Option (Result A Misfit)

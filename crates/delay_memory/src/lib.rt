@@ -1,5 +1,5 @@
-//! Delay lines: the long delays of a graph become cells of the rams of a datapath. Page `docs/PLANNING.md`, "Delay
-//! lines".
+//! Delay lines: the long delays of a graph become cells of the rams of a datapath. Page `docs/PLANNING.md`,
+//! "Delay lines".
 #![tactic(auto)]
 
 mod copies;

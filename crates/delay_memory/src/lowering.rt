@@ -21,8 +21,8 @@ use plan_core::Lowered;
 use signal_graph::Graph;
 use std::alloc::Global;
 
-/// How many cells a line has beyond its longest delay where one sample is in flight at a time: one for the word of this
-/// sample.
+/// How many cells a line has beyond its longest delay where one sample is in flight at a time: one for the word of
+/// this sample.
 const SPARE_CELLS: u8 = 1;
 
 /// Puts the delays of a graph that are longer than the target's hold into memory.
@@ -82,8 +82,8 @@ pub fn lower_owned(alloc: Global, graph: Graph, datapath: &Datapath) -> Result<L
 }
 
 /// Puts the delays of a graph that are longer than this hold into memory, on a copy of the graph. Each line has so many
-/// cells beyond its longest delay: as many as there are samples in flight at a time. Else it does what `lower_owned`
-/// does.
+/// cells beyond its longest delay: as many as there are samples in flight at a time. Else it does what
+/// `lower_owned` does.
 ///
 /// # Errors
 ///

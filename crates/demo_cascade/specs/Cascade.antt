@@ -1,6 +1,5 @@
 -- What `demo K N` compiles and runs, and the line that it prints: a cascade of K biquad sections on a datapath with
--- every
--- kind of unit, over N samples of a sawtooth.
+-- every kind of unit, over N samples of a sawtooth.
 use Rattle.std.specs.Prelude.{ℕ, ◌+◌, ◌-◌, ◌*◌, ◌%◌, List, [], ◌∷◌, ◌++◌, fold, map, codes, decimal, ℤ, pos, ◌+ℤ◌, ◌-ℤ◌}
 use Rattle.std.specs.Fmt.{signed_decimal}
 use Rattle.std.specs.List.{flat_map, range_with_len}

@@ -102,8 +102,8 @@ prefix_read content bytes n old_buf new_buf more e t m =
     m ∙ ap (λ (xs : List ℕ). xs ++ take n new_buf) e ∙ ap (λ (xs : List ℕ). take (length bytes) content ++ xs) t.front
     ∙ sym (take-add (length bytes) n content) ∙ ap (λ (k : ℕ). take k content) (sym size)
 
--- a file that was read through stays so where the input stays, where it was the same before, and where another is
--- written
+-- a file that was read through stays so where the input stays, where it was the same before, and where another
+-- is written
 pub through_stays : (name : Name) (limit : ℕ) (old mid new : View)
     → IsReadThrough name limit old mid
     → IsSameInput mid new

@@ -64,8 +64,7 @@ pub trait Desk {
         ensures ok { OnOk result (IsClosed (view self.old) (view self.new)) }
         ensures err { OnErr result (IsUnchangedButOutput (view self.old) (view self.new)) };
 
-    /// Prints a prefix of the piece, and gives its length, which is at least 1 for a piece that is not
-    /// empty.
+    /// Prints a prefix of the piece, and gives its length, which is at least 1 for a piece that is not empty.
     fn print(&mut self, piece: &[u8]) -> Result<usize, Failed>
         ensures never_fall { FaultsNeverFall (view self.old) (view self.new) }
         ensures cause { IsErr result → PrintFaultsRose (view self.old) (view self.new) }

@@ -89,8 +89,7 @@ impl MemDesk {
         Ok(())
     }
 
-    /// Makes the trait call of that number fail. The numbers run from 0 over all trait calls but
-    /// `complain`.
+    /// Makes the trait call of that number fail. The numbers run from 0 over all trait calls but `complain`.
     pub fn fail_at(&mut self, call: u64) -> Result<(), DeskFault>
         ensures ok { OnOk result (state self.new ≡ failing_at (state self.old) call) }
         ensures err { OnErr result (state self.new ≡ state self.old) }

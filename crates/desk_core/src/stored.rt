@@ -80,8 +80,7 @@ pub fn append(files: &mut List<Stored>, file: usize, piece: &[u8]) -> Result<(),
     files[file].bytes.extend_from_slice(piece)
 }
 
-/// Copies the bytes from that place on to the front of the buffer, as many as fit and no more than
-/// `most`.
+/// Copies the bytes from that place on to the front of the buffer, as many as fit and no more than `most`.
 pub fn copy_piece(bytes: &[u8], place: u64, most: usize, buf: &mut [u8]) -> usize
     requires { 1 ≤ most }
     ensures taken { IsTaken bytes.now place result buf.old buf.new }

@@ -70,9 +70,8 @@ fn room_for(left: u64) -> usize
     }
 }
 
-/// Opens the file and reads to its end. `Desk` comes where a call of the desk failed, and `TooLong`
-/// where one byte beyond the limit was read. Both `Ok` and `TooLong` come only where the file was read
-/// through.
+/// Opens the file and reads to its end. `Desk` comes where a call of the desk failed, and `TooLong` where one byte
+/// beyond the limit was read. Both `Ok` and `TooLong` come only where the file was read through.
 pub fn read_whole<D: Desk>(
     alloc: Global,
     desk: &mut D,

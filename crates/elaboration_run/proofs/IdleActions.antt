@@ -1,5 +1,5 @@
--- What is done of actions in a turn: those that do nothing may be left out, and of a loop those that do nothing in its
--- turns.
+-- What is done of actions in a turn: those that do nothing may be left out, and of a loop those that do nothing in
+-- its turns.
 use Rattle.std.proofs.Common.{◌≡◌, ◌∙◌, ◌+ℤ◌, ℕ, zero, suc, ℤ, pos, List, [], ◌∷◌, ◌++◌, Result, Ok, Err, refl, sym, ap}
 use Rattle.std.proofs.Common.{map, take, length, slice_index_or, ◌<◌, ◌≤◌, ◌≤ℤ◌, ◌+◌, ◌-◌, subst, arith}
 use Rattle.std.specs.List.{range_with_len}

@@ -1,5 +1,5 @@
-//! The instances and elements of a program: the rules that say which there are and how they are numbered, and their
-//! faults.
+//! The instances and elements of a program: the rules that say which there are and how they are numbered, and
+//! their faults.
 #![tactic(auto)]
 
 mod elements;

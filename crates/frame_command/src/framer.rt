@@ -64,9 +64,9 @@ fn compile_frames<D: Desk>(
     }
 }
 
-/// Carries out `frame`: compiles the program of the source to run `phases` times, 1 to 8, per sample of the machine, over
-/// frame rows. Output words in `down` are kept at phase 0 alone, and input words in `up` arrive once a frame; the numbers
-/// of both rise.
+/// Carries out `frame`: compiles the program of the source to run `phases` times, 1 to 8, per sample of the machine,
+/// over frame rows. Output words in `down` are kept at phase 0 alone, and input words in `up` arrive once a frame; the
+/// numbers of both rise.
 pub fn frame<D: Desk>(
     alloc: Global,
     desk: &mut D,

@@ -1,5 +1,5 @@
-//! The command of two rates: `frame` compiles a program that runs several times per sample of the machine. The samples of
-//! the machine are frames, whose rows hold the words of all those runs. Page `docs/RATES.md`.
+//! The command of two rates: `frame` compiles a program that runs several times per sample of the machine. The samples
+//! of the machine are frames, whose rows hold the words of all those runs. Page `docs/RATES.md`.
 //!
 //! In `specs/`, `FrameGraphs` says which graph a program has over frames and what it keeps, `FramePlans` which plan a
 //! source has or why it has none, and `Frame` when each status comes.

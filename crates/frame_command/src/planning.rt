@@ -76,8 +76,8 @@ pub fn frame_graph(
 ///
 /// # Errors
 ///
-/// `FrontEnd` where the input has no program; else `Frame` where the program has no such frames. `Memory` where no memory
-/// is left.
+/// `FrontEnd` where the input has no program; else `Frame` where the program has no such frames. `Memory` where no
+/// memory is left.
 pub fn frame_graph_in(
     alloc: Global,
     input: &Input,
@@ -96,14 +96,15 @@ pub fn frame_graph_in(
     }
 }
 
-/// The plan over frames of the program of the one input, on the datapath of the other. `phases` is 1 to 8, and the numbers
-/// of `down` and `up` rise.
+/// The plan over frames of the program of the one input, on the datapath of the other. `phases` is 1 to 8, and the
+/// numbers of `down` and `up` rise.
 ///
 /// # Errors
 ///
 /// `FrontEnd` where the source has no program; else `Frame` where the program has no such frames; else `Path` where the
 /// file describes no datapath; else `Unit` or `LinesFull` where a node of the graph over frames has no delay line; else
-/// `Unit`, `Period` and `FileFull` where a node has no unit, no cycle and no register. `Memory` where no memory is left.
+/// `Unit`, `Period` and `FileFull` where a node has no unit, no cycle and no register. `Memory` where no memory
+/// is left.
 pub fn frame_plan_of(
     alloc: Global,
     source: &Input,

@@ -153,14 +153,14 @@ fn registers_of(
 }
 
 /// Gives each copy of each lifetime the register that is given for it, or else by first fit the least in which no copy
-/// shares a cycle with it, neither one for which it is given nor one before. Takes time in proportion to the registers of
-/// a file and the square of the copies. Page `docs/PLANNING.md`, "Plans from elsewhere".
+/// shares a cycle with it, neither one for which it is given nor one before. Takes time in proportion to the registers
+/// of a file and the square of the copies. Page `docs/PLANNING.md`, "Plans from elsewhere".
 ///
 /// # Errors
 ///
-/// `Given` at the first given register, by its number, that its copy cannot have. Else `Full` with the unit, the port and
-/// the node of the first lifetime, by unit, port, `w`, then node, of which a copy is given none and finds none in its
-/// file. `Memory` where no memory is left.
+/// `Given` at the first given register, by its number, that its copy cannot have. Else `Full` with the unit, the port
+/// and the node of the first lifetime, by unit, port, `w`, then node, of which a copy is given none and finds none in
+/// its file. `Memory` where no memory is left.
 pub fn allot_around(
     alloc: Global,
     arcs: &Arcs,

@@ -69,8 +69,8 @@ impl Circle {
         }
     }
 
-    /// Whether the word of sample m of the one lifetime is never there with that of sample n of the other, if this is one
-    /// of copy j.
+    /// Whether the word of sample m of the one lifetime is never there with that of sample n of the other, if this is
+    /// one of copy j.
     fn is_pair_apart(self, a: Arc, m: u8, b: Arc, j: u8, n: u8) -> bool
         requires first { IsOnCircle self.period a }
         requires second { IsOnCircle self.period b }
@@ -84,8 +84,8 @@ impl Circle {
         self.are_spans_apart(self.span(a, m), self.span(b, n))
     }
 
-    /// Whether the word of sample m of the one lifetime, if it is one of copy i, is never there with one of copy j of the
-    /// other.
+    /// Whether the word of sample m of the one lifetime, if it is one of copy i, is never there with one of copy j of
+    /// the other.
     fn is_word_apart(self, a: Arc, i: u8, m: u8, b: Arc, j: u8) -> bool
         requires first { IsOnCircle self.period a }
         requires second { IsOnCircle self.period b }

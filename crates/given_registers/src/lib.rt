@@ -1,5 +1,5 @@
-//! Registers for cyclic lifetimes where some are given: those are taken as they are, and first fit finds the others around
-//! them. Page `docs/PLANNING.md`, "Plans from elsewhere".
+//! Registers for cyclic lifetimes where some are given: those are taken as they are, and first fit finds the others
+//! around them. Page `docs/PLANNING.md`, "Plans from elsewhere".
 #![tactic(auto)]
 
 mod around;

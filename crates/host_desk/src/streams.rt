@@ -1,7 +1,7 @@
 //! What a name stands for on the host: a file, or one of the streams that the process was given.
 //!
-//! The standard input and output are read and written as they are. To open one anew would begin at its start, would empty
-//! a file that others write to as well, and would fail at a socket.
+//! The standard input and output are read and written as they are. To open one anew would begin at its start, would
+//! empty a file that others write to as well, and would fail at a socket.
 ghost use Rattle.std.specs.Prelude.{◌≡◌, ◌↔◌, Ok, IfOk};
 ghost use Rattle.host_desk.specs.Streams.{standard_input, standard_output, IsGivenSource, IsGivenSink};
 
@@ -68,8 +68,8 @@ impl Sink {
         }
     }
 
-    /// Waits until the host has stored what was written to a file, and fails where it could not, as it may find out after
-    /// the last write. The standard output stays open, and is not waited for: std can sync only what it opened.
+    /// Waits until the host has stored what was written to a file, and fails where it could not, as it may find out
+    /// after the last write. The standard output stays open, and is not waited for: std can sync only what it opened.
     pub fn store(&self) -> io::Result<()>
         ensures { IsGivenSink self.now → result ≡ Ok tt }
     {

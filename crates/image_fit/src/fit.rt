@@ -48,8 +48,8 @@ fn check_counts(image: &Image, path: &Datapath) -> Result<(), Unfit>
 }
 
 /// Checks that an image is one of a datapath: of its period, its buses and its units with as many registers and cells,
-/// with no word that is wider, and with no bus drive or register-file write that the buses don't have. Page
-/// `docs/VALIDATION.md`.
+/// with no word that is wider, and with no bus drive or register-file write that the buses don't have.
+/// Page `docs/VALIDATION.md`.
 pub fn check_fit(image: &Image, path: &Datapath) -> Result<(), Unfit>
     requires { IsDatapath path.now }
     ensures fits { OnOk result (IsImageOn path.now image.now) }

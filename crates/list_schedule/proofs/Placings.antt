@@ -97,8 +97,8 @@ not_both h x y (inl l) (inr m) = let e = m.0 in absurd (omega arith)
 not_both h x y (inr l) (inl m) = let e = l.0 in absurd (omega arith)
 not_both h x y (inr l) (inr m) = let i = l.1 in let j = m.1 in absurd (omega arith)
 
--- By any rules of the table, where what else is asked of a cycle can be told of the slots of the nodes that have
--- theirs.
+-- By any rules of the table, where what else is asked of a cycle can be told of the slots of the nodes that
+-- have theirs.
 module _ (IsAway : (gap t u : ℕ) → Type 0) (IsSame : (w x : ℕ) → Type 0) (end : ℕ)
     (Allows : Schedule → (height : ℕ → ℕ) → (v t : ℕ) → Type 0) (May : List Slot → (v t : ℕ) → Type 0) (d : Datapath)
     (a : Assigned) (is : IsProblem d a) (short : end ≤ last_cycle) (alike : AllowsAlike IsAway IsSame end Allows d a)

@@ -84,8 +84,8 @@ impl BitWriter {
     }
 }
 
-/// Puts a full word behind the bytes. It stands alone so that `put`, which mostly finds room, is small enough to be
-/// inlined.
+/// Puts a full word behind the bytes. It stands alone so that `put`, which mostly finds room, is small enough to
+/// be inlined.
 #[inline(never)]
 fn put_full(bytes: &mut Bytes, full: u64) -> Result<(), AllocError>
     ensures { OnOk result (bytes.new ≡ bytes.old ++ to_be_bytes w64 full) }

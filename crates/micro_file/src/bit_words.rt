@@ -152,8 +152,8 @@ fn read_drives(
     }
 }
 
-/// The bus and the register of a take at the port, whose file has so many registers, behind a flag where so much was
-/// left.
+/// The bus and the register of a take at the port, whose file has so many registers, behind a flag where so much
+/// was left.
 #[tactic(auto, unfolding(crate::specs::Private::PackedWords::taken_at))]
 fn read_taken(
     image: &Image,

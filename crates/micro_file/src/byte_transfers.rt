@@ -1,5 +1,5 @@
-//! What a microword of a file of version 1 moves: enables drive buses with results, and takes write registers from
-//! buses.
+//! What a microword of a file of version 1 moves: enables drive buses with results, and takes write registers
+//! from buses.
 ghost use Rattle.std.specs.Prelude.{◌≡◌, ℕ, [], List};
 ghost use Rattle.micro_image.specs.declared.image.Image.{Image};
 ghost use Rattle.micro_file.specs.Private.Fields.{Reading, many_at};

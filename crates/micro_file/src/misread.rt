@@ -5,8 +5,8 @@ ghost use Rattle.micro_file.specs.declared.misread.Unread.TheVariants.{Misread a
 
 use std::alloc::{AllocError, AllocFailed};
 
-/// Why no field is in front of what is left, which is bytes in version 1 and bits in version 2. Its place is told by how
-/// much is left there.
+/// Why no field is in front of what is left, which is bytes in version 1 and bits in version 2. Its place is told by
+/// how much is left there.
 #[derive(Clone, Copy)]
 pub(crate) enum Misread {
     /// A byte of the magic is another.

@@ -1,5 +1,5 @@
--- The microcode file, version 1: the bytes that spell an image. Numbers are big-endian, and signed ones in two's
--- complement.
+-- The microcode file, version 1: the bytes that spell an image. Numbers are big-endian, and signed ones in
+-- two's complement.
 use Rattle.std.specs.Prelude.{ℕ, List, [], ◌∷◌, ◌++◌, length, ℤ}
 use Rattle.std.specs.List.{flat_map}
 use Rattle.std.specs.Int.{w8, w16, w32, w64, to_be_bytes, cast_unsigned}

@@ -25,8 +25,8 @@ pub enum ConflictKind {
     Address,
 }
 
-/// The first conflict (structural hazard) of a run: its cycle, counted from the start of the run, its kind and its
-/// place.
+/// The first conflict (structural hazard) of a run: its cycle, counted from the start of the run, its kind and
+/// its place.
 #[derive(Clone, Copy, Debug, PartialEq, Eq, Error)]
 #[error("conflict at cycle {cycle}: {kind} {place}")]
 pub struct Conflict {

@@ -1,8 +1,8 @@
 //! The image of a microprogram: what a valid one is, what the hardware does with it cycle by cycle, and which bytes
 //! spell it.
 //!
-//! The code is types and a few tables. The meaning is in `specs/`: `Valid`, `Fields`, `Log`, `Conflict`, `Run` and
-//! `Spells`.
+//! The code is types and a few tables. The meaning is in `specs/`: `Valid`, `Fields`, `Log`, `Conflict`, `Run`
+//! and `Spells`.
 #![tactic(auto)]
 
 mod codes;

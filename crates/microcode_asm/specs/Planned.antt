@@ -17,8 +17,7 @@ pub record IsPlanned (d : Datapath) (p : Plan) : Type 0 where
   pub plan : IsPlan graph d p
 
 -- it is a feasible plan of some sound graph, with its lifetimes in order and with a slot for each node and registers
--- for
--- each lifetime
+-- for each lifetime
 pub record IsAssemblable (d : Datapath) (p : Plan) : Type 0 where
   pub graph : Graph
   pub sound : IsGraph graph

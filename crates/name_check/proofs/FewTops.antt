@@ -1,5 +1,5 @@
--- A program has no more tables and functions than tokens, so that each source of a program meets what `check_names`
--- asks.
+-- A program has no more tables and functions than tokens, so that each source of a program meets what
+-- `check_names` asks.
 use Rattle.std.proofs.Common.{arith, ℕ, ◌+◌, ◌≤◌, List, length}
 use Rattle.fix_word.specs.declared.types.SigType.{SigType}
 use Rattle.silage_lex.specs.declared.Token.{Token}

@@ -1,6 +1,5 @@
 -- How `net` ends, for who asks it: a report of the error leaves its answer, which is never that of bad words; a file
--- fault
--- is told only where one rose; and what it answers where files have a net, or are refused.
+-- fault is told only where one rose; and what it answers where files have a net, or are refused.
 use Rattle.std.proofs.Common.{◌≡◌, ◌⊎◌, List, refl, inl, inr, ⊎_elim, Some}
 use Rattle.desk_core.specs.View.{Name, Files, View}
 use Rattle.desk_core.specs.Desk.{FaultsNeverFall, IsUnchanged, IsPut, ReadFaultsRose, WriteFaultsRose}

@@ -146,8 +146,8 @@ module _ (net samples out : Name) where
     pub rows : RowsOf (content_of (files samples)) (row_channels file plans) stream
 
   -- The net of NET ran the stream of SAMPLES, as the files were at the start. Each of its programs put the rows of its
-  -- one solution, and the text is that of the last one's rows. The net is where its turns lead once all samples are
-  -- run.
+  -- one solution, and the text is that of the last one's rows. The net is where its turns lead once all samples
+  -- are run.
   pub record IsNetMade (joined : NetState) (text : Content) (old : View) : Type 0 where
     pub file : NetFile
     pub plans : List ProcPlan

@@ -1,4 +1,5 @@
-//! `net NET SAMPLES OUT`: from the bytes of a net file, of the files that it names and of samples to the rows of the net.
+//! `net NET SAMPLES OUT`: from the bytes of a net file, of the files that it names and of samples to the rows of
+//! the net.
 ghost use Rattle.std.specs.Prelude.{◌≡◌, ◌≢◌, ◌≤◌, length, IfOk, IfErr};
 ghost use Rattle.std.specs.List.{All};
 ghost use Rattle.desk_core.specs.Desk.{FaultsNeverFall};

@@ -57,8 +57,8 @@ fn read_in_order(alloc: Global, text: &[u8]) -> Result<NetFile, NetFault>
     }
 }
 
-/// The net that the file describes, or its first fault, in the order of `docs/NETS.md`: too many bytes, no TOML, the top
-/// table, each processor's table.
+/// The net that the file describes, or its first fault, in the order of `docs/NETS.md`: too many bytes, no TOML, the
+/// top table, each processor's table.
 ///
 /// # Errors
 ///

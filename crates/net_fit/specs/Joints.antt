@@ -1,6 +1,5 @@
 -- How the processors of a net are joined: the type of the word that each wire brings, and the rules of wires, as a
--- table
--- in the order of their faults.
+-- table in the order of their faults.
 use Rattle.std.specs.Prelude.{◌==◌, ◌≤◌, ◌&&◌, ℕ, List, [], ◌∷◌, length, map, position, slice_get, slice_index_or}
 use Rattle.std.specs.Prelude.{Bool, true, false, Option, Some, None}
 use Rattle.std.specs.List.{All, range_with_len}

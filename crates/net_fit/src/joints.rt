@@ -108,8 +108,8 @@ fn check_in_order(procs: &[NetProc], ports: &[Ports]) -> Result<(), NetFault>
 ///
 /// # Errors
 ///
-/// At the first processor that has one of the two, `Count` where its wires are not as many as its input words, else `Feed`
-/// with its least word that does not fit.
+/// At the first processor that has one of the two, `Count` where its wires are not as many as its input words, else
+/// `Feed` with its least word that does not fit.
 pub fn check_joints(procs: &[NetProc], ports: &[Ports]) -> Result<(), NetFault>
     requires few { length procs.now ≤ 8 }
     requires ports { length procs.now ≤ length ports.now }

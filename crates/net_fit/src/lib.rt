@@ -1,8 +1,8 @@
-//! Whether the processors of a net fit one another: each word of the net's row is read, no file is overwritten, and each
-//! wire joins words of one shape.
+//! Whether the processors of a net fit one another: each word of the net's row is read, no file is overwritten, and
+//! each wire joins words of one shape.
 //!
-//! In `specs/`, `Names` and `Joints` have the rules, as tables in the order of their faults, and `Joints` the types of the
-//! net's words.
+//! In `specs/`, `Names` and `Joints` have the rules, as tables in the order of their faults, and `Joints` the types of
+//! the net's words.
 #![tactic(auto)]
 
 mod channels;

@@ -11,8 +11,8 @@ use Rattle.sample_io.specs.Samples.{printed}
 abbrev pub last_put : Parts → List Rows → Rows
 last_put parts puts = nth puts (length parts.images - 1) []
 
--- The net is made of the parts and has run all samples: it is where its turns lead, where the processors put these
--- rows.
+-- The net is made of the parts and has run all samples: it is where its turns lead, where the processors put
+-- these rows.
 pub record HasRunAll (parts : Parts) (net : NetState) (puts : List Rows) : Type 0 where
   pub parts_are : parts_of net ≡ parts
   pub solution : IsNetSolution parts puts

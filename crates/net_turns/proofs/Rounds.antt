@@ -1,5 +1,5 @@
--- Each round before all samples are run adds to the cycles that were run, and these have a bound: so many rounds run
--- all.
+-- Each round before all samples are run adds to the cycles that were run, and these have a bound: so many rounds
+-- run all.
 use Rattle.std.proofs.Common.{◌≡◌, ℕ, zero, suc, ◌+◌, ◌*◌, ◌<◌, ◌≤◌, ◌⊎◌, true, false, List, [], ◌∷◌}
 use Rattle.std.proofs.Common.{mul-le-mul_left, mul-le-mul_right, length, get_or, refl, ap, ap₂, inl, inr, arith, sym}
 use Rattle.std.proofs.Common.{◌∙◌, subst}

@@ -9,7 +9,8 @@ use std::alloc::{AllocError, Global};
 pub struct Owner {
     /// The number of the element in the flat program.
     pub element: u32,
-    /// Whether the words of the node are the element's. Else it is a constant, an output or a part of the element's value.
+    /// Whether the words of the node are the element's. Else it is a constant, an output or a part of the
+    /// element's value.
     pub is_whole: bool,
 }
 
@@ -196,7 +197,8 @@ fn kept(alloc: Global, graph: &Graph) -> Result<Vec<bool>, AllocError> {
     Ok(marks)
 }
 
-/// The owner of each node of the graph of a flat program from which an output is reached, where this is the whole graph.
+/// The owner of each node of the graph of a flat program from which an output is reached, where this is the
+/// whole graph.
 pub fn owners_of(
     alloc: Global,
     flat: &FlatProgram,

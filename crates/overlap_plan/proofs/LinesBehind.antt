@@ -1,5 +1,5 @@
--- The loads of a delay line stand behind its store, with nothing but addresses and loads between, and are placed before
--- it.
+-- The loads of a delay line stand behind its store, with nothing but addresses and loads between, and are placed
+-- before it.
 use Rattle.std.proofs.Common.{◌≡◌, ◌≢◌, refl, sym, ap, ◌∙◌, subst, arith, ℕ, zero, suc, ◌+◌, ◌-◌, ◌<◌, ◌≤◌, ◌⊎◌, inl}
 use Rattle.std.proofs.Common.{inr, ⊎_elim, List, [], ◌∷◌, length, slice_index_or, pos, true, false, Bool}
 use Rattle.std.specs.Prelude.{slice_get, Some, All, Contains}

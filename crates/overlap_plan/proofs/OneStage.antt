@@ -112,8 +112,8 @@ module _ (g : Graph) (d : Datapath) (path : IsDatapath d) (sound : IsGraph g) wh
         arcs_alike (ends d a s) (written_around d a s) read_in (read_around d a s) d a
         (λ v c q reads. sym (written_same v c q reads)) (λ v c q reads. sym (read_same v c q reads)) arcs
 
-  -- Where the datapath holds no delay, a plan over one stage is one of samples that do not overlap, and so the other
-  -- way.
+  -- Where the datapath holds no delay, a plan over one stage is one of samples that do not overlap, and so the
+  -- other way.
   module _ (none : d.hold ≡ 0) (p : StagePlan) where
     abbrev of_hold : ℕ → Type 0
     of_hold hold = IsLoweredOver hold 1 g d p.assigned.lowered

@@ -1,5 +1,5 @@
--- The text of a schedule over several stages: a head line, and then the lines of the nodes as in the text of a
--- schedule.
+-- The text of a schedule over several stages: a head line, and then the lines of the nodes as in the text of
+-- a schedule.
 use Rattle.std.specs.Prelude.{ℕ, List, [], ◌∷◌, ◌++◌, length, codes, decimal}
 use Rattle.datapath.specs.declared.types.Datapath.{Datapath}
 use Rattle.microcode_asm.specs.OperationText.{line_feed}

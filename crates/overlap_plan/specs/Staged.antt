@@ -52,8 +52,7 @@ module _ (stages : ℕ) (d : Datapath) (a : Assigned) where
     pub stores : EndsBeforeLoads slots v (t + latency_of d a v)
 
 -- Only addresses and loads stand between the store v and node x, and operations that end up to this cycle are those
--- that
--- end up to the latest and before the loads up to there.
+-- that end up to the latest and before the loads up to there.
 pub record IsEndUpTo (d : Datapath) (a : Assigned) (slots : List Slot) (v latest x end : ℕ) : Type 0 where
   pub between : (n : ℕ) → v < n → n < x → IsOfLine (op_at a.lowered.nodes n)
   pub to : (e : ℕ)

@@ -31,8 +31,8 @@ use unit_assign::bind;
 /// # Errors
 ///
 /// `Line` where a node needs a delay line and gets none; else `Unit` where a node has no unit; else `Period` where a
-/// node has no cycle in its stages; else `File` where a copy of a lifetime has no register. `Memory` where no memory is
-/// left.
+/// node has no cycle in its stages; else `File` where a copy of a lifetime has no register. `Memory` where no memory
+/// is left.
 pub fn stage_plan(
     alloc: Global,
     graph: &Graph,

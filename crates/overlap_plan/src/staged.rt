@@ -111,8 +111,8 @@ impl Staged<'_> {
         u32::from(slots[x].cycle) + ago * u32::from(self.period())
     }
 
-    /// The cycle before which node v, a store, ends: this one, or that in which a load reads its word, if that is
-    /// earlier.
+    /// The cycle before which node v, a store, ends: this one, or that in which a load reads its word, if that
+    /// is earlier.
     fn before_loads(&self, v: usize, slots: &List<Slot>, latest: u16) -> u16
         requires staged { IsSoundStaged self.now }
         requires store { op_at (nodes_on self.now).lowered.nodes v ≡ op.Store }
@@ -138,8 +138,8 @@ impl Staged<'_> {
         end
     }
 
-    /// The cycle before which node v ends, by its stage and by the loads of what it stores, where these are the slots of
-    /// the nodes that are placed.
+    /// The cycle before which node v ends, by its stage and by the loads of what it stores, where these are the slots
+    /// of the nodes that are placed.
     pub fn end(&self, v: usize, slots: &List<Slot>) -> u16
         requires staged { IsSoundStaged self.now }
         requires node { v < length (nodes_on self.now).lowered.nodes }

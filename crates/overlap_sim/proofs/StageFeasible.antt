@@ -1,5 +1,5 @@
--- A plan of several stages whose nodes are placed one beside another is feasible, whatever else is asked of their
--- cycles.
+-- A plan of several stages whose nodes are placed one beside another is feasible, whatever else is asked of
+-- their cycles.
 use Rattle.std.proofs.Common.{◌≡◌, ℕ, ◌+◌, ◌-◌, ◌*◌, ◌%◌, ◌<◌, ◌≤◌, sym, ap, ◌∙◌, arith, ⊎_elim, inl}
 use Rattle.std.proofs.Common.{length, Option, Some, Contains, subst, pos}
 use Rattle.std.proofs.lemmas.Bool.{cases_order}

@@ -63,8 +63,8 @@ abbrev pub staged_take_of : Datapath → Plan → (k : ℕ) → Transfer → (m 
 staged_take_of d p k transfer m = record { part = take_of p k transfer m; stage = shift_of d p k }
 
 -- The microword of cycle c of machine sample m. It has the issue of each node that is issued in this cycle of a period,
--- and the enable and the take of each transfer of a result that is there in it. Nothing else is in it, and its lists
--- rise.
+-- and the enable and the take of each transfer of a result that is there in it. Nothing else is in it, and its
+-- lists rise.
 pub record IsStagedWordOf (d : Datapath) (p : Plan) (m c : ℕ) (word : GuardedWord) : Type 0 where
   pub issue : (v : ℕ)
       → v < length (nodes_of p)

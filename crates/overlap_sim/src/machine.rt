@@ -58,8 +58,8 @@ fn whole_image(alloc: Global, guarded: Guarded, last: u8) -> Result<Image, Guard
     })
 }
 
-/// What a machine obeys of a guarded image, which without its stages is a valid image: for so many samples as its latest
-/// stage says words of their own, and after these all of each word. Page `docs/MACHINE.md`, "Guarded words".
+/// What a machine obeys of a guarded image, which without its stages is a valid image: for so many samples as its
+/// latest stage says words of their own, and after these all of each word. Page `docs/MACHINE.md`, "Guarded words".
 ///
 /// # Errors
 ///

@@ -63,8 +63,8 @@ pub enum RegisterLineCause {
     /// A word is not what stands in its place.
     #[error("not register R unit NAME port P node V copy K")]
     Form,
-    /// What stands in the place of a number is none: digits without a zero in front, for a node below 2^32, for the others
-    /// below 2^8.
+    /// What stands in the place of a number is none: digits without a zero in front, for a node below 2^32, for the
+    /// others below 2^8.
     #[error("no number")]
     Number,
     /// The datapath has no unit of that name.

@@ -92,9 +92,9 @@ fn given_of(alloc: Global, entries: &List<Entry>, keys: &[u64]) -> Result<Given,
 ///
 /// # Errors
 ///
-/// `Line` at the first line that begins with `node` and is no line as `node 3 cycle 5 unit alu`. Else the first node, by
-/// number, that has not one line: `Missing` where it has none, and one behind it has; `Line` with `Twice` at the second of
-/// its lines where it has more. `Memory` where no memory is left.
+/// `Line` at the first line that begins with `node` and is no line as `node 3 cycle 5 unit alu`. Else the first node,
+/// by number, that has not one line: `Missing` where it has none, and one behind it has; `Line` with `Twice` at the
+/// second of its lines where it has more. `Memory` where no memory is left.
 pub fn places_in(alloc: Global, text: &[u8], datapath: &Datapath) -> Result<Given, GivenFault>
     requires datapath { IsDatapath datapath.now }
     requires short { length text.now < 2 ^ 31 }

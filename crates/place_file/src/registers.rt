@@ -22,8 +22,8 @@ pub struct GivenRegisters {
     pub lines: List<u32>,
 }
 
-/// The registers that the lines of a text give, in the order of the lines. Lines that do not begin with `register` give
-/// none.
+/// The registers that the lines of a text give, in the order of the lines. Lines that do not begin with `register`
+/// give none.
 ///
 /// # Errors
 ///

@@ -8,8 +8,8 @@ use reg_alloc::FileFault;
 use std::alloc::{AllocError, AllocFailed};
 use thiserror::Error;
 
-/// Why these places have no plan. At `Line` nodes have the numbers of the graph, at the others those of the lowered list.
-/// Another choice of places, of buses or of registers may have a plan all the same.
+/// Why these places have no plan. At `Line` nodes have the numbers of the graph, at the others those of the lowered
+/// list. Another choice of places, of buses or of registers may have a plan all the same.
 #[derive(Debug, Clone, Copy, PartialEq, Eq, Drop, Error)]
 pub enum PlaceFault {
     /// The first node that needs a delay line and gets none, and why. Want of memory is an error of its own and never
@@ -25,12 +25,12 @@ pub enum PlaceFault {
     /// The first node that cannot be on its unit: it has more bits than a word of the datapath.
     #[error("node {0} too wide")]
     TooWide(u32),
-    /// The first node that cannot be on its unit: it is not there, does not do the node's operation, or is not meant for
-    /// its ram.
+    /// The first node that cannot be on its unit: it is not there, does not do the node's operation, or is not meant
+    /// for its ram.
     #[error("wrong unit for node {0}")]
     WrongUnit(u32),
-    /// The first node, in the order in which nodes are placed, that cannot be issued in its cycle: `operand` is the first
-    /// node that it reads of the same sample whose result is not there. It is there from the cycle `from` on.
+    /// The first node, in the order in which nodes are placed, that cannot be issued in its cycle: `operand` is the
+    /// first node that it reads of the same sample whose result is not there. It is there from the cycle `from` on.
     #[error("operand {operand} of node {node} is there from cycle {from}")]
     Late { node: u32, operand: u32, from: u16 },
     /// As before: operands are there, and it does not end in the period.
@@ -39,8 +39,8 @@ pub enum PlaceFault {
     /// As before: it ends in the period, and its unit is not free.
     #[error("unit busy at node {0}")]
     Busy(u32),
-    /// As before: its unit is free. This port is the first, by unit, then port, to which its result has to go and cannot:
-    /// the port's register file is written in that cycle.
+    /// As before: its unit is free. This port is the first, by unit, then port, to which its result has to go and
+    /// cannot: the port's register file is written in that cycle.
     #[error("file written {unit}.{port} at node {node}")]
     FileWritten { unit: u8, port: u8, node: u32 },
     /// As before, but the port's register file is not written, and no bus from the node's unit to the port is free.
@@ -133,8 +133,8 @@ pub enum GivenPlanFault {
     /// The places have none, whatever the registers are. `FileFull` and `Memory` never come in here.
     #[error(transparent)]
     Place(PlaceFault),
-    /// Each node stands at its place, and the copies of lifetimes have no registers around those that are given. `Memory`
-    /// never comes in here.
+    /// Each node stands at its place, and the copies of lifetimes have no registers around those that are given.
+    /// `Memory` never comes in here.
     #[error(transparent)]
     Registers(RegisterFault),
     /// Out of memory.

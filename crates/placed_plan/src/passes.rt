@@ -170,10 +170,10 @@ fn planned_given(
 ///
 /// # Errors
 ///
-/// `Line` where a node needs a delay line and gets none; else `Missing` or `Surplus` where the places are not as many as
-/// the nodes; else `TooWide` or `WrongUnit` at the first node that cannot be on its unit; else `Late`, `Past`, `Busy`,
-/// `FileWritten` or `NoBus` at the first node, in the order in which nodes are placed, that cannot be issued in its
-/// cycle; else `FileFull` where a copy of a lifetime has no register. `Memory` where no memory is left.
+/// `Line` where a node needs a delay line and gets none; else `Missing` or `Surplus` where the places are not as many
+/// as the nodes; else `TooWide` or `WrongUnit` at the first node that cannot be on its unit; else `Late`, `Past`,
+/// `Busy`, `FileWritten` or `NoBus` at the first node, in the order in which nodes are placed, that cannot be issued in
+/// its cycle; else `FileFull` where a copy of a lifetime has no register. `Memory` where no memory is left.
 pub fn plan_at(
     alloc: Global,
     graph: Graph,
@@ -208,8 +208,9 @@ pub fn plan_at(
 ///
 /// # Errors
 ///
-/// `Place` with what `plan_at` has but for `FileFull`; else `Registers` with the first given register, by its number, that
-/// its copy cannot have, or else with the first copy that is given none and finds none. `Memory` where no memory is left.
+/// `Place` with what `plan_at` has but for `FileFull`; else `Registers` with the first given register, by its number,
+/// that its copy cannot have, or else with the first copy that is given none and finds none. `Memory` where no memory
+/// is left.
 pub fn plan_given(
     alloc: Global,
     graph: Graph,

@@ -7,8 +7,8 @@ use reg_alloc::FileFault;
 use std::alloc::{AllocError, AllocFailed};
 use thiserror::Error;
 
-/// Why there is no plan over several stages with the places that are given. At `Line` nodes have the numbers of the graph,
-/// at the others those of the lowered list.
+/// Why there is no plan over several stages with the places that are given. At `Line` nodes have the numbers of the
+/// graph, at the others those of the lowered list.
 #[derive(Debug, Clone, Copy, PartialEq, Eq, Drop, Error)]
 pub enum StagePlaceFault {
     /// The first node that needs a delay line and gets none, and why. Want of memory is an error of its own and never
@@ -24,12 +24,12 @@ pub enum StagePlaceFault {
     /// The first node that cannot be on its unit: it has more bits than a word of the datapath.
     #[error("node {0} too wide")]
     TooWide(u32),
-    /// The first node that cannot be on its unit: it is not there, does not do the node's operation, or is not meant for
-    /// its ram.
+    /// The first node that cannot be on its unit: it is not there, does not do the node's operation, or is not meant
+    /// for its ram.
     #[error("wrong unit for node {0}")]
     WrongUnit(u32),
-    /// The first node, in the order in which nodes are placed, that cannot be issued in its cycle: an operand of the same
-    /// sample is not there.
+    /// The first node, in the order in which nodes are placed, that cannot be issued in its cycle: an operand of the
+    /// same sample is not there.
     #[error("operand late at node {0}")]
     Late(u32),
     /// As before: operands are there, and it does not end in its stages.
@@ -42,8 +42,8 @@ pub enum StagePlaceFault {
     /// file is written or no bus to it is free.
     #[error("no transfer from node {0}")]
     Blocked(u32),
-    /// The first node that is not in its stages: an input behind the first one, an output that ends before the last one,
-    /// or a store that ends after its word is loaded.
+    /// The first node that is not in its stages: an input behind the first one, an output that ends before the last
+    /// one, or a store that ends after its word is loaded.
     #[error("wrong stage for node {0}")]
     Unstaged(u32),
     /// The first lifetime, by unit, port, the cycle of its write, then node, of which a copy shares cycles with others

@@ -1,6 +1,6 @@
 //! Plans over several stages with units and cycles that are given, by whatever planner: their buses, lifetimes and
-//! registers are found, or the first node that cannot stand at its place is reported. Page `docs/PLANNING.md`, "Plans from
-//! elsewhere".
+//! registers are found, or the first node that cannot stand at its place is reported. Page `docs/PLANNING.md`, "Plans
+//! from elsewhere".
 #![tactic(auto)]
 
 mod fault;

@@ -71,16 +71,16 @@ fn planned_at(
     })
 }
 
-/// Plans a graph over so many stages, 1 to 4, with the units and cycles that are given: node v of the lowered list has place
-/// v. Its delay lines, buses, lifetimes and registers are found. Page `docs/PLANNING.md`, "Plans from elsewhere".
+/// Plans a graph over so many stages, 1 to 4, with the units and cycles that are given: node v of the lowered list has
+/// place v. Its delay lines, buses, lifetimes and registers are found. Page `docs/PLANNING.md`, "Plans from elsewhere".
 ///
 /// # Errors
 ///
-/// `Line` where a node needs a delay line and gets none; else `Missing` or `Surplus` where the places are not as many as
-/// the nodes; else `TooWide` or `WrongUnit` at the first node that cannot be on its unit; else `Late`, `Past`, `Busy` or
-/// `Blocked` at the first node, in the order in which nodes are placed, that cannot be issued in its cycle; else `Unstaged`
-/// at the first node that is not in its stages; else `FileFull` where a copy of a lifetime has no register. `Memory` where
-/// no memory is left.
+/// `Line` where a node needs a delay line and gets none; else `Missing` or `Surplus` where the places are not as many
+/// as the nodes; else `TooWide` or `WrongUnit` at the first node that cannot be on its unit; else `Late`, `Past`,
+/// `Busy` or `Blocked` at the first node, in the order in which nodes are placed, that cannot be issued in its cycle;
+/// else `Unstaged` at the first node that is not in its stages; else `FileFull` where a copy of a lifetime has no
+/// register. `Memory` where no memory is left.
 pub fn stage_plan_at(
     alloc: Global,
     graph: &Graph,

@@ -30,8 +30,8 @@ pub(crate) struct Placing {
     pub table: ModuloTable,
 }
 
-/// Whether an operation on the unit fits at the cycle, of which it ends before this end, with its result going to these
-/// ports.
+/// Whether an operation on the unit fits at the cycle, of which it ends before this end, with its result going to
+/// these ports.
 fn fits_at(table: &ModuloTable, unit: u8, cycle: u16, end: u16, ports: &[PortRef]) -> bool
     requires unit { unit < length table.now.datapath.units }
     requires ports { All (HasPort table.now.datapath) ports.now }

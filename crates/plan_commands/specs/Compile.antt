@@ -1,5 +1,5 @@
--- When each status comes of `compile SRC DP OUT`, and of any command that writes microcode of its files, and what it
--- leaves.
+-- When each status comes of `compile SRC DP OUT`, and of any command that writes microcode of its files, and what
+-- it leaves.
 use Rattle.desk_core.specs.View.{Name, Content, Files, View}
 use Rattle.desk_core.specs.Desk.{IfSpecified, WhereSpecified, IsPut, content_of}
 use Rattle.std.specs.Prelude.{◌⊎◌}

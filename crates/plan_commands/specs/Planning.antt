@@ -80,8 +80,8 @@ pub record IsInputPlanBy {P : Type 0} (IsPlanOf : Graph → Datapath → P → T
 abbrev pub IsInputPlan : Input → Input → Planned → Type 0
 IsInputPlan source datapath planned = IsInputPlanBy IsPlan source datapath planned.path planned.plan
 
--- Why the inputs have none: `IsWhy` says which statuses tell that they are refused, and `Tells` what each tells of
--- them.
+-- Why the inputs have none: `IsWhy` says which statuses tell that they are refused, and `Tells` what each tells
+-- of them.
 abbrev pub IsNoInputPlanOf : (IsWhy : Status → Type 0)
     → (Tells : Status → Content → Content → Type 0)
     → Input

@@ -1,5 +1,5 @@
--- Why a source has no plan over a datapath: each status that `plan_of` answers, and with it `compile`, `schedule` and
--- `run`.
+-- Why a source has no plan over a datapath: each status that `plan_of` answers, and with it `compile`, `schedule`
+-- and `run`.
 use Rattle.std.specs.Prelude.{◌≡◌, ◌⊎◌, ℕ, List}
 use Rattle.datapath.specs.PathRules.{IsPathFault}
 use Rattle.datapath.specs.declared.fault.PathFault.{PathFault}

@@ -1,7 +1,7 @@
 //! The commands that plan: the plan of a source over a datapath, `compile` and `schedule`.
 //!
-//! In `specs/`, `Plans` says which plan a source has over a datapath, `Refusals` why it has none, `Headline` what compiled
-//! microcode is, `Sources` what SRC has, and `Compile` and `Schedule` when each status comes.
+//! In `specs/`, `Plans` says which plan a source has over a datapath, `Refusals` why it has none, `Headline` what
+//! compiled microcode is, `Sources` what SRC has, and `Compile` and `Schedule` when each status comes.
 #![tactic(auto)]
 
 mod compiler;

@@ -1,6 +1,5 @@
 -- Schedules that agree on the nodes that are placed before a node agree on what can be done with it, and so on all
--- nodes
--- that have their places in both.
+-- nodes that have their places in both.
 use Rattle.std.proofs.Common.{◌≡◌, refl, sym, subst, subst₂, ap, ap₂, ◌∙◌, arith, ℕ, zero, suc, ◌+◌, ◌<◌, ◌≤◌, ◌⊎◌, inl}
 use Rattle.std.proofs.Common.{inr, ⊎_elim, List, [], ◌∷◌, length, map, All, Contains}
 use Rattle.std.proofs.lemmas.Bool.{cases_lt}

@@ -1,5 +1,5 @@
--- Tests: a truth value for a statement, with the proof that it decides it. With these, a worked plan is checked by
--- computing.
+-- Tests: a truth value for a statement, with the proof that it decides it. With these, a worked plan is checked
+-- by computing.
 use Rattle.std.proofs.Common.{◌≡◌, refl, sym, ◌∙◌, arith, ℕ, zero, suc, ◌<◌, ◌≤◌, ◌⊎◌, Bool, true, false, true≢false}
 use Rattle.std.proofs.Common.{not, ◌&&◌, ◌||◌, ltb, leb, eqb, leb-true, le-leb, List, [], ◌∷◌, length, slice_index_or}
 use Rattle.std.proofs.Common.{All, Contains, Decides}

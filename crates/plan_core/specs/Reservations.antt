@@ -1,5 +1,5 @@
--- The reservation table of a schedule: the operations that are placed so far take their units, register files and
--- buses.
+-- The reservation table of a schedule: the operations that are placed so far take their units, register files
+-- and buses.
 use Rattle.std.specs.Prelude.{◌≡◌, ◌≢◌, ℕ, ◌+◌, ◌-◌, ◌<◌, ◌≤◌, ◌⊎◌, All}
 use Rattle.operations.specs.declared.units.PortRef.{PortRef}
 use Rattle.datapath.specs.declared.types.Datapath.{Datapath}

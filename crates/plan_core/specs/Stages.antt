@@ -28,8 +28,8 @@ IsGapAround period gap t u = (gap ≤ distance period t u) × (distance period t
 abbrev pub IsSameAround : (period w x : ℕ) → Type 0
 IsSameAround period w x = w % period ≡ x % period
 
--- Node x loads the word that node v stores, so many samples later, where these are the long delays of the nodes of the
--- graph.
+-- Node x loads the word that node v stores, so many samples later, where these are the long delays of the nodes of
+-- the graph.
 pub record IsLoadOf (delays : List (List ℕ)) (v x ago : ℕ) : Type 0 where
   pub node : ℕ
   pub its_store : IsNumber delays (store node) v

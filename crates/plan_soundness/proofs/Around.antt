@@ -1,5 +1,5 @@
--- Cycles of samples that overlap: what is apart on the circle of a period is apart in the whole run, whatever the
--- samples.
+-- Cycles of samples that overlap: what is apart on the circle of a period is apart in the whole run, whatever
+-- the samples.
 use Rattle.std.proofs.Common.{◌≡◌, ℕ, ◌+◌, ◌-◌, ◌*◌, ◌/◌, ◌%◌, ◌<◌, ◌≤◌, sym, ap, ◌∙◌, arith, ⊎_elim}
 use Rattle.std.proofs.lemmas.Bool.{cases_order}
 use Rattle.std.proofs.Math.Nat.{add-mul, add-mul-mod_self_right, mod-lt, mod-eq_of_lt, mul-le-mul_right}

@@ -57,8 +57,8 @@ module _ (o : Overlap) (d : Datapath) (p : Plan) where
   abbrev around : ℕ → ℕ
   around t = t % d.period
 
-  -- What holds of each node: its edges have no delay, it ends in its stages, and its transfers go over buses that are
-  -- there.
+  -- What holds of each node: its edges have no delay, it ends in its stages, and its transfers go over buses that
+  -- are there.
   abbrev IsStagedNode : ℕ → Type 0
   IsStagedNode v =
       ((q : ℕ) → q < length (node_at p v).edges → o.first + (edge_at p v q).delay ≤ past)

@@ -54,8 +54,8 @@ pub record IsEnableOf (p : Plan) (v : ℕ) (enable : Enable) : Type 0 where
   pub transfer : (t : Transfer) × Contains (transfers_at p v) t × (t.bus ≡ enable.bus)
   pub unit : unit_at p v ≡ enable.unit
 
--- The microprogram does in sample n, counted from its first cycle n * period, what the plan has in each cycle of a
--- sample.
+-- The microprogram does in sample n, counted from its first cycle n * period, what the plan has in each cycle of
+-- a sample.
 pub record ExecutesOver (o : Overlap) (d : Datapath) (p : Plan) (micro : Microprogram) : Type 0 where
   pub period : micro.period ≡ d.period
   pub latency : (u : ℕ) → (unit_of micro u).latency ≡ latency_on d u

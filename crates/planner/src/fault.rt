@@ -15,8 +15,8 @@ pub enum PlanFault {
     /// comes in here.
     #[error(transparent)]
     Line(LineFault),
-    /// The first node without a unit, and why it has none. Want of memory is an error of its own and never comes in
-    /// here.
+    /// The first node without a unit, and why it has none. Want of memory is an error of its own and never comes
+    /// in here.
     #[error(transparent)]
     Unit(UnitFault),
     /// The first node, in the order in which nodes are placed, for which no cycle of the period is left.

@@ -1,5 +1,5 @@
-//! The plan of a graph: delay lines, units, cycles, lifetimes and registers, by the passes in their order. Page
-//! `docs/PLANNING.md`.
+//! The plan of a graph: delay lines, units, cycles, lifetimes and registers, by the passes in their order.
+//! Page `docs/PLANNING.md`.
 #![tactic(auto)]
 
 mod fault;

@@ -22,8 +22,8 @@ use signal_graph::Graph;
 use std::alloc::Global;
 use unit_assign::bind;
 
-/// Plans a graph: its delay lines, and the units, cycles, lifetimes and registers of its nodes. Page
-/// `docs/PLANNING.md`.
+/// Plans a graph: its delay lines, and the units, cycles, lifetimes and registers of its nodes.
+/// Page `docs/PLANNING.md`.
 ///
 /// # Errors
 ///

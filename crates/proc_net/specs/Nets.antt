@@ -73,8 +73,7 @@ pub record IsProcessorAt (parts : Parts)
   pub under_way : 0 < processor.cycle → row ≡ nth (fed parts puts p) processor.ran []
 
 -- The net is where its turns lead: each machine after its cycles, in each queue the rows that were put and not taken,
--- and
--- as many of the last processor's rows as it has run samples.
+-- and as many of the last processor's rows as it has run samples.
 pub record IsNetAt (net : NetState) (puts : List Rows) : Type 0 where
   pub count : length net.rows ≡ length net.processors
   pub processors : (p : ℕ) (processor : Processor) (row : List ℤ)
@@ -87,8 +86,8 @@ pub record IsNetAt (net : NetState) (puts : List Rows) : Type 0 where
       (drop (point_of (points_of net) p).taken (take (point_of (points_of net) q).ran (nth puts q [])))
   pub rows : IsPut net (take (count_of net) (nth puts (last_of net) []))
 
--- the turns of a processor that is at the first cycle of a sample, one after the other: as many as the sample has
--- cycles
+-- the turns of a processor that is at the first cycle of a sample, one after the other: as many as the sample
+-- has cycles
 abbrev pub sample_turns : NetShape → List Point → ℕ → List ℕ
 sample_turns shape points p = if (point_of points p).cycle == 0 then replicate (period_of shape p) p else []
 

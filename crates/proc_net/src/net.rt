@@ -181,9 +181,9 @@ fn begin(processors: &[Processor], stream: &RowList, rows: &mut List<List<i64>>,
 }
 
 impl Net {
-    /// A net before its first turn, over the rows of the list. It has one image for each processor, and takes the memory
-    /// for all queues and rows. Each row lies in the ranges of the input words that it feeds, each image runs all rows of
-    /// its ranges without a conflict, and what it puts lies in the ranges of the input words that it feeds.
+    /// A net before its first turn, over the rows of the list. It has one image for each processor, and takes the
+    /// memory for all queues and rows. Each row lies in the ranges of the input words that it feeds, each image runs
+    /// all rows of its ranges without a conflict, and what it puts lies in the ranges of the input words that it feeds.
     ///
     /// # Errors
     ///
@@ -282,8 +282,8 @@ impl Net {
         true
     }
 
-    /// Samples: each processor in order that is at the first cycle of a sample has as many turns, one after the other, as
-    /// the sample has cycles. Says whether one of them ran a cycle; else nothing changes. They run as a whole, which
+    /// Samples: each processor in order that is at the first cycle of a sample has as many turns, one after the other,
+    /// as the sample has cycles. Says whether one of them ran a cycle; else nothing changes. They run as a whole, which
     /// takes less than so many calls of `turn`.
     pub fn samples(&mut self) -> bool
         ensures parts { parts_of self.new ≡ parts_of self.old }

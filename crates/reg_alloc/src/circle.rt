@@ -28,8 +28,8 @@ pub(crate) struct Circle {
     ghost samples_most: { samples ≤ 4 },
 }
 
-/// For each sample of the circle, the span from the first write of a word of this sample to the last read of one, or
-/// none.
+/// For each sample of the circle, the span from the first write of a word of this sample to the last read of one,
+/// or none.
 #[derive(Clone, Copy)]
 pub(crate) struct Occupancy {
     pub spans: [Option<Span>; MOST_SAMPLES],

@@ -6,8 +6,8 @@ use thiserror::Error;
 /// Why there are no registers.
 #[derive(Debug, Clone, Copy, PartialEq, Eq, Drop, Error)]
 pub enum FileFault {
-    /// The first lifetime, by unit, port, the cycle of its write, then node, of which a copy finds no register in its
-    /// file.
+    /// The first lifetime, by unit, port, the cycle of its write, then node, of which a copy finds no register in
+    /// its file.
     #[error("file full {unit}.{port} at node {node}")]
     Full { unit: u8, port: u8, node: u32 },
     /// Out of memory.

@@ -34,8 +34,8 @@ module _ {P : Type 0} (IsPlanned : (source datapath : List ℕ) → Program → 
     abbrev pub HasSomePlanBy : Files → Type 0
     HasSomePlanBy files = (program : Program) × (d : Datapath) × (plan : P) × HasPlanInBy program d plan files
 
-    -- SRC's program has a plan over DP's datapath, and SAMPLES could not be opened. At most the input and the faults
-    -- changed.
+    -- SRC's program has a plan over DP's datapath, and SAMPLES could not be opened. At most the input and the
+    -- faults changed.
     pub record AreSamplesUnreadBy (samples : Name) (old new : View) : Type 0 where
       pub unchanged : IsUnchangedButInput old new
       pub unopened : AreUnopened samples datapath text_limit HasSomePlanBy old new

@@ -16,8 +16,8 @@ use sample_commands::{Ready, machine_of, machine_rows, run_ready};
 use statuses::Ending;
 use std::alloc::Global;
 
-/// Reads SRC and DP, loads the microcode to which the one is compiled for the other, from its bytes, and takes all memory
-/// that a run of it needs.
+/// Reads SRC and DP, loads the microcode to which the one is compiled for the other, from its bytes, and takes all
+/// memory that a run of it needs.
 fn compiled_ready<D: Desk>(
     alloc: Global,
     desk: &mut D,

@@ -12,8 +12,7 @@ use Rattle.same_source.specs.declared.unfit.PathRefusal.{PathRefusal}
 use Rattle.same_source.specs.declared.unfit.PathRefusal.TheVariants.{Path, TooLong, Microcode, Unfit, Memory}
 
 -- The bytes of the file describe one datapath, and those of the microcode one image, in either version, which is an
--- image
--- of that datapath.
+-- image of that datapath.
 pub record IsOnDatapath (microcode path : List ℕ) : Type 0 where
   pub datapath : Datapath
   pub described : IsPathOf path datapath

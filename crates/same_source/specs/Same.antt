@@ -26,9 +26,8 @@ pub record IsOnlyImage (microcode : List ℕ) (image : Image) : Type 0 where
   pub unique : (other : Image) → Spells microcode other → other ≡ image
 
 -- The bytes of the source are one program, and those of the microcode one image, in either version. That image takes
--- the
--- program's input words in their widths, puts its output words, and over each stream of valid rows it runs, without a
--- conflict, the program's one solution.
+-- the program's input words in their widths, puts its output words, and over each stream of valid rows it runs, without
+-- a conflict, the program's one solution.
 pub record RunsSource (source microcode : List ℕ) : Type 0 where
   pub tokens : List Token
   pub lexed : HasTokens source tokens

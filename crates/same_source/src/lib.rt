@@ -1,5 +1,5 @@
-//! Whether microcode runs a source, whoever made it: by labels that are found and then checked. Whether it is for a
-//! datapath.
+//! Whether microcode runs a source, whoever made it: by labels that are found and then checked. Whether it is for
+//! a datapath.
 #![tactic(auto)]
 
 mod comparison;

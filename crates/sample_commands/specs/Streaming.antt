@@ -27,8 +27,8 @@ abbrev pub IsNotOpened : Name → Name → View → View → Type 0
 IsNotOpened samples out old new =
     (IsUnchanged old new × ReadFaultsRose samples old new) ⊎ IsNotCreated samples out old new
 
--- No file but OUT changed, and nothing was printed. No name but SAMPLES began to be read, and none but OUT to be
--- written.
+-- No file but OUT changed, and nothing was printed. No name but SAMPLES began to be read, and none but OUT to
+-- be written.
 pub record StreamsOnly (samples out : Name) (old new : View) : Type 0 where
   pub files : IfSpecified (ChangesOnly out) old.files new.files
   pub printed : new.printed ≡ old.printed

@@ -1,7 +1,7 @@
 //! The commands over samples, `sim` and `eval`, and what `run` and `pipe` have in common with `sim`.
 //!
-//! In `specs/`, `Samples` says what SAMPLES has and how a run over it ends early, and `Sim` and `Eval` when each status
-//! comes.
+//! In `specs/`, `Samples` says what SAMPLES has and how a run over it ends early, and `Sim` and `Eval` when each
+//! status comes.
 #![tactic(auto)]
 
 mod evaluator;

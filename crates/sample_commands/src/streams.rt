@@ -46,12 +46,13 @@ pub fn open_files<D: Desk>(desk: &mut D, samples: &str, output: &str) -> Result<
 }
 
 /// Runs the machine over the rows of the desk's current input, writes the rows that it puts to the current output, and
-/// closes it (docs/SAMPLES.md). The machine is at the start of a sample, `rows` is fresh, for the machine's input words,
-/// and `limit` is the least number of bytes that are too many, at most 2^32.
+/// closes it (docs/SAMPLES.md). The machine is at the start of a sample, `rows` is fresh, for the machine's input
+/// words, and `limit` is the least number of bytes that are too many, at most 2^32.
 ///
-/// `Samples` with the place where a line is no row, or `TooLong` at `limit` bytes, and `Conflict` end the run: the output
-/// then has the rows of the samples before, and is closed, where the close does not fail. After `Desk`, where a call of
-/// the desk failed, it has a prefix of them. The machine keeps its conflict, and the rows their fault. No memory is taken.
+/// `Samples` with the place where a line is no row, or `TooLong` at `limit` bytes, and `Conflict` end the run: the
+/// output then has the rows of the samples before, and is closed, where the close does not fail. After `Desk`, where a
+/// call of the desk failed, it has a prefix of them. The machine keeps its conflict, and the rows their fault. No
+/// memory is taken.
 pub fn run_samples<D: Desk>(
     machine: &mut Machine,
     rows: &mut Rows,

@@ -15,8 +15,7 @@ use Rattle.sample_io.specs.Samples.{signed}
 use Rattle.sample_io.specs.Private.Reading.{HasDigit}
 
 -- within a line: the whole words, the channel of the next word, the channels left behind it, and what there is of the
--- word;
--- or the line has ended as this row
+-- word; or the line has ended as this row
 pub data Reached : Type 0 where
   At : List ℤ → Channel → List Channel → Part → Reached
   Ended : List ℤ → Reached

@@ -27,8 +27,8 @@ graph_channels graph = map type_channel graph.inputs
 abbrev pub rows_solved : Graph → Words → (before rows : Rows) → Rows
 rows_solved graph words before rows = map (out_row graph words) (range_with_len (length before) (length rows))
 
--- over these rows the evaluator puts these: the output rows of each solution of the graph over the rows that it ran and
--- these
+-- over these rows the evaluator puts these: the output rows of each solution of the graph over the rows that it ran
+-- and these
 abbrev pub SolvesRows : Evaluation → (rows puts : Rows) → Type 0
 SolvesRows evaluator rows puts =
     (words : Words)

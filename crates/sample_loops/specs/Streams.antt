@@ -132,8 +132,7 @@ pub record IsTooLong (end : ℕ) (channels : List Channel) (gives : Rows → Row
   pub closed : IsCloseTried old new
 
 -- A conflict came with a row, in the last piece of what was read. What the rows before it put is written, and the
--- output
--- is closed, or its close failed.
+-- output is closed, or its close failed.
 pub record HasConflict (end : ℕ) (channels : List Channel) (gives : Rows → Rows → Type 0)
     (meets : Rows → ConflictValue → Type 0) (conflict : ConflictValue) (old new : View) : Type 0 where
   pub bytes : Content

@@ -55,14 +55,14 @@ impl Engine for Evaluator {
     ghost meets_later = { no_conflict };
 }
 
-/// Evaluates the rows of the desk's current input, from its start to its end, writes the rows that the evaluator puts to
-/// the current output, and closes it (docs/SAMPLES.md). `rows` is fresh, for the evaluator's input words, and `limit` is
-/// the least number of bytes that are too many, at most 2^32. The input is read in pieces of at most 4,096 bytes, and
-/// what the rows of a piece put is written before the next is read.
+/// Evaluates the rows of the desk's current input, from its start to its end, writes the rows that the evaluator puts
+/// to the current output, and closes it (docs/SAMPLES.md). `rows` is fresh, for the evaluator's input words, and
+/// `limit` is the least number of bytes that are too many, at most 2^32. The input is read in pieces of at most 4,096
+/// bytes, and what the rows of a piece put is written before the next is read.
 ///
 /// A line that is no row and `limit` bytes end the evaluation: the output then has the rows of the samples before, and
-/// is closed, where the close does not fail. After a failed call of the desk it has a prefix of them. The rows keep their
-/// fault. There is no conflict, and no memory is taken.
+/// is closed, where the close does not fail. After a failed call of the desk it has a prefix of them. The rows keep
+/// their fault. There is no conflict, and no memory is taken.
 pub fn eval_stream<D: Desk>(
     evaluator: &mut Evaluator,
     rows: &mut Rows,

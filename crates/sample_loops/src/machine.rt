@@ -57,9 +57,9 @@ impl Engine for Machine {
 }
 
 /// Runs the machine over the rows of the desk's current input, from its start to its end, writes the rows that it puts
-/// to the current output, and closes it (docs/SAMPLES.md). The machine is at the start of a sample, `rows` is fresh, for
-/// the machine's input words, and `limit` is the least number of bytes that are too many, at most 2^32. The input is read
-/// in pieces of at most 4,096 bytes, and what the rows of a piece put is written before the next is read.
+/// to the current output, and closes it (docs/SAMPLES.md). The machine is at the start of a sample, `rows` is fresh,
+/// for the machine's input words, and `limit` is the least number of bytes that are too many, at most 2^32. The input
+/// is read in pieces of at most 4,096 bytes, and what the rows of a piece put is written before the next is read.
 ///
 /// A line that is no row, a conflict and `limit` bytes end the run: the output then has the rows of the samples before,
 /// and is closed, where the close does not fail. After a failed call of the desk it has a prefix of them. The machine

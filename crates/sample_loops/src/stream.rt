@@ -241,8 +241,8 @@ fn run_input<E: Engine, D: Desk>(
 }
 
 /// Runs the rows of the input, from its start to its end, writes what they put, and closes the output. The input is
-/// read in pieces, and what a piece's rows put is written before the next is read. At `limit` bytes the samples are too
-/// long.
+/// read in pieces, and what a piece's rows put is written before the next is read. At `limit` bytes the samples are
+/// too long.
 pub fn run_all<E: Engine, D: Desk>(
     engine: &mut E,
     rows: &mut Rows,

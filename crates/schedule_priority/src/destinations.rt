@@ -75,8 +75,8 @@ impl Destinations {
         })
     }
 
-    /// Puts the ports that read node v, in order, in the place of what the list has. Where no memory is left, some of
-    /// them.
+    /// Puts the ports that read node v, in order, in the place of what the list has. Where no memory is left, some
+    /// of them.
     pub fn list(&self, v: u32, ports: &mut Vec<PortRef>) -> Result<(), AllocError>
         requires { v < length self.now.lowered.nodes }
         ensures ok { OnOk result (AreDestinations self.now v ports.new.items) }

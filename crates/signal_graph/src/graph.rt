@@ -21,8 +21,8 @@ pub type Edges = ShortList<Edge, PORTS>;
 #[derive(Drop)]
 pub struct Node {
     pub op: Op,
-    /// How the exact result is quantised by `Add`, `Sub`, `Neg`, `Pass` and `Mul`; shift 0, `Trunc` and width 0 at the
-    /// others.
+    /// How the exact result is quantised by `Add`, `Sub`, `Neg`, `Pass` and `Mul`; shift 0, `Trunc` and width 0 at
+    /// the others.
     pub fmt: Format,
     /// The number of the input word or output word, or the constant's raw word; 0 at the others.
     pub arg: i64,

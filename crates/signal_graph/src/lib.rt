@@ -1,6 +1,6 @@
-//! Flat programs, graphs of nodes, and what both mean. The code is types and copies of them: the meaning is in `specs/`.
-//! That each sound program and graph without a delay-free loop has exactly one solution, and that the graph of a program
-//! and a pruned graph keep solutions, is in `proofs/`. Page `docs/GRAPH.md`.
+//! Flat programs, graphs of nodes, and what both mean. The code is types and copies of them: the meaning is in
+//! `specs/`. That each sound program and graph without a delay-free loop has exactly one solution, and that the graph
+//! of a program and a pruned graph keep solutions, is in `proofs/`. Page `docs/GRAPH.md`.
 #![tactic(auto)]
 
 mod copies;

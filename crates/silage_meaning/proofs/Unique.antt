@@ -1,6 +1,5 @@
 -- A program whose elements each have a definition, and none of which depends on itself without a delay, has one
--- solution
--- at most.
+-- solution at most.
 use Rattle.std.proofs.Common.{◌≡◌, refl, sym, subst, ◌∙◌, ap, arith, ℕ, zero, suc, ◌+◌, ◌-◌, ◌≤◌, ◌<◌, Bool, true}
 use Rattle.std.proofs.Common.{false, length, ℤ, pos, negsuc, ◌-ℤ◌, ⊎_elim}
 use Rattle.std.specs.Ordering.{int_eq}

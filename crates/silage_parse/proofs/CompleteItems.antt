@@ -1,5 +1,5 @@
--- Completeness of the table: it reads the places on the left, arguments and items that the grammar has, with the same
--- roles.
+-- Completeness of the table: it reads the places on the left, arguments and items that the grammar has, with the
+-- same roles.
 use Rattle.std.proofs.Common.{◌≡◌, ℕ, ◌+◌, List, [], ◌∷◌, ◌++◌, refl, sym, ap, ◌∙◌, subst, arith}
 use Rattle.std.proofs.Common.{append_assoc, append-nil}
 use Rattle.silage_lex.specs.declared.Token.{Token}

@@ -202,8 +202,8 @@ no_rests : (bound loosest : ℕ) → bound ≤ loosest → rests bound loosest �
 no_rests zero loosest h = refl
 no_rests (suc n) loosest h = rw (lt-leb loosest n (omega arith)) refl
 
--- where the next token is an operator, the machine reads it and its right operand, and goes on with the levels that may
--- follow
+-- where the next token is an operator, the machine reads it and its right operand, and goes on with the levels that
+-- may follow
 operator_next :
     {ss : List Symbol} (rest : List Symbol) {from to : Parser} {vs us : List Value} (p : Precedence) (loosest : ℕ)
     → nat_le loosest (rank p) ≡ true

@@ -1,5 +1,5 @@
--- Soundness of the table, step by step: what the grammar has where a nonterminal is read, and a reading as a row of
--- these.
+-- Soundness of the table, step by step: what the grammar has where a nonterminal is read, and a reading as a row
+-- of these.
 use Rattle.std.proofs.Common.{◌≡◌, ℕ, ◌+◌, ◌≤◌, true, List, [], ◌∷◌, ◌++◌, Some, slice_get, subst}
 use Rattle.fix_word.specs.declared.types.FixType.{FixType}
 use Rattle.fix_word.specs.declared.types.Mode.{Mode}

@@ -315,8 +315,8 @@ impl<'a> Parser<'a> {
         Ok(value)
     }
 
-    /// Reads a number: its digits, and how many of them are after the point. `Syntax` where another token is next, or
-    /// none.
+    /// Reads a number: its digits, and how many of them are after the point. `Syntax` where another token is next,
+    /// or none.
     pub fn number(&mut self, effect: Effect) -> Result<(u64, u8), ParseFault>
         ensures { ReadsNumber (effect_of effect) self.old self.new result }
     {

@@ -1,6 +1,5 @@
 -- Each pair of parentheses of the canonical text is needed: tokens that derive a definition have as many `(` as its
--- text,
--- and a list of tokens without one of them has too few. A definition's own tokens begin at its `func` or `const`.
+-- text, and a list of tokens without one of them has too few. A definition's own tokens begin at its `func` or `const`.
 use Rattle.std.proofs.Common.{◌≡◌, ℕ, zero, suc, ◌+◌, ◌≤◌, Bool, true, false, inl, inr, List, [], ◌∷◌, ◌++◌, Some}
 use Rattle.std.proofs.Common.{length, map, nat_eq, refl, sym, ap, ◌∙◌, arith}
 use Rattle.std.specs.Prelude.{if◌then◌else◌}

@@ -1,6 +1,5 @@
 -- The text of an expression counts no more than the tokens that it was read from, whatever each kind of token counts,
--- as
--- long as literals, and what a fix type may leave out, count nothing.
+-- as long as literals, and what a fix type may leave out, count nothing.
 use Rattle.std.proofs.Common.{◌≡◌, ℕ, zero, suc, ◌+◌, ◌≤◌, Bool, true, false, ◌||◌, List, [], ◌∷◌, ◌++◌, Option, Some}
 use Rattle.std.proofs.Common.{None, nat_lt, refl, ap, ◌∙◌, subst, arith}
 use Rattle.std.specs.Prelude.{nat_eq, if◌then◌else◌}

@@ -111,24 +111,21 @@ fn carry_out_words<D: Desk>(
 
 /// Carries out the command that the words are, the program's name left out, and reports an error in one line.
 ///
-/// `compile SRC DP OUT` reads a source and a datapath, and writes the microcode of the source's plan to OUT.
-/// `schedule SRC DP` reads a source and a datapath, and prints the source's plan.
-/// `list MIC` reads microcode, and prints the image that it spells.
-/// `demo K N` compiles a cascade of K biquad sections, runs the microcode on N samples, and prints what its output words
-/// come to. Where it is done, it keeps the machine that ran them.
-/// `sim MIC SAMPLES OUT` reads microcode and samples, and writes the rows that the microcode puts to OUT. Where it is
-/// done, it keeps the machine that ran them.
-/// `eval SRC SAMPLES OUT` reads a source and samples, and writes the output rows of the source's equations to OUT.
-/// `run SRC DP SAMPLES OUT` compiles a source for a datapath, runs the microcode on samples, and writes its rows, which
-/// are those of `eval`, to OUT. Where it is done, it keeps the machine that ran them.
-/// `stages SRC DP S` reads a source and a datapath, and prints the source's plan over S stages, of which as many samples
-/// are in flight at once.
-/// `pipe SRC DP S SAMPLES OUT` plans a source over S stages for a datapath, runs the plan's microcode on samples, and
-/// writes its rows to OUT: those of `eval`, S - 1 rows late. Where it is done, it keeps the machine that ran them.
-/// `frame SRC DP M DOWN UP OUT` compiles a source that runs M times per sample of the machine, and writes its microcode
-/// to OUT. Output words in DOWN are put once per sample of the machine, and input words in UP taken once.
-/// `net NET SAMPLES OUT` plans the processors of a net file, runs them over samples with queues between them, and writes
-/// the last one's rows to OUT. Where it is done, it keeps the net that ran them.
+/// `compile SRC DP OUT` reads a source and a datapath, and writes the microcode of the source's plan to OUT. `schedule
+/// SRC DP` reads a source and a datapath, and prints the source's plan. `list MIC` reads microcode, and prints the
+/// image that it spells. `demo K N` compiles a cascade of K biquad sections, runs the microcode on N samples, and
+/// prints what its output words come to. Where it is done, it keeps the machine that ran them. `sim MIC SAMPLES OUT`
+/// reads microcode and samples, and writes the rows that the microcode puts to OUT. Where it is done, it keeps the
+/// machine that ran them. `eval SRC SAMPLES OUT` reads a source and samples, and writes the output rows of the source's
+/// equations to OUT. `run SRC DP SAMPLES OUT` compiles a source for a datapath, runs the microcode on samples, and
+/// writes its rows, which are those of `eval`, to OUT. Where it is done, it keeps the machine that ran them. `stages
+/// SRC DP S` reads a source and a datapath, and prints the source's plan over S stages, of which as many samples are in
+/// flight at once. `pipe SRC DP S SAMPLES OUT` plans a source over S stages for a datapath, runs the plan's microcode
+/// on samples, and writes its rows to OUT: those of `eval`, S - 1 rows late. Where it is done, it keeps the machine
+/// that ran them. `frame SRC DP M DOWN UP OUT` compiles a source that runs M times per sample of the machine, and
+/// writes its microcode to OUT. Output words in DOWN are put once per sample of the machine, and input words in UP
+/// taken once. `net NET SAMPLES OUT` plans the processors of a net file, runs them over samples with queues between
+/// them, and writes the last one's rows to OUT. Where it is done, it keeps the net that ran them.
 pub fn silc<D: Desk>(alloc: Global, words: &[String], desk: &mut D, kept: &mut Kept) -> Status
     requires { kept.old ≡ Nothing }
     ensures faults { FaultsNeverFall (D.view desk.old) (D.view desk.new) }

@@ -1,10 +1,9 @@
 //! The program `silc`: its commands, over any desk.
 //!
-//! `silc` is the top call; its clauses carry what the whole program promises. In `specs/`, `Endings` says how each command
-//! ends, `Kept` what one keeps, and `Listing`, `Demo` and `Runs` when each status of `list`, `demo`, `sim`, `run`, `pipe` and
-//! `net` comes.
-//! Which words are a command, and the other commands, are in crates of their own, with their definitions; what `demo`
-//! compiles is in the crate `demo_cascade`.
+//! `silc` is the top call; its clauses carry what the whole program promises. In `specs/`, `Endings` says how each
+//! command ends, `Kept` what one keeps, and `Listing`, `Demo` and `Runs` when each status of `list`, `demo`, `sim`,
+//! `run`, `pipe` and `net` comes. Which words are a command, and the other commands, are in crates of their own, with
+//! their definitions; what `demo` compiles is in the crate `demo_cascade`.
 #![tactic(auto)]
 
 mod command;

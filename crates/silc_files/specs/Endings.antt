@@ -36,8 +36,8 @@ BeginsOnly IsInput old new = (name : Name) → (IsInput name → ⊥) → new na
 abbrev pub ChangesOnly : Name → Files → Files → Type 0
 ChangesOnly out before after = (name : Name) → name ≢ out → after name ≡ before name
 
--- No file but OUT changed, and nothing was printed. No name but an input began to be read, and none but OUT to be
--- written.
+-- No file but OUT changed, and nothing was printed. No name but an input began to be read, and none but OUT to
+-- be written.
 pub record UsesOnly (IsInput : Name → Type 0) (out : Name) (old new : View) : Type 0 where
   pub files : IfSpecified (ChangesOnly out) old.files new.files
   pub printed : new.printed ≡ old.printed

@@ -1,6 +1,5 @@
 -- How `sim`, `eval`, `run` and `pipe` end is how a run over SAMPLES does, memory aside, where no fault of the command's
--- own
--- rose.
+-- own rose.
 use Rattle.std.proofs.Common.{◌≡◌, ◌∙◌, refl, sym, subst, arith, inl, inr, ⊎_elim, ◌⊎◌, ℕ, ◌+◌, List, [], ◌∷◌, ◌++◌}
 use Rattle.std.proofs.Common.{Option, Some, None}
 use Rattle.lists.specs.Rows.{Rows}
@@ -177,8 +176,8 @@ module _ (mic samples out : Name) (old new : View) (kept : Kept) (files : Files)
       (IsClearOver (microprogram_of h.image) []) (run_clear h.image) conflict h.ended)
   sim_ends other h = absurd h
 
--- SRC has this program, and OUT has rows of its solution. `rows_of` says which rows a solution has over so many
--- samples.
+-- SRC has this program, and OUT has rows of its solution. `rows_of` says which rows a solution has over so
+-- many samples.
 module _ (rows_of : Program → Words → (count : ℕ) → Rows) (src samples out : Name) (old new : View) (files : Files)
     (specified : old.files ≡ Some files) (program : Program) (has : HasProgram (content_of (files src)) program) where
   abbrev EvalEnds : Program → Option StreamFault → Type 0

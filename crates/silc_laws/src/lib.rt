@@ -1,5 +1,5 @@
-//! What `silc` promises, a sentence a clause. The sentences follow from the two clauses of `silc` that say which words are
-//! a command and how each command ends (`words`, `ending`).
+//! What `silc` promises, a sentence a clause. The sentences follow from the two clauses of `silc` that say which words
+//! are a command and how each command ends (`words`, `ending`).
 #![tactic(auto)]
 
 mod streams;

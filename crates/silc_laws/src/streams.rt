@@ -66,8 +66,8 @@ pub fn run_completes<D: Desk>(
     run_samples(machine, rows, desk, limit)
 }
 
-/// How an evaluation over the input ends. Where no fault of the desk rose, it is done, or answers why the input stops
-/// it.
+/// How an evaluation over the input ends. Where no fault of the desk rose, it is done, or answers why the input
+/// stops it.
 pub fn evaluation_completes<D: Desk>(
     evaluator: &mut Evaluator,
     rows: &mut Rows,

@@ -1,5 +1,5 @@
-//! The image of a microcode file: a line for each unit, register file, microword, issue, bus drive and register-file
-//! write.
+//! The image of a microcode file: a line for each unit, register file, microword, issue, bus drive and
+//! register-file write.
 
 ghost use Rattle.std.specs.Prelude.{IfOk};
 ghost use Rattle.micro_image.specs.Spells.{Spells};

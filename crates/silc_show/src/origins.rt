@@ -1,7 +1,7 @@
-//! Where the nodes that are planned come from: a line for each, with its node in the graph of the source, the line in which
-//! its element is defined, the element, and its operation. Where a node gets no delay line, the nodes are those of the
-//! graph, and the fault follows. Pages `docs/GRAPH.md`, "The graph of a flat program", and `docs/PLANNING.md`, "Delay
-//! lines".
+//! Where the nodes that are planned come from: a line for each, with its node in the graph of the source, the line in
+//! which its element is defined, the element, and its operation. Where a node gets no delay line, the nodes are those
+//! of the graph, and the fault follows. Pages `docs/GRAPH.md`, "The graph of a flat program", and `docs/PLANNING.md`,
+//! "Delay lines".
 
 ghost use Rattle.silage_syntax.specs.Tree.{view};
 ghost use Rattle.signal_graph.specs.Flat as flat_form;

@@ -1,5 +1,5 @@
-//! A run cycle by cycle, of microcode or of a source over stages: what each unit issues, what each bus carries, and what
-//! is written.
+//! A run cycle by cycle, of microcode or of a source over stages: what each unit issues, what each bus carries, and
+//! what is written.
 
 ghost use Rattle.std.specs.Prelude.{◌≡◌, ◌<◌, ◌≤◌, ◌^◌, length, All, IsTrue, IfOk, OnOk};
 ghost use Rattle.std.specs.List.{range_with_len};
@@ -317,8 +317,8 @@ fn bring(order: &mut List<u8>, place: usize, unit: u8) -> bool
     false
 }
 
-/// Brings the units into the order of the numbers, which have commas between them. `false`: they don't name each unit
-/// once.
+/// Brings the units into the order of the numbers, which have commas between them. `false`: they don't name each
+/// unit once.
 fn arrange(order: &mut List<u8>, numbers: &str) -> bool
     ensures { IsPermutation order.old order.new }
 {

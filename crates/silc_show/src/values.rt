@@ -1,6 +1,7 @@
-//! The words of all elements of a source over the rows of a sample file, for `tools/ranges` and `tools/noise`. The elements
-//! are outputs of the flat program, as many at a time as a row has words: a line for each of them with its name and type,
-//! and then a line for each sample with their words. So a word is the evaluator's. Page `docs/GRAPH.md`, "Evaluation".
+//! The words of all elements of a source over the rows of a sample file, for `tools/ranges` and `tools/noise`. The
+//! elements are outputs of the flat program, as many at a time as a row has words: a line for each of them with its
+//! name and type, and then a line for each sample with their words. So a word is the evaluator's. Page
+//! `docs/GRAPH.md`, "Evaluation".
 
 ghost use Rattle.std.specs.Prelude.{◌≡◌, ◌<◌, ◌≤◌, length, All, IfOk, OnOk};
 ghost use Rattle.signal_graph.specs.Flat as flat_form;

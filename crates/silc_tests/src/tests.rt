@@ -205,9 +205,9 @@ fn a_call_that_fails_leaves_a_prefix_of_the_plan(rt: HostRuntime) -> Result<(), 
     Ok(())
 }
 
-/// The commands, each with how many calls of a desk it takes with pieces of 100 bytes: an input is opened and read to its
-/// end (SRC in 3 calls, DP in 5, MIC in 3, SAMPLES in 3, TAPS in 6, PATH in 15), OUT is created, written in pieces and
-/// closed, a text is printed in pieces.
+/// The commands, each with how many calls of a desk it takes with pieces of 100 bytes: an input is opened and read to
+/// its end (SRC in 3 calls, DP in 5, MIC in 3, SAMPLES in 3, TAPS in 6, PATH in 15), OUT is created, written in pieces
+/// and closed, a text is printed in pieces.
 const CALLS: [(&[&str], u64); 8] = [
     (&COMPILE, 11),
     (&SCHEDULE, 11),
@@ -265,8 +265,8 @@ type Worked = (
     &'static [u8],
 );
 
-/// Initial values of signals that pass one on to another, two instances with their own delays, a choice, casts that cut and
-/// round; a delay-free loop, a loop without turns.
+/// Initial values of signals that pass one on to another, two instances with their own delays, a choice, casts that cut
+/// and round; a delay-free loop, a loop without turns.
 const WORKED: [Worked; 6] = [
     (
         b"func main(x : fix<8,0>) y : fix<8,0> = begin var p, q : fix<8,0>; q = x; p = q; y = p@1; q@@1 = 7; p@@1 = 2; end;",

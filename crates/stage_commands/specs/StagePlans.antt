@@ -49,8 +49,8 @@ module _ (stages : ℕ) where
   IsStageable source datapath =
       (program : Program) × (d : Datapath) × (plan : StagePlan) × IsStagedOver source datapath program d plan
 
-  -- what a status tells of a source that has no plan over a datapath: a fault comes only where nothing before it has
-  -- one
+  -- what a status tells of a source that has no plan over a datapath: a fault comes only where nothing before it
+  -- has one
   abbrev pub IsStageRefused : Status → (source datapath : List ℕ) → Type 0
   IsStageRefused = IsRefusedBy (IsUnplannedBy IsProgramGraph IsUnstaged)
 

@@ -1,8 +1,8 @@
-//! The commands of samples that overlap (software pipelining): `stages` prints a plan over several stages, and `pipe` runs
-//! its guarded image over samples.
+//! The commands of samples that overlap (software pipelining): `stages` prints a plan over several stages, and `pipe`
+//! runs its guarded image over samples.
 //!
-//! In `specs/`, `StagePlans` says which plan a source has or why it has none, and `Stages` and `Pipe` when each status
-//! comes.
+//! In `specs/`, `StagePlans` says which plan a source has or why it has none, and `Stages` and `Pipe` when each
+//! status comes.
 #![tactic(auto)]
 
 mod piper;

@@ -1,5 +1,5 @@
-//! `pipe SRC DP S SAMPLES OUT`: from the bytes of a source and a datapath to a machine of samples that overlap, and on to
-//! the rows that it puts.
+//! `pipe SRC DP S SAMPLES OUT`: from the bytes of a source and a datapath to a machine of samples that overlap, and on
+//! to the rows that it puts.
 ghost use Rattle.std.specs.Prelude.{◌≡◌, ◌≢◌, ◌≤◌, [], ◌∷◌, IfOk, IfErr};
 ghost use Rattle.cycle_sim.specs.Microcode.{inputs_of};
 ghost use Rattle.datapath.specs.Allowed.{IsDatapath};
@@ -50,8 +50,8 @@ fn ready_for(alloc: Global, planned: &StagePlanned) -> Result<Ready, Status>
     }
 }
 
-/// Reads SRC and DP, makes the machine of the guarded image of the plan of the one over so many stages on the other, and
-/// takes all memory that a run of it needs.
+/// Reads SRC and DP, makes the machine of the guarded image of the plan of the one over so many stages on the other,
+/// and takes all memory that a run of it needs.
 fn read_ready<D: Desk>(
     alloc: Global,
     desk: &mut D,

@@ -41,8 +41,8 @@ fn write_subscripts(piece: &mut Piece, element: &Element) -> fmt::Result {
     }
 }
 
-/// Reports an error that names no unit, in one line that begins with the name of the program. That has at most 18 bytes,
-/// else the line is cut off. It takes no memory, and names of elements have any length.
+/// Reports an error that names no unit, in one line that begins with the name of the program. That has at most 18
+/// bytes, else the line is cut off. It takes no memory, and names of elements have any length.
 pub fn report_error<D: Desk>(desk: &mut D, program: &str, ending: &Ending)
     ensures faults { FaultsNeverFall (D.view desk.old) (D.view desk.new) }
     ensures unchanged { IsUnchanged (D.view desk.old) (D.view desk.new) }

@@ -1,5 +1,5 @@
-//! Typed programs: the rules on types and their faults, and each expression as raw words, reads and operations by
-//! formats.
+//! Typed programs: the rules on types and their faults, and each expression as raw words, reads and operations
+//! by formats.
 #![tactic(auto)]
 
 mod fault;

@@ -125,8 +125,8 @@ abbrev pub hundred : Expr
 hundred = number false 100 0
 
 -- 100 + 100 - 100 against fix<8,0,sat>: the inner sum stays at 127, and the difference is 27. Against fix<8,0> it wraps
--- to -56, and the difference to 100. The word of -2.5 is the nearest, of two the greater, -2; -(2.5) is that of 2.5, 3,
--- negated.
+-- to -56, and the difference to 100. The word of -2.5 is the nearest, of two the greater, -2; -(2.5) is that of 2.5,
+-- 3, negated.
 abbrev pub PartsHaveWords : Type 0
 PartsHaveWords =
     Has (binary 0 op.Sub (binary 0 op.Add hundred hundred) hundred) (fix 8 0 Sat) (pos 27)

@@ -42,8 +42,8 @@ IsOfGraph op.Store = ⊥
 IsOfGraph op.Addr = ⊥
 IsOfGraph _ = Unit {0}
 
--- The words solve the lowered list: a load gives what its line's node gave so many samples ago, and an address its
--- cell.
+-- The words solve the lowered list: a load gives what its line's node gave so many samples ago, and an address
+-- its cell.
 pub record LoweredSolves (d : Datapath) (p : Plan) (stream : Rows) (words : Counted) : Type 0 where
   pub before : (v s : ℕ)
       → v < length (nodes_of p) → s < past

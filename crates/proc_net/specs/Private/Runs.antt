@@ -17,8 +17,8 @@ pub record IsWritten (old new : RowList) (places place : ℕ) : Type 0 where
   pub words : length new.words ≡ length old.words
   pub others : (k : ℕ) → k < places → (k ≡ place → ⊥) → row_in new k ≡ row_in old k
 
--- the processor goes on by a cycle that its machine ran; where it was the last one of a sample, the sample's row was
--- put
+-- the processor goes on by a cycle that its machine ran; where it was the last one of a sample, the sample's row
+-- was put
 pub record Advanced (old new : Processor) : Type 0 where
   pub machine : new.machine ≡ old.machine
   pub feed : new.feed ≡ old.feed

@@ -42,8 +42,8 @@ pub record HasBefore (arcs : List Arc) (regs : List (List ℕ)) (port : PortRef)
   pub file : (arc_of arcs l).port ≡ port
   pub its_register : register_of regs l j ≡ q
 
--- The copies before copy i of arc k have their registers, and this is when the registers in the file of the port hold
--- words.
+-- The copies before copy i of arc k have their registers, and this is when the registers in the file of the port
+-- hold words.
 pub record AreAllottedBefore (d : Datapath) (samples : ℕ) (arcs : List Arc) (regs : List (List ℕ)) (port : PortRef)
     (registers : List Occupancy) (k i : ℕ) : Type 0 where
   pub have : HaveRegistersBefore d samples arcs regs k i

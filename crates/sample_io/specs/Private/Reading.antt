@@ -67,8 +67,8 @@ Reads channels old byte result new =
     (bytes : List ℕ) (rows : Rows) (words : List ℤ) → ReadSoFar channels bytes rows words old
     → ReadsByte channels bytes rows words byte result new
 
--- no line is begun; or the line begun is the text of a row with this last word; or the end of input is the first bad
--- place
+-- no line is begun; or the line begun is the text of a row with this last word; or the end of input is the first
+-- bad place
 abbrev pub ReadsEnd : List Channel → List ℕ → Rows → List ℤ → Result (Option ℤ) RowFault → Type 0
 ReadsEnd channels bytes rows words (Ok None) = Lines bytes channels rows × (words ≡ [])
 ReadsEnd channels bytes rows words (Ok (Some word)) = LacksLastEnd bytes channels (rows ++ (words ++ word ∷ []) ∷ [])

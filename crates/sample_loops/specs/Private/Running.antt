@@ -68,8 +68,7 @@ EndsLines old piece rows =
     → Lines (front ++ take count piece) old.channels (before ++ rows))
 
 -- Why the rows of a piece did not all run: a line is no row, or in a row a conflict was met, or what waited could not
--- be
--- written. What the rows before it put is passed on, or a prefix of it.
+-- be written. What the rows before it put is passed on, or a prefix of it.
 abbrev pub EndsInPiece : (Rows → Rows → Type 0)
     → (Rows → ConflictValue → Type 0)
     → FedRows

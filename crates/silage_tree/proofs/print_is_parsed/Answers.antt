@@ -1,5 +1,5 @@
--- What is within the limits has roles that pass none, the text's tokens have such roles, and so they are within the
--- limits.
+-- What is within the limits has roles that pass none, the text's tokens have such roles, and so they are within
+-- the limits.
 use Rattle.silage_parse.proofs.Within.{roles_within, program_within}
 use Rattle.silage_print.specs.ReadAgain.{HasSourceWithin}
 use Rattle.silage_tree.proofs.print_is_parsed.Goals as goal

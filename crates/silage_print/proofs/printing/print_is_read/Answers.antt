@@ -1,5 +1,5 @@
--- The text has tokens of the program's kinds, and those are read as the program, with roles that are lighter than the
--- source's.
+-- The text has tokens of the program's kinds, and those are read as the program, with roles that are lighter than
+-- the source's.
 use Rattle.silage_lex.specs.Tokens.{HasTokens, TokenList}
 use Rattle.silage_syntax.specs.Tree.{Program}
 use Rattle.silage_syntax.specs.Grammar.{Derives}
