@@ -2,22 +2,18 @@ pub mod Adding
 pub mod ReadLists
 pub mod FirstLoops
 pub mod SiteLists
-pub mod SiteSteps
 pub mod DelayMarks
 pub mod AllSites
 pub mod Positions
 pub mod NumberSteps
 pub mod FirstSites
 pub mod AliasSteps
-pub mod LastSteps
 pub mod AliasHeights
 pub mod Searches
 pub mod NewNumbers
 pub mod PlaceNumbers
 pub mod ElementNumbers
-pub mod OperandPlaces
 pub mod ElementPlaces
-pub mod PlaceEdges
 pub mod NodeSteps
 pub mod OutputSteps
 mod WholeGraphs

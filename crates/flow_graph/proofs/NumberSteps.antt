@@ -4,16 +4,20 @@ use Rattle.std.proofs.Common.{take, get_or, refl, sym, ap, subst, ◌∙◌, ari
 use Rattle.std.specs.Prelude.{ℤ, if◌then◌else◌, is_none, slice_get, slice_index_or}
 use Rattle.std.specs.Option.{option_or}
 use Rattle.std.specs.Ordering.{int_eq}
-use Rattle.std.proofs.lemmas.List.{length_push, take_more, take_all, get_or_push, get_or_append_left}
+use Rattle.std.proofs.lemmas.List.{length_push, append-nil, take-append-le, get_or_push, get_or_append_left}
 use Rattle.std.proofs.lemmas.Bool.{cases_eq}
 use Rattle.std.proofs.lemmas.Bool.Decides.{Decides-int_eq}
-use Rattle.std.proofs.lemmas.Option.{slice_get_within, get_or_from_slice_get}
-use Rattle.lists.proofs.Places.{some_once}
-use Rattle.signal_graph.specs.GraphOf.{Made, constant, Site, word_node, is_target, is_constant}
+use Rattle.std.proofs.lemmas.Option.{slice_get_within, none-some}
+use mathlib.Core.List.{append_assoc}
+use Rattle.lists.proofs.Places.{at_push, take_front}
+use Rattle.signal_graph.specs.GraphOf.{Made, nothing, constant, input, operation, Site, sites_from, word_node}
+use Rattle.signal_graph.specs.GraphOf.{is_target, is_constant}
 use Rattle.flow_graph.specs.Private.Words.{number_in, number_if}
 use Rattle.flow_graph.specs.Private.Nodes.{word_position, is_made_after, with_site, nodes_from, nodes_of, IsCounted}
-use Rattle.flow_graph.specs.Private.Nodes.{IsPlaceNumber, Numbers, AreNumbers}
+use Rattle.flow_graph.specs.Private.Nodes.{IsPlaceNumber, Numbers, AreNumbers, IsOwn, AreNumbered, NumbersMore}
+use Rattle.flow_graph.specs.declared.numbers.Numbered.{Numbered}
 use Rattle.flow_graph.proofs.Positions.{position_end, position_other}
+use Rattle.flow_graph.proofs.SiteLists.{sites_append}
 
 pub kept : (nodes : List Site) (s : Site) (made : Made)
     → s.made ≡ made
@@ -75,70 +79,105 @@ pub nodes_push : (nodes xs : List Site) (s : Site) → nodes_from nodes (xs ++ s
 nodes_push nodes [] s = refl
 nodes_push nodes (x ∷ xs) s = nodes_push (with_site nodes x) xs s
 
--- the first places are numbered
-pub record NumbersSoFar (all : List Site) (i : ℕ) (words : List (ℤ × ℕ)) (count : ℕ) (numbers : List ℕ) : Type 0 where
-  pub counted : IsCounted (nodes_of (take i all)) words count
-  pub few : count ≤ i
-  pub size : length numbers ≡ i
-  pub places : (j : ℕ) (s : Site)
-      → j < i
-      → slice_get all j ≡ Some s
-      → IsPlaceNumber (nodes_of (take j all)) s s.made (slice_index_or numbers j 0)
-
-pub none_numbered : (all : List Site) (words : List (ℤ × ℕ)) (numbers : List ℕ)
-    → words ≡ []
-    → numbers ≡ []
-    → NumbersSoFar all 0 words 0 numbers
-none_numbered all words numbers no_words none = record {
-  counted = record { size = refl; met = λ m. ap (λ ws. number_in ws m) no_words };
+-- nothing is made at a read's place, which has the number of the next node
+pub read_number : (words : List (ℤ × ℕ)) (count : ℕ) → Numbers words count nothing words count count
+read_number words count = record {
+  counted = λ nodes s is c.
+      subst (λ (ns : List Site). IsCounted ns words count) (sym (kept nodes s nothing is refl)) c;
+  gives = λ nodes s is c. c.size;
   few = omega arith;
-  size = ap length none;
-  places = λ j s below at. absurd (omega arith);
 }
 
-pub one_numbered :
-    (all : List Site) (i : ℕ) (s : Site) (words words' : List (ℤ × ℕ)) (count count' v : ℕ) (numbers numbers' : List ℕ)
-    → slice_get all i ≡ Some s
-    → Numbers words count s.made words' count' v
-    → numbers' ≡ numbers ++ v ∷ []
-    → NumbersSoFar all i words count numbers
-    → NumbersSoFar all (i + 1) words' count' numbers'
-one_numbered all i s words words' count count' v numbers numbers' at n push h =
-    let within = slice_get_within all i s at in
-    let first : take (i + 1) all ≡ take i all ++ s ∷ [] =
-    take_more all i s within ∙ ap (λ y. take i all ++ y ∷ []) (get_or_from_slice_get all i s s at) in
-    let nodes : nodes_of (take (i + 1) all) ≡ with_site (nodes_of (take i all)) s =
-    ap nodes_of first ∙ nodes_push [] (take i all) s in
-    let number = n.gives (nodes_of (take i all)) s refl h.counted in
+counted_own : (words : List (ℤ × ℕ)) (count : ℕ) (nodes : List Site) (s : Site) (made : Made)
+    → s.made ≡ made
+    → is_made_after nodes made ≡ true
+    → ((m : ℤ) → is_constant m s.made ≡ false)
+    → IsCounted nodes words count
+    → IsCounted (with_site nodes s) words (count + 1)
+counted_own words count nodes s made is sure other c =
+    let more = grown nodes s made is sure in
     record {
-      counted =
-          subst (λ (ns : List Site). IsCounted ns words' count') (sym nodes)
-          (n.counted (nodes_of (take i all)) s refl h.counted);
-      few = let a = n.few in let b = h.few in omega arith;
-      size = ap length push ∙ length_push numbers v ∙ let e = h.size in omega arith;
-      places = λ j t below there. elim (cases_eq j i) [
-        | inl same ↦
-            (let is : s ≡ t = some_once at (subst (λ (k : ℕ). slice_get all k ≡ Some t) same there) in
-            let P : ℕ → Site → ℕ → Type 0 = λ k u w. IsPlaceNumber (nodes_of (take k all)) u u.made w in
-            let read : slice_index_or numbers' i 0 ≡ v =
-            ap (λ xs. get_or xs i 0) push ∙ get_or_push numbers v 0 i h.size in
-            subst (λ k. P k t (slice_index_or numbers' k 0)) (sym same)
-            (subst (λ u. P i u (slice_index_or numbers' i 0)) is (subst (λ w. P i s w) (sym read) number)))
-        | inr other ↦
-            (let less : j < i = omega arith in
-            let read : slice_index_or numbers' j 0 ≡ slice_index_or numbers j 0 =
-            ap (λ xs. get_or xs j 0) push
-            ∙ get_or_append_left numbers (v ∷ []) 0 j (let e = h.size in omega arith) in
-            subst (λ w. IsPlaceNumber (nodes_of (take j all)) t t.made w) (sym read) (h.places j t less there))
-      ];
+      size = let n = c.size in let size = ap length more ∙ length_push nodes s in omega arith;
+      met = λ m.
+          c.met m ∙ sym (position_other (is_target (word_node m)) nodes s (other m)) ∙ sym (ap (word_position m) more);
     }
 
-pub all_numbered : (all : List Site) (i : ℕ) (words : List (ℤ × ℕ)) (count : ℕ) (numbers : List ℕ)
-    → i ≡ length all
-    → NumbersSoFar all i words count numbers
-    → AreNumbers all numbers words
-all_numbered all i words count numbers end h = record {
-  size = h.size ∙ end;
-  places = λ j s at. h.places j s (let within = slice_get_within all j s at in omega arith) at;
-  met = λ m. h.counted.met m ∙ ap (λ xs. word_position m (nodes_of xs)) (take_all i all (omega arith));
+-- a node of its own has the next number
+pub own_number : (words : List (ℤ × ℕ)) (count : ℕ) (made : Made)
+    → IsOwn made
+    → Numbers words count made words (count + 1) count
+own_number words count nothing own = absurd own
+own_number words count (constant m) own = absurd own
+own_number words count (input j) own = record {
+  counted = λ nodes s is c. counted_own words count nodes s (input j) is refl (λ m. ap (is_constant m) is) c;
+  gives = λ nodes s is c. c.size;
+  few = omega arith;
 }
+own_number words count (operation o fmt os) own = record {
+  counted = λ nodes s is c. counted_own words count nodes s (operation o fmt os) is refl (λ m. ap (is_constant m) is) c;
+  gives = λ nodes s is c. c.size;
+  few = omega arith;
+}
+
+-- one place more is numbered
+pub one_more : (all : List Site) (s : Site) (n n' : Numbered) (v : ℕ)
+    → Numbers n.nodes.words n.nodes.count s.made n'.nodes.words n'.nodes.count v
+    → n'.places ≡ n.places ++ v ∷ []
+    → AreNumbered all n
+    → AreNumbered (all ++ s ∷ []) n'
+one_more all s n n' v given push h = record {
+  counted =
+      subst (λ (ns : List Site). IsCounted ns n'.nodes.words n'.nodes.count) (sym (nodes_push [] all s))
+      (given.counted (nodes_of all) s refl h.counted);
+  size = ap length push ∙ length_push n.places v ∙ ap (λ (k : ℕ). k + 1) h.size ∙ sym (length_push all s);
+  places = λ i t at. elim (at_push all s i t at) [
+    | inl there ↦
+        (let less : i < length all = slice_get_within all i t there in
+        let read : slice_index_or n'.places i 0 ≡ slice_index_or n.places i 0 =
+        ap (λ xs. get_or xs i 0) push
+        ∙ get_or_append_left n.places (v ∷ []) 0 i (let e = h.size in omega arith) in
+        let first : take i (all ++ s ∷ []) ≡ take i all = take-append-le i all (s ∷ []) (omega arith) in
+        subst (λ (xs : List Site). IsPlaceNumber (nodes_of xs) t t.made (slice_index_or n'.places i 0)) (sym first)
+        (subst (λ (w : ℕ). IsPlaceNumber (nodes_of (take i all)) t t.made w) (sym read) (h.places i t there)))
+    | inr here ↦
+        (let read : slice_index_or n'.places i 0 ≡ v =
+        ap (λ xs. get_or xs i 0) push ∙ get_or_push n.places v 0 i (let e = h.size in let f = here.0 in omega arith) in
+        let first : take i (all ++ s ∷ []) ≡ all =
+        ap (λ (j : ℕ). take j (all ++ s ∷ [])) here.0 ∙ take_front all (s ∷ []) in
+        subst (λ (xs : List Site). IsPlaceNumber (nodes_of xs) t t.made (slice_index_or n'.places i 0)) (sym first)
+        (subst (λ (w : ℕ). IsPlaceNumber (nodes_of all) t t.made w) (sym read)
+        (subst (λ (u : Site). IsPlaceNumber (nodes_of all) u u.made v) here.1
+        (given.gives (nodes_of all) s refl h.counted))))
+  ];
+}
+
+pub more_one : (made : Made) (n n' : Numbered) (v : ℕ)
+    → Numbers n.nodes.words n.nodes.count made n'.nodes.words n'.nodes.count v
+    → n'.places ≡ n.places ++ v ∷ []
+    → NumbersMore n (made ∷ []) n'
+more_one made n n' v given push all e k h =
+    one_more all (record { element = e; place = k; made = made }) n n' v given push h
+
+pub more_none : (n : Numbered) → NumbersMore n [] n
+more_none n all e k h = subst (λ (xs : List Site). AreNumbered xs n) (sym (append-nil all)) h
+
+pub more_then : (a b c : Numbered) (xs ys : List Made)
+    → NumbersMore a xs b
+    → NumbersMore b ys c
+    → NumbersMore a (xs ++ ys) c
+more_then a b c xs ys f g all e k h =
+    subst (λ (zs : List Site). AreNumbered zs c)
+    (append_assoc all (sites_from e k xs) (sites_from e (k + length xs) ys)
+    ∙ ap (λ zs. all ++ zs) (sym (sites_append e k xs ys)))
+    (g (all ++ sites_from e k xs) e (k + length xs) (f all e k h))
+
+-- at first none are numbered
+pub none_numbered : (n : Numbered) → n.nodes.words ≡ [] → n.nodes.count ≡ 0 → n.places ≡ [] → AreNumbered [] n
+none_numbered n no_words no_nodes none = record {
+  counted = record { size = no_nodes; met = λ m. ap (λ ws. number_in ws m) no_words };
+  size = ap length none;
+  places = λ i s at. absurd (none-some s at);
+}
+
+pub all_numbered : (all : List Site) (n : Numbered) → AreNumbered all n → AreNumbers all n.places n.nodes.words
+all_numbered all n h = record { size = h.size; places = h.places; met = h.counted.met }

@@ -1,13 +1,12 @@
 pub mod ReadsNow
-pub mod Sites
 pub mod Delayed
 pub mod Words
 pub mod Nodes
 pub mod Aliases
-pub mod LastPlaces
 pub mod Pruning
 pub mod ElementNodes
-pub mod Edges
+pub mod Places
 pub mod NodesBy
+pub mod Making
 pub mod Outputs
 pub mod GraphNodes

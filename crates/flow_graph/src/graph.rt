@@ -1,57 +1,42 @@
 //! The graph of a flat program.
 
-ghost use Rattle.std.specs.Prelude.{◌≡◌, ◌⊎◌, ℕ, map, Err, IfOk, OnOk};
+ghost use Rattle.std.specs.Prelude.{◌≡◌, ◌⊎◌, ℕ, Err, IfOk, OnOk};
 ghost use Rattle.signal_graph.specs.Flat.{view};
 ghost use Rattle.signal_graph.specs.FlatRules.{IsFlat};
 ghost use Rattle.signal_graph.specs.FlatSolves.{IsFlatLoopless};
-ghost use Rattle.signal_graph.specs.GraphOf.{sites, IsGraphOf};
+ghost use Rattle.signal_graph.specs.GraphOf.{IsGraphOf};
 ghost use Rattle.signal_graph.specs.GraphRules.{IsGraph};
 ghost use Rattle.signal_graph.specs.GraphSolves.{IsGraphLoopless};
 ghost use Rattle.signal_graph.specs.Keeps.{KeepsFlatSolutions};
 ghost use Rattle.flow_graph.specs.declared.fault.GraphFault.TheVariants.{Loop, Memory};
 ghost use Rattle.flow_graph.specs.Loops.{IsFirstLoop};
 ghost use Rattle.flow_graph.specs.PrunedGraph.{IsPrunedGraphOf, KeepsFlatRows};
-ghost use Rattle.flow_graph.specs.Private.Delayed.{TellsDelayed};
 ghost use Rattle.flow_graph.specs.Private.GraphNodes.{AreGraphNodes};
-ghost use Rattle.flow_graph.specs.Private.Sites.{view_site};
 
 use crate::delays::delayed_elements;
 use crate::elements::element_numbers;
 use crate::fault::GraphFault;
 use crate::loops::first_loop;
-use crate::nodes::nodes_of_places;
-use crate::numbers::number_all;
+use crate::nodes::{Tables, nodes_of_places};
+use crate::numbers::{Numbers, number_all};
 use crate::outputs::add_outputs;
 use crate::pruning::{PruneFault, prune_owned};
-use crate::sites::{Site, sites_of};
 use lists::List;
 use signal_graph::{FlatProgram, Graph, Node};
 use std::alloc::{AllocError, Global};
 
 /// The nodes of the graph: those that are made at places, and those of output words.
-fn all_nodes(
-    alloc: Global,
-    flat: &FlatProgram,
-    delayed: &[bool],
-    places: &[Site],
-) -> Result<List<Node>, AllocError>
+fn all_nodes(alloc: Global, flat: &FlatProgram) -> Result<List<Node>, AllocError>
     requires sound { IsFlat (view flat.now) }
     requires loopless { IsFlatLoopless (view flat.now) }
-    requires delayed { TellsDelayed (view flat.now) delayed.now }
-    requires places { map view_site places.now ≡ sites (view flat.now) }
     ensures { IfOk result (AreGraphNodes (view flat.now)) }
 {
-    let numbers = number_all(alloc, places)?;
-    let elements = element_numbers(alloc, flat, delayed, places, numbers.places.as_slice())?;
-    let mut nodes = nodes_of_places(
-        alloc,
-        flat,
-        places,
-        &numbers.words,
-        numbers.places.as_slice(),
-        &elements,
-    )?;
-    add_outputs(alloc, &mut nodes, flat.outs.as_slice(), &elements)?;
+    let delayed = delayed_elements(alloc, flat)?;
+    let Numbers { places, last } = number_all(alloc, flat, &delayed)?;
+    let elements = element_numbers(alloc, flat, &delayed, last.as_slice())?;
+    let tables = Tables { places, elements };
+    let mut nodes = nodes_of_places(alloc, flat, &delayed, &tables)?;
+    add_outputs(alloc, &mut nodes, flat.outs.as_slice(), &tables.elements)?;
     Ok(nodes)
 }
 
@@ -61,9 +46,7 @@ fn graph_of(alloc: Global, flat: &FlatProgram) -> Result<Graph, AllocError>
     requires loopless { IsFlatLoopless (view flat.now) }
     ensures { IfOk result (IsGraphOf (view flat.now)) }
 {
-    let delayed = delayed_elements(alloc, flat)?;
-    let places = sites_of(alloc, flat, &delayed)?;
-    let nodes = all_nodes(alloc, flat, &delayed, places.as_slice())?;
+    let nodes = all_nodes(alloc, flat)?;
     let inputs = List::from_slice(alloc, flat.inputs.as_slice())?;
     Ok(Graph {
         nodes,

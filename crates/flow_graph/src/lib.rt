@@ -3,7 +3,6 @@
 
 mod aliases;
 mod delays;
-mod edges;
 mod elements;
 mod fault;
 mod graph;
@@ -11,9 +10,9 @@ mod loops;
 mod nodes;
 mod numbers;
 mod outputs;
+mod passes;
 mod pruning;
 mod reads;
-mod sites;
 mod widths;
 mod words;
 

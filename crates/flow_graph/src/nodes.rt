@@ -1,27 +1,24 @@
 //! The nodes that are made at places.
 
-ghost use Rattle.std.specs.Prelude.{◌≡◌, ◌<◌, [], length, map, pos, if◌then◌else◌, option_map, slice_get, IfOk};
+ghost use Rattle.std.specs.Prelude.{◌≡◌, length, IfOk, OnOk};
 ghost use Rattle.fix_word.specs.Words.{IsMachineWord};
-ghost use Rattle.fix_word.specs.declared.operation.Op.TheVariants as op;
 ghost use Rattle.signal_graph.specs.Operations.{class_of};
-ghost use Rattle.signal_graph.specs.Rules.{width_of, plain};
-ghost use Rattle.signal_graph.specs.Flat.{view};
+ghost use Rattle.signal_graph.specs.Rules.{plain, width_of};
+ghost use Rattle.signal_graph.specs.Expressions.{view_exprs};
+ghost use Rattle.signal_graph.specs.Flat as flat_program;
+ghost use Rattle.signal_graph.specs.Flat.{view, view_expr, view_body, raw, read};
 ghost use Rattle.signal_graph.specs.FlatRules.{IsFlat};
 ghost use Rattle.signal_graph.specs.GraphOf as made_by;
-ghost use Rattle.signal_graph.specs.GraphOf.{constant};
-ghost use Rattle.flow_graph.specs.Private.Edges.{edge_by, HasNumber};
-ghost use Rattle.flow_graph.specs.Private.ElementNodes.{AreElementNumbers};
-ghost use Rattle.flow_graph.specs.Private.Nodes.{AreNumbers};
-ghost use Rattle.flow_graph.specs.Private.NodesBy.{CanBeMade, IsNodeBy, is_made_by, is_end_before, IsMadeAt, IsSomethingAt, AreMade};
-ghost use Rattle.flow_graph.specs.Private.Sites.{view_made, view_site};
+ghost use Rattle.flow_graph.specs.Private.Delayed.{TellsDelayed};
+ghost use Rattle.flow_graph.specs.Private.NodesBy.{AreMade};
+ghost use Rattle.flow_graph.specs.Private.Places.{made_of};
+ghost use Rattle.flow_graph.specs.Private.Making.{IsConstantNode, AreTables, IsMaking, StandsAt, PartsStandAt, OperationAt, ElementAt, Adds, AddsExpr, AddsParts, AddsNode};
 
-use crate::edges::edges_of;
-use crate::sites::{Made, Site, bits};
+use crate::passes::{bits, has_pass};
 use crate::widths::least_width;
-use crate::words::Words;
 use fix_word::{Format, Mode, Op};
 use lists::List;
-use signal_graph::{Edges, FlatElem, FlatProgram, Node};
+use signal_graph::{Edge, Edges, FlatBody, FlatElem, FlatExpr, FlatProgram, Node};
 use std::alloc::{AllocError, AllocFailed, Global};
 
 /// The width of a truth value.
@@ -61,7 +58,7 @@ fn node_width(op: Op, fmt: Format) -> u8
 /// The node of a raw word.
 fn constant_node(alloc: Global, word: i64) -> Node
     requires { IsMachineWord word }
-    ensures { IsNodeBy 0 [] (edge_by [] [] [] 0) (constant word) result }
+    ensures { IsConstantNode word result }
 {
     Node {
         op: Op::Const,
@@ -74,129 +71,247 @@ fn constant_node(alloc: Global, word: i64) -> Node
     }
 }
 
-/// The initial values of the node at a place: the element's at its last place.
-fn inits_of(
-    alloc: Global,
-    element: &FlatElem,
-    is_last: bool,
-) -> Result<List<(u16, i64)>, AllocError>
-    ensures { IfOk result (λ inits. inits ≡ (if is_last then element.now.inits else [])) }
-{
-    if is_last {
-        List::from_slice(alloc, element.inits.as_slice())
-    } else {
-        Ok(List::new(alloc))
-    }
+/// The numbers of the nodes of all places and of elements.
+#[derive(Drop)]
+pub(crate) struct Tables {
+    pub(crate) places: List<u32>,
+    pub(crate) elements: Vec<u32>,
 }
 
-/// Whether a node is made at the place that has the number, where there are so many nodes before.
-fn is_made(made: &Made, number: u32, count: usize) -> bool
-    ensures { result ≡ is_made_by number count (view_made made.now) }
-{
-    match made {
-        Made::Nothing => false,
-        Made::Constant(_) => number as usize == count,
-        Made::Input(_) | Made::Operation { .. } => true,
-    }
+/// The nodes so far, and the index of the place behind theirs.
+#[derive(Drop)]
+struct Making {
+    nodes: List<Node>,
+    next: usize,
 }
 
-/// The node that is made at a place of an element whose places begin at `first`.
-fn node_of(
-    alloc: Global,
-    element: &FlatElem,
-    made: &Made,
-    is_last: bool,
-    first: usize,
-    words: &Words,
-    places: &[u32],
-    elements: &[u32],
-) -> Result<Node, AllocError>
-    requires { CanBeMade (HasNumber words.now places.now elements.now first) (view_made made.now) }
-    ensures { IfOk result (IsNodeBy (width_of element.now.ty) (if is_last then element.now.inits else [])
-        (edge_by words.now places.now elements.now first) (view_made made.now)) }
-{
-    match made {
-        Made::Nothing => unreachable!(),
-        Made::Constant(word) => Ok(constant_node(alloc, *word)),
-        Made::Input(word) => Ok(Node {
-            op: Op::Input,
-            fmt: no_format(),
-            arg: i64::from(*word),
-            edges: Edges::new(alloc),
-            inits: inits_of(alloc, element, is_last)?,
-            width: bits(element.ty),
-            ram: 0,
-        }),
-        Made::Operation { op, fmt, operands } => Ok(Node {
-            op: *op,
-            fmt: node_format(*op, *fmt),
+impl Making {
+    /// The operand that a read is. Nothing is made at its place.
+    fn add_read(&mut self, flat: &FlatProgram, tables: &Tables, elem: u32, delay: u16) -> Edge
+        requires tables { AreTables (view flat.now) tables.now }
+        requires making { IsMaking (view flat.now) self.old }
+        requires at { StandsAt (view flat.now) self.old.next (read elem delay) }
+        ensures { AddsExpr (view flat.now) self.old (read elem delay) self.new result }
+    {
+        self.next += 1;
+        Edge {
+            node: tables.elements[elem as usize],
+            delay,
+        }
+    }
+
+    /// The operand that a raw word is, whose node is made where the word is first met.
+    fn add_word(
+        &mut self,
+        alloc: Global,
+        flat: &FlatProgram,
+        tables: &Tables,
+        word: i64,
+    ) -> Result<Edge, AllocError>
+        requires tables { AreTables (view flat.now) tables.now }
+        requires making { IsMaking (view flat.now) self.old }
+        requires at { StandsAt (view flat.now) self.old.next (raw word) }
+        ensures { IfOk result (AddsExpr (view flat.now) self.old (raw word) self.new) }
+    {
+        let node = tables.places[self.next];
+        if node as usize == self.nodes.len() {
+            self.nodes.push(constant_node(alloc, word))?;
+        }
+        self.next += 1;
+        Ok(Edge { node, delay: 0 })
+    }
+
+    /// Makes the node of an operation.
+    fn add_operation(
+        &mut self,
+        alloc: Global,
+        flat: &FlatProgram,
+        tables: &Tables,
+        op: Op,
+        fmt: Format,
+        edges: Edges,
+        inits: &[(u16, i64)],
+    ) -> Result<Edge, AllocError>
+        requires tables { AreTables (view flat.now) tables.now }
+        requires making { IsMaking (view flat.now) self.old }
+        requires at { OperationAt (view flat.now) self.old.next op fmt edges inits.now }
+        ensures { IfOk result (AddsNode (view flat.now) self.old self.new) }
+    {
+        let inits = List::from_slice(alloc, inits)?;
+        self.nodes.push(Node {
+            op,
+            fmt: node_format(op, fmt),
             arg: 0,
-            edges: edges_of(alloc, operands.as_slice(), first, words, places, elements)?,
-            inits: inits_of(alloc, element, is_last)?,
-            width: node_width(*op, *fmt),
+            edges,
+            inits,
+            width: node_width(op, fmt),
             ram: 0,
-        }),
+        })?;
+        let node = tables.places[self.next];
+        self.next += 1;
+        Ok(Edge { node, delay: 0 })
     }
 }
 
-/// Whether the place at the index is of another element, or none.
-fn is_end(sites: &[Site], index: usize, elem: u32) -> bool
-    ensures { result ≡ is_end_before (option_map view_site (slice_get sites.now index)) elem }
-{
-    match sites.get(index) {
-        None => true,
-        Some(site) => site.elem != elem,
-    }
-}
-
-/// The node that is made at the place with this index.
-fn node_at(
+/// Makes the nodes of an expression, not the last ones of their element. Returns the edge to the operand that it is.
+#[cycle(nodes)]
+fn add_expr(
     alloc: Global,
     flat: &FlatProgram,
-    sites: &[Site],
-    index: usize,
-    words: &Words,
-    places: &[u32],
-    elements: &[u32],
-) -> Result<Node, AllocError>
-    requires sound { IsFlat (view flat.now) }
-    requires sites { map view_site sites.now ≡ made_by.sites (view flat.now) }
-    requires numbers { AreNumbers (made_by.sites (view flat.now)) places.now words.now }
-    requires elements { AreElementNumbers (view flat.now) elements.now }
-    requires index { index < length sites.now }
-    requires made { IsSomethingAt (view flat.now) index }
-    ensures { IfOk result (IsMadeAt (view flat.now) index) }
+    tables: &Tables,
+    making: &mut Making,
+    value: &FlatExpr,
+) -> Result<Edge, AllocError>
+    requires tables { AreTables (view flat.now) tables.now }
+    requires making { IsMaking (view flat.now) making.old }
+    requires at { StandsAt (view flat.now) making.old.next (view_expr value.now) }
+    ensures { IfOk result (AddsExpr (view flat.now) making.old (view_expr value.now) making.new) }
 {
-    let site = &sites[index];
-    let element = &flat.elems[site.elem as usize];
-    let is_last = is_end(sites, index + 1, site.elem);
-    let first = index - site.place;
-    node_of(
-        alloc, element, &site.made, is_last, first, words, places, elements,
-    )
+    match value {
+        FlatExpr::Raw(word) => making.add_word(alloc, flat, tables, *word),
+        FlatExpr::Read { elem, delay } => Ok(making.add_read(flat, tables, *elem, *delay)),
+        FlatExpr::Node { op, fmt, parts } => {
+            let edges = add_parts(alloc, flat, tables, making, parts)?;
+            making.add_operation(alloc, flat, tables, *op, *fmt, edges, &[])
+        }
+    }
 }
 
-/// The nodes that are made at all places.
+/// Makes the nodes of the parts of an operation. Returns the edges to the operands that they are.
+#[cycle(nodes)]
+fn add_parts(
+    alloc: Global,
+    flat: &FlatProgram,
+    tables: &Tables,
+    making: &mut Making,
+    parts: &[FlatExpr],
+) -> Result<Edges, AllocError>
+    requires tables { AreTables (view flat.now) tables.now }
+    requires making { IsMaking (view flat.now) making.old }
+    requires at { PartsStandAt (view flat.now) making.old.next (view_exprs parts.now) }
+    ensures { IfOk result (AddsParts (view flat.now) making.old (view_exprs parts.now) making.new) }
+{
+    let mut edges = Edges::new(alloc);
+    for part in parts {
+        edges.push(add_expr(alloc, flat, tables, making, part)?)?;
+    }
+    Ok(edges)
+}
+
+/// Makes the nodes of an element with this value.
+fn add_value(
+    alloc: Global,
+    flat: &FlatProgram,
+    tables: &Tables,
+    making: &mut Making,
+    element: &FlatElem,
+    value: &FlatExpr,
+    is_delayed: bool,
+) -> Result<(), AllocError>
+    requires sound { IsFlat (view flat.now) }
+    requires tables { AreTables (view flat.now) tables.now }
+    requires making { IsMaking (view flat.now) making.old }
+    requires body { view_body element.now.body ≡ flat_program.value (view_expr value.now) }
+    requires at { ElementAt (view flat.now) making.old.next element.now is_delayed }
+    ensures { OnOk result (Adds (view flat.now) making.old
+        (length (made_of is_delayed (width_of element.now.ty) (view_body element.now.body))) making.new) }
+{
+    if let FlatExpr::Node { op, fmt, parts } = value {
+        let edges = add_parts(alloc, flat, tables, making, parts)?;
+        making.add_operation(alloc, flat, tables, *op, *fmt, edges, element.inits.as_slice())?;
+        return Ok(());
+    }
+    let edge = add_expr(alloc, flat, tables, making, value)?;
+    if has_pass(value, is_delayed) {
+        let mut edges = Edges::new(alloc);
+        edges.push(edge)?;
+        let fmt = Format {
+            shift: 0,
+            mode: Mode::Trunc,
+            width: bits(element.ty),
+        };
+        making.add_operation(alloc, flat, tables, Op::Pass, fmt, edges, element.inits.as_slice())?;
+    }
+    Ok(())
+}
+
+/// Makes the node of an element of an input word.
+fn add_input(
+    alloc: Global,
+    flat: &FlatProgram,
+    making: &mut Making,
+    element: &FlatElem,
+    word: u8,
+    is_delayed: bool,
+) -> Result<(), AllocError>
+    requires making { IsMaking (view flat.now) making.old }
+    requires body { view_body element.now.body ≡ flat_program.word word }
+    requires at { ElementAt (view flat.now) making.old.next element.now is_delayed }
+    ensures { OnOk result (Adds (view flat.now) making.old 1 making.new) }
+{
+    let inits = List::from_slice(alloc, element.inits.as_slice())?;
+    making.nodes.push(Node {
+        op: Op::Input,
+        fmt: no_format(),
+        arg: i64::from(word),
+        edges: Edges::new(alloc),
+        inits,
+        width: bits(element.ty),
+        ram: 0,
+    })?;
+    making.next += 1;
+    Ok(())
+}
+
+/// Makes the nodes of an element.
+fn add_element(
+    alloc: Global,
+    flat: &FlatProgram,
+    tables: &Tables,
+    making: &mut Making,
+    element: &FlatElem,
+    is_delayed: bool,
+) -> Result<(), AllocError>
+    requires sound { IsFlat (view flat.now) }
+    requires tables { AreTables (view flat.now) tables.now }
+    requires making { IsMaking (view flat.now) making.old }
+    requires at { ElementAt (view flat.now) making.old.next element.now is_delayed }
+    ensures { OnOk result (Adds (view flat.now) making.old
+        (length (made_of is_delayed (width_of element.now.ty) (view_body element.now.body))) making.new) }
+{
+    match &element.body {
+        FlatBody::Word(word) => add_input(alloc, flat, making, element, *word, is_delayed),
+        FlatBody::Value(value) => {
+            add_value(alloc, flat, tables, making, element, value, is_delayed)
+        }
+    }
+}
+
+/// The nodes that are made at all places. The table says which elements are read with a delay.
 pub(crate) fn nodes_of_places(
     alloc: Global,
     flat: &FlatProgram,
-    sites: &[Site],
-    words: &Words,
-    places: &[u32],
-    elements: &[u32],
+    delayed: &[bool],
+    tables: &Tables,
 ) -> Result<List<Node>, AllocError>
     requires sound { IsFlat (view flat.now) }
-    requires sites { map view_site sites.now ≡ made_by.sites (view flat.now) }
-    requires numbers { AreNumbers (made_by.sites (view flat.now)) places.now words.now }
-    requires elements { AreElementNumbers (view flat.now) elements.now }
+    requires delayed { TellsDelayed (view flat.now) delayed.now }
+    requires tables { AreTables (view flat.now) tables.now }
     ensures { IfOk result (AreMade (view flat.now)) }
 {
-    let mut nodes = List::with_capacity(alloc, sites.len())?;
-    for index in 0..sites.len() {
-        if is_made(&sites[index].made, places[index], nodes.len()) {
-            let node = node_at(alloc, flat, sites, index, words, places, elements)?;
-            nodes.push(node)?;
-        }
+    let mut making = Making {
+        nodes: List::with_capacity(alloc, tables.places.len())?,
+        next: 0,
+    };
+    for elem in 0..flat.elems.len() {
+        add_element(
+            alloc,
+            flat,
+            tables,
+            &mut making,
+            &flat.elems[elem],
+            delayed[elem],
+        )?;
     }
-    Ok(nodes)
+    Ok(making.nodes)
 }

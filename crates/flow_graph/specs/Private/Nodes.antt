@@ -1,8 +1,9 @@
 -- The nodes that are made at the first places, in order.
 use Rattle.std.specs.Prelude.{◌≡◌, ℕ, ℤ, ◌+◌, ◌≤◌, Bool, true, false, if◌then◌else◌, List, [], ◌∷◌, ◌++◌, length, take}
 use Rattle.std.specs.Prelude.{slice_get, slice_index_or, position, Option, Some, is_none}
-use Rattle.signal_graph.specs.GraphOf.{Made, nothing, constant, Site, word_node, is_target}
+use Rattle.signal_graph.specs.GraphOf.{Made, nothing, constant, Site, sites_from, word_node, is_target}
 use Rattle.flow_graph.specs.Private.Words.{number_in}
+use Rattle.flow_graph.specs.declared.numbers.Numbered.{Numbered}
 
 abbrev pub word_position : ℤ → List Site → Option ℕ
 word_position m nodes = position (is_target (word_node m)) nodes
@@ -53,3 +54,22 @@ pub record AreNumbers (all : List Site) (numbers : List ℕ) (words : List (ℤ 
       → slice_get all i ≡ Some s
       → IsPlaceNumber (nodes_of (take i all)) s s.made (slice_index_or numbers i 0)
   pub met : (m : ℤ) → number_in words m ≡ word_position m (nodes_of all)
+
+-- a node of its own is made
+abbrev pub IsOwn : Made → Type 0
+IsOwn nothing = ⊥
+IsOwn (constant m) = ⊥
+IsOwn _ = Unit {0}
+
+-- the nodes of these places are numbered, and of words
+pub record AreNumbered (all : List Site) (n : Numbered) : Type 0 where
+  pub counted : IsCounted (nodes_of all) n.nodes.words n.nodes.count
+  pub size : length n.places ≡ length all
+  pub places : (i : ℕ) (s : Site)
+      → slice_get all i ≡ Some s
+      → IsPlaceNumber (nodes_of (take i all)) s s.made (slice_index_or n.places i 0)
+
+-- what is made at more places is numbered behind the old ones
+abbrev pub NumbersMore : (old : Numbered) → List Made → (new : Numbered) → Type 0
+NumbersMore old made new =
+    (all : List Site) (e k : ℕ) → AreNumbered all old → AreNumbered (all ++ sites_from e k made) new
