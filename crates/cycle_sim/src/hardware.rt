@@ -134,12 +134,13 @@ impl Storage {
 }
 
 /// The values that wait for their issues to end. What ends in cycle t on unit u waits in slot
-/// UNITS * (t mod MOST_LATENCY) + u.
+/// UNITS * (t mod MOST_LATENCY) + u. The slots are arrays, of which each access saves the look at a list's header: some
+/// hundred instructions a sample of a filter of 32 operations.
 #[derive(Drop)]
 pub struct InFlight {
-    pub values: List<Operand>,
+    pub values: [Operand; SLOTS],
     /// The cells that stores write.
-    pub cells: List<u32>,
+    pub cells: [u32; SLOTS],
     ghost value_slots: { length values ≡ SLOTS },
     ghost cell_slots: { length cells ≡ SLOTS },
 }
