@@ -31,6 +31,7 @@ pub mod NextCycle
 pub mod WholeCycle
 pub mod SampleSteps
 pub mod PlainFormats
+pub mod RegisterTakes
 pub mod Leading
 pub mod SampleRuns
 mod Pipelined
