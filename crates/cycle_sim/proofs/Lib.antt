@@ -33,5 +33,6 @@ pub mod SampleSteps
 pub mod PlainFormats
 pub mod RegisterTakes
 pub mod Leading
+pub mod Pairs
 pub mod SampleRuns
 mod Pipelined
