@@ -305,9 +305,10 @@ text_in plan (Some files) = content_of (files plan)
 
 -- why there is no machine is why the command ends
 pub not_ready : (stages : ℕ) (src datapath plan samples out : Name) (old new : View) (ending : PipeEnding)
+    → OnlyReads (IsAmong (plan ∷ src ∷ datapath ∷ [])) old new
     → IsUnready stages src datapath plan old new ending
     → IsUnpiped stages src datapath plan samples out old new ending
-not_ready stages src datapath plan samples out old new (Told ending) h =
+not_ready stages src datapath plan samples out old new (Told ending) reads h =
     let text = text_in plan old.files in
     ⊎_elim inl
     (λ early. inr (record {
@@ -318,4 +319,5 @@ not_ready stages src datapath plan samples out old new (Told ending) h =
           samples out old new ending.status early;
     }))
     h
-not_ready stages src datapath plan samples out old new (Refused refusal) h = h
+not_ready stages src datapath plan samples out old new (Refused refusal) reads h =
+    record { rejected = h; reads = reads }

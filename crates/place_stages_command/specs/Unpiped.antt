@@ -1,5 +1,5 @@
 -- When each error of `silc_place pipe SRC DP PLAN S SAMPLES OUT` comes.
-use Rattle.std.specs.Prelude.{◌≡◌, ◌⊎◌, ℕ, ◌<◌, ◌≤◌, List, length, slice_index_or, Some}
+use Rattle.std.specs.Prelude.{◌≡◌, ◌⊎◌, ℕ, ◌<◌, ◌≤◌, List, [], ◌∷◌, length, slice_index_or, Some}
 use Rattle.datapath.specs.Described.{IsPathOf}
 use Rattle.datapath.specs.declared.types.Datapath.{Datapath}
 use Rattle.desk_core.specs.View.{Name, Content, Files, View}
@@ -21,8 +21,9 @@ use Rattle.plan_commands.specs.Plans.{IsUnplannedBy}
 use Rattle.plan_commands.specs.Refusals.{IsRefusedBy}
 use Rattle.run_command.specs.Run.{IsRunErrorBy}
 use Rattle.sample_commands.specs.Eval.{IsSolutionRowsBy}
-use Rattle.silc_files.specs.Endings.{IsRejected}
+use Rattle.silc_files.specs.Endings.{IsAmong, IsRejected}
 use Rattle.silc_files.specs.Limits.{text_limit}
+use Rattle.silc_files.specs.Reading.{OnlyReads}
 use Rattle.stage_commands.specs.Pipe.{staged_out}
 use Rattle.statuses.specs.declared.status.Status.{Status}
 use Rattle.statuses.specs.declared.status.Status.TheVariants.{Desk}
@@ -112,10 +113,16 @@ pub record IsStoppedPipe (stages : ℕ) (src datapath plan samples out : Name) (
       IsRunErrorBy (IsPlacedOver stages text) src datapath AreFilesRefused (IsSolutionRowsBy (staged_out stages))
       samples out old new status
 
--- When each ending comes that is an error. Where PLAN is refused, all three were read through, and OUT is not made.
+-- PLAN is refused: it, SRC and DP were read through, no other file was opened, and OUT is not made.
+pub record IsRefusedPipe (stages : ℕ) (src datapath plan : Name) (old new : View) (refusal : PipeRefusal) : Type 0
+  where
+    pub rejected : IsRejected datapath text_limit (AreRefused stages src datapath plan refusal) old new
+    pub reads : OnlyReads (IsAmong (plan ∷ src ∷ datapath ∷ [])) old new
+
+-- When each ending comes that is an error.
 abbrev pub IsUnpiped : (stages : ℕ) → (src datapath plan samples out : Name) → View → View → PipeEnding → Type 0
 IsUnpiped stages src datapath plan samples out old new (Told ending) =
     ((ending.status ≡ Desk) × IsPlanUnread plan old new)
     ⊎ IsStoppedPipe stages src datapath plan samples out old new ending.status
 IsUnpiped stages src datapath plan samples out old new (Refused refusal) =
-    IsRejected datapath text_limit (AreRefused stages src datapath plan refusal) old new
+    IsRefusedPipe stages src datapath plan old new refusal

@@ -165,7 +165,7 @@ pub fn place_pipe<D: Desk>(
     ensures faults { FaultsNeverFall (D.view desk.old) (D.view desk.new) }
     ensures ok { IfOk result (λ machine. IsPlacePiped stages source.now datapath.now plan.now samples.now output.now
         machine (D.view desk.old) (D.view desk.new)) }
-    // Where PLAN is refused, OUT is not made.
+    // Where PLAN is refused, SAMPLES is not opened, and OUT is not made.
     ensures err { IfErr result (IsUnpiped stages source.now datapath.now plan.now samples.now output.now
         (D.view desk.old) (D.view desk.new)) }
     ensures only { UsesOnly (IsAmong (plan.now ∷ source.now ∷ datapath.now ∷ samples.now ∷ [])) output.now

@@ -38,7 +38,7 @@ returns-in_err-ready-clause-err g c =
     c.args.output.now (g.D.Desk.view c.args.desk.now) (g.D.Desk.view c.read_ready.new.desk))
     (not_ready c.args.stages c.args.source.now c.args.datapath.now c.args.plan.now c.args.samples.now
     c.args.output.now (g.D.Desk.view c.args.desk.now) (g.D.Desk.view c.read_ready.new.desk)
-    c.in_err-ready.field-0.0 c.in_err-ready.ensures.err)
+    c.in_err-ready.field-0.0 c.in_err-ready.ensures.reads c.in_err-ready.ensures.err)
 
 pub returns-in_err-ready-clause-only : goal.returns-in_err-ready-clause-only
 returns-in_err-ready-clause-only g c =
