@@ -50,3 +50,4 @@ pub mod Offsets
 mod Examples
 pub mod InTypes
 pub mod TypedSolutions
+pub mod NameKeys

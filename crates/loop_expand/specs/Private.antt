@@ -12,3 +12,4 @@ pub mod Known
 pub mod Expansions
 pub mod Elements
 pub mod Rows
+pub mod Keys

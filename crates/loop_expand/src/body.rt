@@ -1,10 +1,11 @@
 //! What is known of a function.
 
-ghost use Rattle.std.specs.Prelude.{◌≤◌, IsTrue};
+ghost use Rattle.std.specs.Prelude.{◌≡◌, ◌≤◌, IsTrue};
 ghost use Rattle.type_rules.specs.TypedTree.{view_func};
 ghost use Rattle.name_rules.specs.Meanings.{are_dims};
 ghost use Rattle.element_rules.specs.ElementRules.{elements_of};
 ghost use Rattle.element_rules.specs.Sizes.{AreSized};
+ghost use Rattle.loop_expand.specs.Private.Keys.{key_of};
 ghost use Rattle.loop_expand.specs.Private.Sizes.{decls_of};
 
 use crate::groups::Group;
@@ -17,7 +18,10 @@ pub(crate) struct Signal<'a> {
     pub decl: &'a Decl,
     /// The number of its first element among those of an instance.
     pub first: u32,
+    /// The number of its name.
+    pub key: u64,
     ghost sized: { IsTrue (are_dims decl.now.dims) },
+    ghost keyed: { key ≡ key_of decl.now.name },
 }
 
 /// A function that has an instance.

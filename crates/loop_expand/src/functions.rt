@@ -9,6 +9,7 @@ ghost use Rattle.loop_expand.specs.Private.Scopes.{signals_from, view_signals, v
 
 use crate::body::{Body, Signal};
 use crate::groups::groups_of;
+use crate::keys::key;
 use element_rules::Instance;
 use name_rules::element_count;
 use silage_syntax::Decl;
@@ -29,7 +30,11 @@ fn put_signals<'a>(
 {
     let mut next = first;
     for decl in decls {
-        signals.push(Signal { decl, first: next })?;
+        signals.push(Signal {
+            decl,
+            first: next,
+            key: key(&decl.name),
+        })?;
         next += element_count(&decl.dims);
     }
     Ok(next)

@@ -14,6 +14,7 @@ mod groups;
 mod initials;
 mod instances;
 mod item_facts;
+mod keys;
 mod lookups;
 mod program;
 mod scope;

@@ -1,22 +1,33 @@
 //! What names and numbers mean.
 
 ghost use Rattle.std.specs.Prelude.{◌≡◌, ◌<◌, length, option_map, option_copied};
-ghost use Rattle.std.specs.Prelude.{slice_get, slice_index_or, Some, IsSome};
+ghost use Rattle.std.specs.Prelude.{slice_get, slice_index_or, Some, IsSome, bytes_eq};
+ghost use Rattle.loop_expand.specs.Private.Keys.{key_of};
 ghost use Rattle.loop_expand.specs.Private.Scopes.{view_signal, view_signals, view_body, view_bodies};
 ghost use Rattle.loop_expand.specs.Private.Scopes.{body_of, body_at, HaveBodies};
 ghost use Rattle.loop_expand.specs.Private.Facts.{signal_named, typed_named};
 
 use crate::body::{Body, Signal};
+use crate::keys::{are_equal, key};
 use element_rules::Instance;
 use lists::Name;
 use type_rules::TypedConst;
+
+/// Whether the signal has the name with this number.
+fn is_named(signal: &Signal, key: u64, name: &Name) -> bool
+    requires { key ≡ key_of name.now }
+    ensures { result ≡ bytes_eq signal.now.decl.now.name name.now }
+{
+    signal.key == key && are_equal(&signal.decl.name, name)
+}
 
 /// The signal with the name.
 pub(crate) fn signal<'a>(signals: &[Signal<'a>], name: &Name) -> Option<Signal<'a>>
     ensures { option_map view_signal result ≡ signal_named (view_signals signals.now) name.now }
 {
+    let key = key(name);
     for signal in signals {
-        if signal.decl.name == *name {
+        if is_named(signal, key, name) {
             return Some(*signal);
         }
     }
