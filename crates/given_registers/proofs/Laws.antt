@@ -1,5 +1,6 @@
 -- What holds of registers around those that are given.
-use Rattle.std.proofs.Common.{◌≡◌, ◌∙◌, ◌⊎◌, sym, ap, subst, arith, ℕ, ◌<◌, inl, inr, ⊎_elim, List, [], length}
+use Rattle.std.proofs.Common.{◌≡◌, ◌∙◌, ◌⊎◌, refl, sym, ap, subst, arith, ℕ, ◌<◌, inl, inr, ⊎_elim, List, [], ◌∷◌}
+use Rattle.std.proofs.Common.{length}
 use Rattle.std.proofs.lemmas.Bool.{cases_order}
 use Rattle.datapath.specs.declared.types.Datapath.{Datapath}
 use Rattle.plan_core.specs.Hardware.{file_size}
@@ -152,3 +153,8 @@ pub none_given_around : (d : Datapath) (given : List GivenRegister) (arcs : List
     → AreAllottedAround d given arcs regs
 none_given_around d given arcs is none regs x =
     subst (λ (gs : List GivenRegister). AreAllottedAround d gs arcs regs) (sym none) (ordinary d arcs is regs x)
+
+-- a list of no length has none
+pub none_left : (given : List GivenRegister) → length given ≡ 0 → given ≡ []
+none_left [] none = refl
+none_left (g ∷ gs) none = absurd (omega (arith, none))

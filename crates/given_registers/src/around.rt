@@ -1,6 +1,6 @@
 //! Registers for the lifetimes of a datapath, around those that are given.
 
-ghost use Rattle.std.specs.Prelude.{◌≡◌, ◌⊎◌, ◌+◌, ◌<◌, ◌≤◌, ℕ, [], length, Ok, Err, IfOk, IfErr, OnOk, MatchOption};
+ghost use Rattle.std.specs.Prelude.{◌≡◌, ◌⊎◌, ◌+◌, ◌<◌, ◌≤◌, ℕ, [], length, Ok, Err, IfOk, IfErr, IfSome, OnOk, MatchOption};
 ghost use Rattle.datapath.specs.Allowed.{IsDatapath};
 ghost use Rattle.plan_core.specs.Arcs.{arc_of, IsUnroll};
 ghost use Rattle.plan_core.specs.declared.registers.Registers as of_registers;
@@ -19,7 +19,7 @@ use crate::given::GivenRegister;
 use datapath::Datapath;
 use lists::List;
 use plan_core::{Arc, Arcs, CopyRegisters, Registers};
-use reg_alloc::unroll;
+use reg_alloc::{allot, unroll};
 use std::alloc::Global;
 
 /// The least register below `size` in which none of these copies shares a cycle with the copy of arc k.
@@ -152,9 +152,30 @@ fn registers_of(
     Ok(regs)
 }
 
+/// Where no register is given, the registers by first fit, if there are some. `allot` keeps two numbers a register, where
+/// `registers_of` compares each copy with all before it.
+fn first_fit(
+    alloc: Global,
+    arcs: &Arcs,
+    given: &[GivenRegister],
+    datapath: &Datapath,
+) -> Option<List<CopyRegisters>>
+    requires datapath { IsDatapath datapath.now }
+    requires allottable { AreAllottable datapath.now arcs.now }
+    ensures { IfSome result (AreAllottedAround datapath.now given.now arcs.now) }
+{
+    if !given.is_empty() {
+        return None;
+    }
+    match allot(alloc, arcs, datapath) {
+        Ok(registers) => Some(registers.regs),
+        Err(_) => None,
+    }
+}
+
 /// Gives each copy of each lifetime the register that is given for it, or else by first fit the least in which no copy
-/// shares a cycle with it, neither one for which it is given nor one before. Takes time in proportion to the registers of
-/// a file and the square of the copies. Page `docs/PLANNING.md`, "Plans from elsewhere".
+/// shares a cycle with it, neither one for which it is given nor one before. Where registers are given, it takes time in
+/// proportion to the registers of a file and the square of the copies, and else what `allot` takes. Page `docs/PLANNING.md`, "Plans from elsewhere".
 ///
 /// # Errors
 ///
@@ -181,6 +202,9 @@ pub fn allot_around(
     ensures ordinary { given.now ≡ [] → (rs : of_registers.Registers) → AreAllotted datapath.now arcs.now rs.regs
         → (result ≡ Ok rs) ⊎ (result ≡ Err Memory) }
 {
+    if let Some(regs) = first_fit(alloc, arcs, given, datapath) {
+        return Ok(Registers { regs });
+    }
     let arcs = arcs.as_slice();
     let circle = Circle {
         period: datapath.period,

@@ -7,6 +7,24 @@ use Rattle.given_registers.proofs.Laws.{none_given_around}
 use Rattle.given_registers.proofs.OneAnswer.{ok_found, ok_refused, err_found, err_refused}
 use Rattle.given_registers.proofs.around.allot_around.Goals as goal
 
+pub returns-in-Some-clause-found : goal.returns-in-Some-clause-found
+returns-in-Some-clause-found c =
+    ok_found c.args.datapath.now c.args.given.now c.args.arcs.now c.requires.allottable
+    (Ok (record { regs = c.in-Some.regs })) (record { regs = c.in-Some.regs }) refl c.in-Some.ensures
+
+pub returns-in-Some-clause-refused : goal.returns-in-Some-clause-refused
+returns-in-Some-clause-refused c =
+    ok_refused c.args.datapath.now c.args.given.now c.args.arcs.now c.requires.allottable
+    (Ok (record { regs = c.in-Some.regs })) (record { regs = c.in-Some.regs }) c.in-Some.ensures
+
+pub returns-in-Some-clause-ordinary : goal.returns-in-Some-clause-ordinary
+returns-in-Some-clause-ordinary c =
+    let given = c.args.given.now in
+    λ none rs x.
+    ok_found c.args.datapath.now given c.args.arcs.now c.requires.allottable (Ok (record { regs = c.in-Some.regs }))
+    (record { regs = c.in-Some.regs }) refl c.in-Some.ensures rs
+    (none_given_around c.args.datapath.now given c.args.arcs.now c.requires.allottable none rs.regs x)
+
 pub returns-in_err-allotted-clause-found : goal.returns-in_err-allotted-clause-found
 returns-in_err-allotted-clause-found c =
     let d = c.args.datapath.now in
